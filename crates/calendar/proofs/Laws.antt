@@ -1,0 +1,131 @@
+-- The laws of the calendar's definitions. Assumes nothing.
+use Prim.Native.Nat.{ℕ, _+_, _-_, _*_, _/_, _%_, _<_, _≤_, suc}
+use mathlib.Core.Path.{_≡_, refl, ap, _∙_, sym, subst}
+use mathlib.Core.Bool.{Bool, true, false, cond, _&&_}
+use mathlib.Core.List.{List, [], _∷_}
+use native.Mathlib.Nat.{div-div-eq-div-mul, div-add-mod'}
+use native.Mathlib.Omega.{arith}
+use borrow.Author.Tests.{le-leb, lt-leb, leb-true, leb-false, eqb-true}
+use lib.Dec.{T, leb, leb→le, eqb}
+use lib.ListN.{length, getD, drop}
+use Rattle.lists.proofs.Tests.{cond-case}
+use Rattle.calendar.specs.declared.Era.{Era}
+use Rattle.calendar.specs.declared.Day.{Day}
+use Rattle.calendar.specs.declared.Number.{Number}
+use Rattle.calendar.specs.declared.Number.the-variants.{Is, NoNumber}
+use Rattle.calendar.specs.declared.DateRead.{DateRead}
+use Rattle.calendar.specs.declared.DateRead.the-variants.{Date, NotADate}
+use Rattle.calendar.specs.Digits.{numberFrom, sixDigits}
+use Rattle.calendar.specs.Day.{firstDay, lastDay, isDay, gregorian}
+use Rattle.calendar.specs.Era.{eraOf, eraOn, inEra, fromEra, readDay, writeDay, gregorianNumber, eraNumber}
+use Rattle.calendar.proofs.Eras.{Good, good-day, before-le, Named, day-named, and-l, and-r}
+
+digit-step : (n x : ℕ) (s : List ℕ) → numberFrom n ((x % 10 + 48) ∷ s) ≡ numberFrom (n * 10 + x % 10) s
+unfolding numberFrom
+digit-step n x s =
+    let e : x % 10 + 48 - 48 ≡ x % 10 = omega arith in
+    rw (le-leb 48 (x % 10 + 48) (omega arith), le-leb (x % 10 + 48) 57 (omega arith), e)
+
+number-end : (n : ℕ) → numberFrom n [] ≡ Is n
+unfolding numberFrom
+number-end n = refl
+
+next-digit : (k p : ℕ) → k / (p * 10) * 10 + k / p % 10 ≡ k / p
+next-digit k p = rw (← (div-div-eq-div-mul k p 10)) (div-add-mod' (k / p) 10)
+
+-- six digits are read to the number that they are the digits of
+six-read : (k : ℕ) → k ≤ 999999 → numberFrom 0 (sixDigits k) ≡ Is k
+six-read k h =
+    let e : 0 * 10 + k / 100000 % 10 ≡ k / 100000 = omega arith in
+    simp (digit-step, e, next-digit k 10000, next-digit k 1000, next-digit k 100, next-digit k 10, div-add-mod' k 10, number-end)
+
+-- what holds where a number is a day
+pub record InRange (n : ℕ) : Type 0 where
+  pub low : firstDay ≤ n
+  pub high : n ≤ lastDay
+
+pub in-range : (n : ℕ) → isDay n ≡ true → InRange n
+unfolding isDay
+in-range n d =
+    let t : T (isDay n) = subst T (sym d) tt in
+    let r : T (leb firstDay n && leb n lastDay) = and-l (leb firstDay n && leb n lastDay) _ t in
+    record { low = leb→le _ _ (and-l (leb firstDay n) _ r); high = leb→le _ _ (and-r (leb firstDay n) _ r) }
+
+-- reading what was written gives the day back
+pub read-write : (n : ℕ) → isDay n ≡ true → readDay (writeDay n) ≡ Date (record { ymd = n })
+unfolding readDay writeDay fromEra inEra gregorian
+read-write n d =
+    let r = in-range n d in
+    let e = eraOn n in
+    let g = good-day n in
+    let w = day-named n (r .low) (r .high) in
+    let k : n - e .before ≤ 999999 = omega arith in
+    let s : e .before + (n - e .before) ≡ n = omega (arith, before-le n) in
+    simp (six-read _ k, le-leb _ _ k, w .letter, s, le-leb _ _ (w .low), le-leb _ _ (w .high), d)
+
+date-injective : (m n : ℕ) → Date (record { ymd = m }) ≡ Date (record { ymd = n }) → m ≡ n
+date-injective m n e = let d : _≡_ {A = Day} (record { ymd = m }) (record { ymd = n }) = cc in ap (λ (x : Day). x .ymd) d
+
+-- writing tells days apart
+pub write-injective : (m n : ℕ) → isDay m ≡ true → isDay n ≡ true → writeDay m ≡ writeDay n → m ≡ n
+write-injective m n p q e = date-injective m n (sym (read-write m p) ∙ ap readDay e ∙ read-write n q)
+
+-- what is read from s: a day, and from no fewer than seven bytes
+abbrev Found : List ℕ → DateRead → Type 0
+Found s (Date d) = (isDay (d .ymd) ≡ true) × (7 ≤ length s)
+Found s NotADate = Unit {0}
+
+gregorian-found : (s : List ℕ) (n : ℕ) → 7 ≤ length s → Found s (gregorian n)
+unfolding gregorian
+gregorian-found s n h = cond-case (Found s) (isDay n) (Date (record { ymd = n })) NotADate (λ d. (d, h)) (λ _. tt)
+
+in-era-found : (s : List ℕ) (e : Era) (n : ℕ) → 7 ≤ length s → Found s (inEra e n)
+unfolding inEra
+in-era-found s e n h = cond-case (Found s) (leb (e .first) n && leb n (e .last)) (gregorian n) NotADate (λ _. gregorian-found s n h) (λ _. tt)
+
+era-found : (s : List ℕ) (c k : ℕ) → 7 ≤ length s → Found s (fromEra c k)
+unfolding fromEra
+era-found s c k h = cond-case (Found s) (leb k 999999) _ NotADate (λ _. in-era-found s _ _ h) (λ _. tt)
+
+gregorian-number-found : (s : List ℕ) (x : Number) → 7 ≤ length s → Found s (gregorianNumber x)
+gregorian-number-found s (Is n) h = gregorian-found s n h
+gregorian-number-found s NoNumber h = tt
+
+era-number-found : (s : List ℕ) (c : ℕ) (x : Number) → 7 ≤ length s → Found s (eraNumber c x)
+era-number-found s c (Is n) h = era-found s c n h
+era-number-found s c NoNumber h = tt
+
+found : (s : List ℕ) → Found s (readDay s)
+unfolding readDay
+found s =
+    cond-case (Found s) (eqb (length s) 8) _ _
+    (λ h. gregorian-number-found s (numberFrom 0 s) (omega (arith, eqb-true (length s) 8 h)))
+    (λ _. cond-case (Found s) (eqb (length s) 7) _ NotADate (λ h. era-number-found s (getD s 0 0) (numberFrom 0 (drop 1 s)) (omega (arith, eqb-true (length s) 7 h))) (λ _. tt))
+
+-- what is read is a day
+pub read-is-day : (s : List ℕ) (n : ℕ) → readDay s ≡ Date (record { ymd = n }) → isDay n ≡ true
+read-is-day s n e = (subst (Found s) e (found s)) .0
+
+-- two spellings are read to one day exactly if what is written for them is one
+pub one-spelling : (s t : List ℕ) (m n : ℕ) → readDay s ≡ Date (record { ymd = m }) → readDay t ≡ Date (record { ymd = n }) → (m ≡ n → writeDay m ≡ writeDay n) × (writeDay m ≡ writeDay n → m ≡ n)
+one-spelling s t m n p q = (ap writeDay, write-injective m n (read-is-day s m p) (read-is-day t n q))
+
+pub write-length : (n : ℕ) → length (writeDay n) ≡ 7
+unfolding writeDay
+write-length n = refl
+
+-- what is written is no longer than any spelling of the day
+pub write-shortest : (s : List ℕ) (n : ℕ) → readDay s ≡ Date (record { ymd = n }) → length (writeDay n) ≤ length s
+write-shortest s n e = rw write-length ((subst (Found s) e (found s)) .1)
+
+-- bytes that are digits or capitals, so that none separates items or lines or is a space
+abbrev pub Plain : List ℕ → Type 0
+Plain [] = Unit {0}
+Plain (b ∷ s) = (48 ≤ b) × (b ≤ 90) × Plain s
+
+pub write-plain : (n : ℕ) → isDay n ≡ true → Plain (writeDay n)
+unfolding writeDay
+write-plain n d =
+    let r = in-range n d in
+    let w = day-named n (r .low) (r .high) in
+    (omega arith, omega arith, omega arith)

@@ -1,0 +1,224 @@
+-- Rows are the file, a whole line is the first row, and what is no whole line is a row that is no line. Assumes nothing.
+use Prim.Native.Nat.{ℕ, zero, suc, _+_, _-_, _≤_, _<_}
+use native.Mathlib.Nat.{add-sub-cancel-left}
+use mathlib.Core.Path.{_≡_, refl, sym, ap, ap₂, _∙_, subst}
+use mathlib.Core.Bool.{Bool, true, false, cond, not, _&&_, _||_, false≢true, true≢false}
+use mathlib.Core.Logic.{_⊎_}
+use mathlib.Core.List.{List, [], _∷_, _++_, append-assoc, nil≢cons, head-eq-of-cons-eq, tail-eq-of-cons-eq}
+use native.Mathlib.Omega.{arith}
+use borrow.Author.Tests.{eq-eqb, ne-eqb, eqb-true}
+use mir.Val.{Fits}
+use mir.Syntax.{w64}
+use lib.Dec.{leb, eqb}
+use lib.ListN.{length, take, drop, getD, length-drop, length-append}
+use lib.Seq.{drop-drop, getD-drop, getD-append-seam, getD-append-add}
+use Rattle.lists.specs.Lists.{all, same, part, upTo}
+use Rattle.lists.proofs.Tests.{both, neither, same-refl, same-true}
+use Rattle.lists.proofs.Cuts.{drop-step, drop-end, two-on, last-on, take-upTo, upTo-le, upTo-split}
+use Rattle.characters.specs.declared.Scan.{Scan}
+use Rattle.characters.specs.declared.Line.{Line}
+use Rattle.characters.specs.declared.Line.the-variants.{Whole, Mark, End, Broken}
+use Rattle.characters.specs.Text.{allChars, isStop, clean, text, ScanOf}
+use Rattle.characters.specs.Rows.{consRow, rows, flat, lineEnd, isLine, endMark, WholeLine, BrokenRow, LineMeans, LineOf}
+
+-- ---- rows are the file
+
+cons-flat : (a : ℕ) (rs : List (List ℕ)) → flat (consRow a rs) ≡ a ∷ flat rs
+cons-flat a [] = refl
+cons-flat a (r ∷ rs) = refl
+
+pub flat-rows : (s : List ℕ) → flat (rows s) ≡ s
+flat-rows [] = refl
+flat-rows (a ∷ s) = go (eqb a 0x0a) (flat-rows s)
+  where
+    go : (b : Bool) → flat (rows s) ≡ s → flat (cond b ((a ∷ []) ∷ rows s) (consRow a (rows s))) ≡ a ∷ s
+    go true i = ap (λ (t : List ℕ). a ∷ t) i
+    go false i = cons-flat a (rows s) ∙ ap (λ (t : List ℕ). a ∷ t) i
+
+-- no row is empty, and bytes have a row
+pub record First (l : List ℕ) : Type 0 where
+  pub byte : ℕ
+  pub more : List ℕ
+  pub others : List (List ℕ)
+  pub cut : rows l ≡ (byte ∷ more) ∷ others
+
+pub first-row : (a : ℕ) (s : List ℕ) → First (a ∷ s)
+first-row a s = go (eqb a 0x0a) refl (rows s) refl
+  where
+    go : (b : Bool) → eqb a 0x0a ≡ b → (rs : List (List ℕ)) → rows s ≡ rs → First (a ∷ s)
+    go true p rs q = record { byte = a; more = []; others = rows s; cut = rw p }
+    go false p [] q = record { byte = a; more = []; others = []; cut = rw (p, q) }
+    go false p (r ∷ rs) q = record { byte = a; more = r; others = rs; cut = rw (p, q) }
+
+-- a row that is 1Ah alone is the last
+mark-alone : (l : List ℕ) (rs : List (List ℕ)) → rows l ≡ endMark ∷ rs → l ≡ endMark
+mark-alone [] rs e = absurd (nil≢cons e)
+mark-alone (a ∷ []) rs e = sym (flat-rows (a ∷ [])) ∙ go (eqb a 0x0a) e
+  where
+    go : (b : Bool) → cond b ((a ∷ []) ∷ []) ((a ∷ []) ∷ []) ≡ endMark ∷ rs → flat (cond b ((a ∷ []) ∷ []) ((a ∷ []) ∷ [])) ≡ endMark
+    go true e = head-eq-of-cons-eq e
+    go false e = head-eq-of-cons-eq e
+mark-alone (a ∷ b ∷ s) rs e = go (eqb a 0x0a) refl (first-row b s) e
+  where
+    go : (x : Bool) → eqb a 0x0a ≡ x → First (b ∷ s) → rows (a ∷ b ∷ s) ≡ endMark ∷ rs → a ∷ b ∷ s ≡ endMark
+    go true p f e =
+        let h : a ∷ [] ≡ endMark = head-eq-of-cons-eq (rw p at e) in
+        let z : a ≡ 0x1a = head-eq-of-cons-eq h in
+        absurd (omega (arith, eqb-true a 0x0a p))
+    go false p f e =
+        let d : (a ∷ f .byte ∷ f .more) ∷ f .others ≡ endMark ∷ rs = sym (rw p (ap (consRow a) (f .cut))) ∙ e in
+        absurd (nil≢cons (sym (tail-eq-of-cons-eq (head-eq-of-cons-eq d))))
+
+-- ---- texts
+
+-- a text is clean
+pub text-clean : (l : List ℕ) → clean (text l) ≡ true
+text-clean [] = refl
+text-clean (a ∷ l) = go (isStop a) refl (text-clean l)
+  where
+    go : (b : Bool) → isStop a ≡ b → clean (text l) ≡ true → clean (cond b [] (a ∷ text l)) ≡ true
+    go true e i = refl
+    go false e i = rw e i
+
+-- a clean list before a 0Dh is the text
+pub text-of : (t u : List ℕ) → clean t ≡ true → text (t ++ 0x0d ∷ u) ≡ t
+text-of [] u e = refl
+text-of (a ∷ t) u e = go (isStop a) refl (text-of t u) e
+  where
+    go : (b : Bool) → isStop a ≡ b → (clean t ≡ true → text (t ++ 0x0d ∷ u) ≡ t) → (not b && clean t) ≡ true → text (a ∷ (t ++ 0x0d ∷ u)) ≡ a ∷ t
+    go true p i e = absurd (false≢true e)
+    go false p i e = rw p (ap (λ (x : List ℕ). a ∷ x) (i e))
+
+-- ---- a whole line is the first row, and is a line
+
+rows-line : (t r : List ℕ) → clean t ≡ true → rows (t ++ 0x0d ∷ 0x0a ∷ r) ≡ (t ++ lineEnd) ∷ rows r
+rows-line [] r e = refl
+rows-line (a ∷ t) r e = go (isStop a) refl (rows-line t r) e
+  where
+    go : (b : Bool) → isStop a ≡ b → (clean t ≡ true → rows (t ++ 0x0d ∷ 0x0a ∷ r) ≡ (t ++ lineEnd) ∷ rows r)
+        → (not b && clean t) ≡ true → rows (a ∷ (t ++ 0x0d ∷ 0x0a ∷ r)) ≡ (a ∷ (t ++ lineEnd)) ∷ rows r
+    go true p i e = absurd (false≢true e)
+    go false p i e =
+        let n : eqb a 0x0a ≡ false = neither (eqb a 0x0d) (eqb a 0x0a) (neither (eqb a 0x0d || eqb a 0x0a) (eqb a 0x1a) p .0) .1 in
+        rw (n, i e)
+
+-- what is known of a clean text with its line end
+pub line-is : (t : List ℕ) → clean t ≡ true → isLine (t ++ lineEnd) ≡ true
+unfolding isLine
+line-is t e = ap (λ (x : List ℕ). same (t ++ lineEnd) (x ++ lineEnd)) (text-of t (0x0a ∷ []) e) ∙ same-refl (t ++ lineEnd)
+
+pub line-text : (t : List ℕ) → clean t ≡ true → text (t ++ lineEnd) ≡ t
+line-text t e = text-of t (0x0a ∷ []) e
+
+pub line-no-mark : (t : List ℕ) → same (t ++ lineEnd) endMark ≡ false
+line-no-mark [] = refl
+line-no-mark (a ∷ []) = go (eqb a 0x1a)
+  where
+    go : (b : Bool) → (b && false) ≡ false
+    go true = refl
+    go false = refl
+line-no-mark (a ∷ b ∷ t) = go (eqb a 0x1a)
+  where
+    go : (b : Bool) → (b && false) ≡ false
+    go true = refl
+    go false = refl
+
+-- the first row is a line exactly where 0Dh 0Ah follow the text
+line-first : (l r : List ℕ) (rs : List (List ℕ)) → rows l ≡ r ∷ rs → isLine r ≡ true
+    → (length (text l) + 2 ≤ length l) × (getD l (length (text l)) 0 ≡ 0x0d) × (getD l (length (text l) + 1) 0 ≡ 0x0a)
+unfolding isLine
+line-first l r rs e h =
+    let t : List ℕ = text r in
+    let u : List ℕ = 0x0d ∷ 0x0a ∷ flat rs in
+    let d : l ≡ t ++ u = sym (flat-rows l) ∙ ap flat e ∙ ap (λ (x : List ℕ). x ++ flat rs) (same-true r (t ++ lineEnd) h) ∙ append-assoc t lineEnd (flat rs) in
+    let x : text l ≡ t = ap text d ∙ text-of t (0x0a ∷ flat rs) (text-clean r) in
+    let n : length (text l) ≡ length t = ap length x in (
+      omega (arith, n, ap length d, length-append t u),
+      ap₂ (λ (s : List ℕ) (k : ℕ). getD s k 0) d n ∙ getD-append-seam t 0x0d (0x0a ∷ flat rs) 0,
+      ap₂ (λ (s : List ℕ) (k : ℕ). getD s k 0) d (ap (λ (k : ℕ). k + 1) n) ∙ getD-append-add t u 1 0,
+    )
+
+-- ---- a row at a position, and the ways through line_at: e is where the text ends
+
+broken : (l : List ℕ) → 1 ≤ length l
+    → (length (text l) + 2 ≤ length l → getD l (length (text l)) 0 ≡ 0x0d → getD l (length (text l) + 1) 0 ≡ 0x0a → ⊥)
+    → (l ≡ endMark → ⊥) → BrokenRow (rows l)
+broken [] h f g = absurd (omega arith)
+broken (a ∷ s) h f g =
+    let r : First (a ∷ s) = first-row a s in
+    rw (r .cut) (go (isLine (r .byte ∷ r .more)) refl (same (r .byte ∷ r .more) endMark) refl (r .cut))
+  where
+    go : {x : List ℕ} {rs : List (List ℕ)} (b : Bool) → isLine x ≡ b → (c : Bool) → same x endMark ≡ c → rows (a ∷ s) ≡ x ∷ rs → (isLine x ≡ false) × (same x endMark ≡ false)
+    go {x} {rs} true p c q e = let w = line-first (a ∷ s) x rs e p in absurd (f (w .0) (w .1) (w .2))
+    go {x} {rs} false p true q e = absurd (g (mark-alone (a ∷ s) rs (e ∙ ap (λ (y : List ℕ). y ∷ rs) (same-true x endMark q))))
+    go false p false q e = (p, q)
+
+module _ (s : List ℕ) (at : ℕ) where
+  pub line-over : length s ≤ at → LineOf s at End
+  line-over h = record { means = rw (drop-end s at h) }
+
+  module _ {r : Scan} (k : at < length s) (v : ScanOf s at r) where
+    text-length : length (text (drop at s)) ≡ (r .end) - at
+    text-length = omega (arith, v .ends)
+
+    e-low : at ≤ (r .end)
+    e-low = omega (arith, v .ends)
+
+    byte-at : (n : ℕ) → getD (drop at s) (length (text (drop at s)) + n) 0 ≡ getD s ((r .end) + n) 0
+    byte-at n =
+        let m : at + (length (text (drop at s)) + n) ≡ (r .end) + n = omega (arith, v .ends) in
+        getD-drop at s (length (text (drop at s)) + n) 0 ∙ ap (λ (j : ℕ). getD s j 0) m
+
+    byte-0 : getD (drop at s) (length (text (drop at s))) 0 ≡ getD s (r .end) 0
+    byte-0 =
+        let m : at + length (text (drop at s)) ≡ (r .end) = omega (arith, v .ends) in
+        getD-drop at s (length (text (drop at s))) 0 ∙ ap (λ (j : ℕ). getD s j 0) m
+
+    broken-at : ((r .end) + 1 < length s → getD s (r .end) 0 ≡ 0x0d → getD s ((r .end) + 1) 0 ≡ 0x0a → ⊥) → (length s ≡ at + 1 → (r .end) ≡ at → getD s (r .end) 0 ≡ 0x1a → ⊥) → LineOf s at Broken
+    broken-at f g = record {
+      means = broken (drop at s) (omega (arith, length-drop at s))
+          (λ n a b. f (omega (arith, v .ends, length-drop at s)) (sym byte-0 ∙ a) (sym (byte-at 1) ∙ b))
+          (λ m. let x : (r .end) ≡ at = omega (arith, v .ends, ap (λ (l : List ℕ). length (text l)) m) in
+          g (omega (arith, length-drop at s, ap length m)) x (sym byte-0 ∙ ap (λ (l : List ℕ). getD l (length (text l)) 0) m));
+    }
+
+    pub line-cut-short : length s ≤ (r .end) → LineOf s at Broken
+    line-cut-short h = broken-at (λ a _ _. absurd (omega arith)) (λ a b _. absurd (omega arith))
+
+    pub line-one-left : length s ≤ (r .end) + 1 → at < (r .end) → LineOf s at Broken
+    line-one-left h l = broken-at (λ a _ _. absurd (omega arith)) (λ a b _. absurd (omega arith))
+
+    pub line-mark : length s ≤ (r .end) + 1 → (r .end) < length s → (r .end) ≤ at → getD s (r .end) 0 ≡ 0x1a → LineOf s at Mark
+    line-mark h l m b =
+        let x : (r .end) ≡ at = omega (arith, e-low) in
+        record { means = ap rows (last-on s at 0 k (omega arith) ∙ ap (λ (j : ℕ). getD s j 0 ∷ []) (sym x) ∙ ap (λ (j : ℕ). j ∷ []) b) }
+
+    pub line-no-mark-byte : length s ≤ (r .end) + 1 → (r .end) ≤ at → (getD s (r .end) 0 ≡ 0x1a → ⊥) → LineOf s at Broken
+    line-no-mark-byte h m b = broken-at (λ a _ _. absurd (omega arith)) (λ _ _ c. b c)
+
+    module _ (n : (r .end) + 1 < length s) where
+      pub line-no-return : (getD s (r .end) 0 ≡ 0x0d → ⊥) → LineOf s at Broken
+      line-no-return f = broken-at (λ _ a _. f a) (λ a b _. absurd (omega arith))
+
+      pub line-no-feed : (getD s ((r .end) + 1) 0 ≡ 0x0a → ⊥) → LineOf s at Broken
+      line-no-feed f = broken-at (λ _ _ b. f b) (λ a b _. absurd (omega arith))
+
+      pub line-whole : getD s (r .end) 0 ≡ 0x0d → getD s ((r .end) + 1) 0 ≡ 0x0a → LineOf s at (Whole (r .end) (r .good))
+      line-whole a b =
+          let t : text (drop at s) ≡ part s at (r .end) = sym (take-upTo isStop (drop at s)) ∙ ap (λ (j : ℕ). take j (drop at s)) text-length in
+          let m : at + length (text (drop at s)) ≡ (r .end) = omega (arith, v .ends) in
+          let f : drop (length (text (drop at s))) (drop at s) ≡ 0x0d ∷ 0x0a ∷ drop ((r .end) + 2) s =
+          drop-drop (length (text (drop at s))) at s ∙ ap (λ (j : ℕ). drop j s) m ∙ two-on s (r .end) 0 n ∙ ap₂ (λ (x y : ℕ). x ∷ y ∷ drop ((r .end) + 2) s) a b in
+          let w : drop at s ≡ part s at (r .end) ++ 0x0d ∷ 0x0a ∷ drop ((r .end) + 2) s = sym (upTo-split isStop (drop at s)) ∙ ap₂ _++_ t f in
+          let c : clean (part s at (r .end)) ≡ true = ap clean (sym t) ∙ text-clean (drop at s) in
+          record {
+            means = record {
+              low = e-low;
+              high = omega arith;
+              cut = ap rows w ∙ rows-line (part s at (r .end)) (drop ((r .end) + 2) s) c;
+              clear = c;
+              chars = v .chars ∙ ap allChars t;
+            };
+          }
+
+pub ruleset line-laws = (line-over, line-cut-short, line-one-left, line-mark, line-no-mark-byte, line-no-return, line-no-feed, line-whole)

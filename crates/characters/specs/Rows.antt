@@ -1,0 +1,62 @@
+-- A file cut into rows behind each 0Ah, and the rows that are lines. Document 01, "Lines and characters"; refusal 2; 15-106 3.2.1, 3.2.4.
+-- Every list of bytes is the bytes of its rows; a row that breaks the rule of line ends is a row that is no line.
+use Prim.Native.Nat.{ℕ, _+_, _≤_}
+use mathlib.Core.Path.{_≡_}
+use mathlib.Core.Bool.{Bool, true, false, cond}
+use mathlib.Core.List.{List, [], _∷_, _++_}
+use lib.Dec.{eqb}
+use lib.ListN.{length, drop}
+use Rattle.lists.specs.Lists.{same, part}
+use Rattle.characters.specs.Text.{allChars, clean, text}
+use Rattle.characters.specs.declared.Line.{Line}
+use Rattle.characters.specs.declared.Line.the-variants.{Whole, Mark, End, Broken}
+
+-- a byte more at the front of the first row
+abbrev pub consRow : ℕ → List (List ℕ) → List (List ℕ)
+consRow a [] = (a ∷ []) ∷ []
+consRow a (r ∷ rs) = (a ∷ r) ∷ rs
+
+-- cut behind each 0Ah; the last row may lack it
+abbrev pub rows : List ℕ → List (List ℕ)
+rows [] = []
+rows (a ∷ s) = cond (eqb a 0x0a) ((a ∷ []) ∷ rows s) (consRow a (rows s))
+
+-- the bytes of rows
+abbrev pub flat : List (List ℕ) → List ℕ
+flat [] = []
+flat (r ∷ rs) = r ++ flat rs
+
+abbrev pub lineEnd : List ℕ
+lineEnd = 0x0d ∷ 0x0a ∷ []
+
+-- "lines ended by 0Dh 0Ah": a text without 0Dh, 0Ah and 1Ah, and the line end
+unfoldable pub isLine : List ℕ → Bool
+isLine r = same r (text r ++ lineEnd)
+
+-- "then optionally one 1Ah as the very last byte": without 0Ah it is the last row
+abbrev pub endMark : List ℕ
+endMark = 0x1a ∷ []
+
+-- ---- what stands where a row begins, as the code answers it
+
+-- a line from at to e, and the rows behind its end
+pub record WholeLine (s : List ℕ) (at e : ℕ) (good : Bool) : Type 0 where
+  pub low : at ≤ e
+  pub high : e + 2 ≤ length s
+  pub cut : rows (drop at s) ≡ (part s at e ++ lineEnd) ∷ rows (drop (e + 2) s)
+  pub clear : clean (part s at e) ≡ true
+  pub chars : good ≡ allChars (part s at e)
+
+-- the first row is no line, and no 1Ah at the end
+abbrev pub BrokenRow : List (List ℕ) → Type 0
+BrokenRow [] = ⊥
+BrokenRow (r ∷ rs) = (isLine r ≡ false) × (same r endMark ≡ false)
+
+abbrev pub LineMeans : List ℕ → ℕ → Line → Type 0
+LineMeans s at (Whole e good) = WholeLine s at e good
+LineMeans s at Mark = rows (drop at s) ≡ endMark ∷ []
+LineMeans s at End = rows (drop at s) ≡ []
+LineMeans s at Broken = BrokenRow (rows (drop at s))
+
+pub record LineOf (s : List ℕ) (at : ℕ) (r : Line) : Type 0 where
+  pub means : LineMeans s at r

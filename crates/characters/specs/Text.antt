@@ -1,0 +1,45 @@
+-- Characters of a list of bytes, and the text up to a line's end. Document 01, "Lines and characters"; refusals 2 and 4; 15-106 3.2.4.
+use Prim.Native.Nat.{ℕ, _+_}
+use mathlib.Core.Path.{_≡_}
+use mathlib.Core.Bool.{Bool, true, false, cond, not, _&&_, _||_}
+use mathlib.Core.List.{List, [], _∷_}
+use lib.Dec.{eqb}
+use lib.ListN.{length, drop}
+use Rattle.lists.specs.Lists.{all, upTo}
+use Rattle.characters.specs.Cells.{isOne, isPair}
+use Rattle.characters.specs.declared.Char.{Char}
+use Rattle.characters.specs.declared.Char.the-variants.{One, Two, Bad}
+use Rattle.characters.specs.declared.Scan.{Scan}
+
+-- the character that a list begins with
+abbrev pub charOf : List ℕ → Char
+charOf [] = Bad
+charOf (a ∷ []) = cond (isOne a) One Bad
+charOf (a ∷ b ∷ r) = cond (isOne a) One (cond (isPair a b) Two Bad)
+
+-- the character at a position
+unfoldable pub charAt : List ℕ → ℕ → Char
+charAt s i = charOf (drop i s)
+
+-- the list is characters and nothing else; refusal 4 where a line is not
+abbrev pub allChars : List ℕ → Bool
+allChars [] = true
+allChars (a ∷ []) = isOne a
+allChars (a ∷ b ∷ r) = cond (isOne a) (allChars (b ∷ r)) (isPair a b && allChars r)
+
+-- 0Dh, 0Ah and 1Ah, which "stand nowhere else"
+abbrev pub isStop : ℕ → Bool
+isStop a = eqb a 0x0d || eqb a 0x0a || eqb a 0x1a
+
+-- none of them
+abbrev pub clean : List ℕ → Bool
+clean s = all (λ b. not (isStop b)) s
+
+-- the bytes before the first of them
+abbrev pub text : List ℕ → List ℕ
+text l = upTo isStop l
+
+-- what a scan from a position finds: where the text ends, and whether it is characters
+pub record ScanOf (s : List ℕ) (at : ℕ) (r : Scan) : Type 0 where
+  pub ends : r .end ≡ at + length (text (drop at s))
+  pub chars : r .good ≡ allChars (text (drop at s))

@@ -1,0 +1,124 @@
+-- Numbers are read as they were spelled, and no spelling is shorter: one computed test over the numbers below 1,000. Assumes nothing.
+use Prim.Native.Nat.{ℕ, zero, suc, _+_, _*_, _-_, _≤_, _<_}
+use mathlib.Core.Path.{_≡_, refl, sym, ap, _∙_}
+use mathlib.Core.Bool.{Bool, true, false, cond, _&&_, false≢true}
+use mathlib.Core.Option.{Option, none, some}
+use mathlib.Core.List.{List, [], _∷_}
+use native.Mathlib.Omega.{arith}
+use borrow.Author.Tests.{leb-true, leb-false, le-leb, lt-leb, eqb-true, eqb-false}
+use lib.Dec.{leb, eqb}
+use lib.ListN.{length}
+use Rattle.lists.specs.Lists.{within, all}
+use Rattle.lists.proofs.Tests.{both, cond-case}
+use Rattle.digits.specs.Digits.{isDigit, value, number, spell, digitCount}
+
+-- the test holds of every number below n
+unfoldable pub below : (ℕ → Bool) → ℕ → Bool
+below p zero = true
+below p (suc n) = p n && below p n
+
+pub below-at : (p : ℕ → Bool) (n : ℕ) → below p n ≡ true → (m : ℕ) → m < n → p m ≡ true
+unfolding below
+below-at p zero e m h = absurd (omega arith)
+below-at p (suc n) e m h =
+    let q : (p n ≡ true) × (below p n ≡ true) = both (p n) (below p n) e in
+    go q (below-at p n (q .1)) (eqb m n) refl
+  where
+    go : (p n ≡ true) × (below p n ≡ true) → ((m : ℕ) → m < n → p m ≡ true) → (b : Bool) → eqb m n ≡ b → p m ≡ true
+    go q i true e = rw (eqb-true m n e) (q .0)
+    go q i false e = let ne : m ≡ n → ⊥ = eqb-false m n e in i m (omega arith)
+
+is : Option ℕ → ℕ → Bool
+is none n = false
+is (some m) n = eqb m n
+
+is-some : (m : Option ℕ) (n : ℕ) → is m n ≡ true → m ≡ some n
+unfolding is
+is-some none n e = absurd (false≢true e)
+is-some (some m) n e = ap some (eqb-true m n e)
+
+good : ℕ → Bool
+good n = is (number (spell n)) n && (eqb (length (spell n)) (digitCount n) && all isDigit (spell n))
+
+all-good : below good 1000 ≡ true
+unfolding below good is number spell value digitCount
+all-good = refl
+
+module _ (n : ℕ) (h : n ≤ 999) where
+  all-at : (is (number (spell n)) n ≡ true) × (eqb (length (spell n)) (digitCount n) && all isDigit (spell n) ≡ true)
+  unfolding good
+  all-at = both (is (number (spell n)) n) (eqb (length (spell n)) (digitCount n) && all isDigit (spell n)) (below-at good 1000 all-good n (omega arith))
+
+  pub number-spell : number (spell n) ≡ some n
+  number-spell = is-some _ n (all-at .0)
+
+  pub length-spell : length (spell n) ≡ digitCount n
+  length-spell = eqb-true _ _ (both (eqb (length (spell n)) (digitCount n)) (all isDigit (spell n)) (all-at .1) .0)
+
+  pub digits-spell : all isDigit (spell n) ≡ true
+  digits-spell = both (eqb (length (spell n)) (digitCount n)) (all isDigit (spell n)) (all-at .1) .1
+
+pub digit-is : (b : ℕ) → isDigit b ≡ true → (48 ≤ b) × (b ≤ 57)
+digit-is b e = let p : (leb 48 b ≡ true) × (leb b 57 ≡ true) = both (leb 48 b) (leb b 57) e in (leb-true 48 b (p .0), leb-true b 57 (p .1))
+
+-- at least one digit, and no more than three
+pub some-digit : (n : ℕ) → 1 ≤ digitCount n
+unfolding digitCount
+some-digit n =
+    cond-case (λ (x : ℕ). 1 ≤ x) (leb n 9) 1 (cond (leb n 99) 2 3) (λ _. omega arith) (λ _. cond-case (λ (x : ℕ). 1 ≤ x) (leb n 99) 2 3 (λ _. omega arith) (λ _. omega arith))
+
+count-1 : (n : ℕ) → n ≤ 9 → digitCount n ≡ 1
+unfolding digitCount
+count-1 n h = simp (le-leb n 9 h)
+
+count-2 : (n : ℕ) → n ≤ 99 → digitCount n ≤ 2
+unfolding digitCount
+count-2 n h =
+    cond-case (λ (x : ℕ). x ≤ 2) (leb n 9) 1 (cond (leb n 99) 2 3) (λ _. omega arith) (λ _. rw (le-leb n 99 h) (omega arith))
+
+count-3 : (n : ℕ) → digitCount n ≤ 3
+unfolding digitCount
+count-3 n =
+    cond-case (λ (x : ℕ). x ≤ 3) (leb n 9) 1 (cond (leb n 99) 2 3) (λ _. omega arith) (λ _. cond-case (λ (x : ℕ). x ≤ 3) (leb n 99) 2 3 (λ _. omega arith) (λ _. omega arith))
+
+-- a number that is read has at least the digits of its value
+digits-value : (s : List ℕ) → length s ≤ 3 → 1 ≤ length s → all isDigit s ≡ true → (digitCount (value 0 s) ≤ length s) × (value 0 s ≤ 999)
+unfolding value
+digits-value [] h g e = absurd (omega arith)
+digits-value (a ∷ []) h g e =
+    let p : (48 ≤ a) × (a ≤ 57) = digit-is a (both (isDigit a) true e .0) in
+    (omega (arith, count-1 (value 0 (a ∷ [])) (omega arith)), omega arith)
+digits-value (a ∷ b ∷ []) h g e =
+    let q : (isDigit a ≡ true) × (isDigit b && true ≡ true) = both (isDigit a) (isDigit b && true) e in
+    let p : (48 ≤ a) × (a ≤ 57) = digit-is a (q .0) in
+    let r : (48 ≤ b) × (b ≤ 57) = digit-is b (both (isDigit b) true (q .1) .0) in
+    (count-2 (value 0 (a ∷ b ∷ [])) (omega arith), omega arith)
+digits-value (a ∷ b ∷ c ∷ []) h g e =
+    let q : (isDigit a ≡ true) × (isDigit b && (isDigit c && true) ≡ true) = both (isDigit a) (isDigit b && (isDigit c && true)) e in
+    let q′ : (isDigit b ≡ true) × (isDigit c && true ≡ true) = both (isDigit b) (isDigit c && true) (q .1) in
+    let p : (48 ≤ a) × (a ≤ 57) = digit-is a (q .0) in
+    let r : (48 ≤ b) × (b ≤ 57) = digit-is b (q′ .0) in
+    let t : (48 ≤ c) × (c ≤ 57) = digit-is c (both (isDigit c) true (q′ .1) .0) in
+    (count-3 (value 0 (a ∷ b ∷ c ∷ [])), omega arith)
+digits-value (a ∷ b ∷ c ∷ d ∷ s) h g e = absurd (omega arith)
+
+-- what is known of a list that is read to n
+pub record Digits (s : List ℕ) (n : ℕ) : Type 0 where
+  pub low : 1 ≤ length s
+  pub high : length s ≤ 3
+  pub digits : all isDigit s ≡ true
+  pub is : value 0 s ≡ n
+
+pub number-is : (s : List ℕ) (n : ℕ) → number s ≡ some n → Digits s n
+unfolding number
+number-is s n e = go (leb 1 (length s)) refl (leb (length s) 3) refl (all isDigit s) refl e
+  where
+    go : (x : Bool) → leb 1 (length s) ≡ x → (y : Bool) → leb (length s) 3 ≡ y → (z : Bool) → all isDigit s ≡ z
+        → cond (x && (y && z)) (some (value 0 s)) none ≡ some n → Digits s n
+    go true p true q true r e = record { low = leb-true _ _ p; high = leb-true _ _ q; digits = r; is = cc }
+    go true p true q false r e = let z : _≡_ {A = ℕ} 0 1 = cc in absurd (omega arith)
+    go true p false q z r e = let z : _≡_ {A = ℕ} 0 1 = cc in absurd (omega arith)
+    go false p y q z r e = let z : _≡_ {A = ℕ} 0 1 = cc in absurd (omega arith)
+
+pub number-length : (s : List ℕ) (n : ℕ) → number s ≡ some n → (digitCount n ≤ length s) × (n ≤ 999)
+number-length s n e = let d = number-is s n e in rw (← (d .is)) (digits-value s (d .high) (d .low) (d .digits))

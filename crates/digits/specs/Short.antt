@@ -1,0 +1,20 @@
+-- The same numbers as the code hands them on, with a number outside the range for "none".
+use Prim.Native.Nat.{ℕ, zero, suc, _+_, _*_, _-_}
+use mathlib.Core.Bool.{Bool, true, false, cond, _&&_}
+use mathlib.Core.Option.{Option, none, some}
+use mathlib.Core.List.{List, [], _∷_}
+use lib.Dec.{leb, eqb}
+use lib.ListN.{getD}
+use Rattle.digits.specs.Digits.{number}
+
+abbrev pub orThousand : Option ℕ → ℕ
+orThousand none = 1000
+orThousand (some n) = n
+
+-- one to three digits: their value; else 1000
+unfoldable pub shortValue : List ℕ → ℕ
+shortValue s = orThousand (number s)
+
+-- one to three digits with no leading zero: their value; else 0
+unfoldable pub plainNumber : List ℕ → ℕ
+plainNumber s = cond (eqb (getD s 0 0) 48) 0 (cond (leb (shortValue s) 999) (shortValue s) 0)

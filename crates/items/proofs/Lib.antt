@@ -1,0 +1,4 @@
+pub mod TextLaws
+pub mod FormLaws
+pub mod SetLaws
+pub mod DispatchLaws

@@ -1,0 +1,295 @@
+// The kinds of items: whether an item may be as it is. One small function a kind, then the dispatch by the kind's number.
+// Definitions: `fault` in records, specs/Items.antt; the numbers of kinds: specs/Codes.antt. A new kind is a function here, an arm
+// of `kind_fault` and a clause of `kindOf`.
+ghost use mathlib.Core.Path.{_≡_};
+ghost use mathlib.Core.List.{[], _∷_};
+ghost use Rattle.lists.specs.Lists.{all, member as memberOf, unless as unlessOf};
+ghost use Rattle.digits.specs.Digits.{isDigit, number};
+ghost use Rattle.characters.specs.Cells.{isOne};
+ghost use Rattle.calendar.specs.Era.{readDay};
+ghost use Rattle.records.specs.Table.{required as requiredOf};
+ghost use Rattle.records.specs.Items.{isCode, allPairs, endsWide, oneWidth as oneWidthOf, edge as edgeOf, seven as sevenOf, unhyphened, postal as postalOf, prefecture as prefectureOf, whole as wholeOf, places as placesOf, fraction as fractionOf, decimal as decimalOf, sized as sizedOf, fault as faultOf, numberFault, dayFault};
+ghost use Rattle.records.specs.Records.{itemFault};
+ghost use Rattle.items.specs.Codes.{setOf, kindOf, needOf, itemOf};
+
+fn is_code(b: u8) -> bool
+    ensures { λ r. ⌜ r ≡ isCode b ⌝ }
+{
+    ((0x41 <= b) & (b <= 0x5a))
+        | ((0x61 <= b) & (b <= 0x7a))
+        | ((0x30 <= b) & (b <= 0x39))
+        | (b == 0x2e)
+        | (b == 0x2d)
+}
+
+fn all_code(s: &[u8]) -> bool
+    ensures { λ r. ⌜ r ≡ all isCode (now (s .entry)) ⌝ }
+{
+    let mut i = 0;
+    while i < s.len() {
+        let b = s[i];
+        if is_code(b) {
+            i += 1;
+        } else {
+            return false;
+        }
+    }
+    true
+}
+
+fn all_one(s: &[u8]) -> bool
+    ensures { λ r. ⌜ r ≡ all isOne (now (s .entry)) ⌝ }
+{
+    let mut i = 0;
+    while i < s.len() {
+        let b = s[i];
+        if characters::is_one(b) {
+            i += 1;
+        } else {
+            return false;
+        }
+    }
+    true
+}
+
+fn all_pairs(s: &[u8]) -> bool
+    ensures { λ r. ⌜ r ≡ allPairs (now (s .entry)) ⌝ }
+{
+    let mut i = 0;
+    while i < s.len() {
+        let next = i + 1;
+        if s.len() <= next {
+            return false;
+        }
+        let a = s[i];
+        let b = s[next];
+        if characters::is_pair(a, b) {
+            i += 2;
+        } else {
+            return false;
+        }
+    }
+    true
+}
+
+fn one_width(s: &[u8]) -> bool
+    ensures { λ r. ⌜ r ≡ oneWidthOf (now (s .entry)) ⌝ }
+{
+    all_one(s) | all_pairs(s)
+}
+
+// Whether the last character is 8140h. Only an item that ends in these two bytes is walked: in 8Ah 81h 40h they are the trail of a
+// kanji and @.
+fn ends_wide(s: &[u8]) -> bool
+    ensures { λ r. ⌜ r ≡ endsWide (now (s .entry)) ⌝ }
+{
+    let n = s.len();
+    let y = lists::byte_at(s, lists::before(lists::before(n)));
+    let z = lists::byte_at(s, lists::before(n));
+    if !((y == 0x81) & (z == 0x40)) {
+        return false;
+    }
+    let mut i = 0;
+    while i < s.len() {
+        let next = i + 1;
+        if s.len() <= next {
+            return false;
+        }
+        let a = s[i];
+        let b = s[next];
+        if characters::is_one(a) {
+            i += 1;
+        } else {
+            let after = i + 2;
+            if s.len() <= after {
+                return (a == 0x81) & (b == 0x40);
+            }
+            i += 2;
+        }
+    }
+    false
+}
+
+fn edge(s: &[u8]) -> bool
+    ensures { λ r. ⌜ r ≡ edgeOf (now (s .entry)) ⌝ }
+{
+    let n = s.len();
+    let a = lists::byte_at(s, 0);
+    let b = lists::byte_at(s, 1);
+    let z = lists::byte_at(s, lists::before(n));
+    let wide = ends_wide(s);
+    (a == 0x20)
+        | ((a == 0x81) & (b == 0x40))
+        | (z == 0x20)
+        | wide
+        | ((2 <= n) & ((a == 0x22) & (z == 0x22)))
+        | ((2 <= n) & ((a == 0x27) & (z == 0x27)))
+}
+
+fn seven(s: &[u8]) -> bool
+    ensures { λ r. ⌜ r ≡ sevenOf (now (s .entry)) ⌝ }
+{
+    (s.len() == 7) & digits::all_digits(s)
+}
+
+fn hyphened(s: &[u8]) -> bool
+    ensures { λ r. ⌜ r ≡ sevenOf (unhyphened (now (s .entry))) ⌝ }
+{
+    let n = s.len();
+    if n != 8 {
+        return false;
+    }
+    let start = 0;
+    let hyphen = 3;
+    let after = 4;
+    digits::all_digits(&s[start..hyphen]) & digits::all_digits(&s[after..n])
+}
+
+fn postal(s: &[u8]) -> bool
+    ensures { λ r. ⌜ r ≡ postalOf (now (s .entry)) ⌝ }
+{
+    let h = lists::byte_at(s, 3);
+    seven(s) | ((h == 0x2d) & hyphened(s))
+}
+
+fn prefecture(s: &[u8]) -> bool
+    ensures { λ r. ⌜ r ≡ prefectureOf (now (s .entry)) ⌝ }
+{
+    let a = digits::wide(lists::byte_at(s, 0));
+    let b = digits::wide(lists::byte_at(s, 1));
+    let v = a * 10 + b;
+    (s.len() == 2) & (digits::all_digits(s) & ((529 <= v) & (v <= 575)))
+}
+
+fn whole(w: usize, a: &[u8]) -> bool
+    ensures { λ r. ⌜ r ≡ wholeOf w (now (a .entry)) ⌝ }
+{
+    let n = a.len();
+    let b = lists::byte_at(a, 0);
+    let d = digits::all_digits(a);
+    ((1 <= n) & (n <= w)) & (d & ((n == 1) | !(b == 0x30)))
+}
+
+fn decimals(f: usize, b: &[u8]) -> bool
+    ensures { λ r. ⌜ r ≡ placesOf f (now (b .entry)) ⌝ }
+{
+    let n = b.len();
+    let z = lists::byte_at(b, lists::before(n));
+    let d = digits::all_digits(b);
+    ((1 <= n) & (n <= f)) & (d & !(z == 0x30))
+}
+
+fn fraction(f: usize, s: &[u8]) -> bool
+    ensures { λ r. ⌜ r ≡ fractionOf f (now (s .entry)) ⌝ }
+{
+    if s.len() == 0 {
+        return true;
+    }
+    decimals(f, &s[1..])
+}
+
+fn decimal(w: usize, f: usize, s: &[u8]) -> bool
+    ensures { λ r. ⌜ r ≡ decimalOf w f (now (s .entry)) ⌝ }
+{
+    let n = s.len();
+    let start = 0;
+    let p = lists::find_byte(s, start, 0x2e);
+    whole(w, &s[start..p]) & fraction(f, &s[p..n])
+}
+
+// The values in braces.
+fn member(set: usize, n: u32) -> bool
+    ensures { λ r. ⌜ r ≡ memberOf (setOf set) n ⌝ }
+{
+    match set {
+        0 => (n == 1) | (n == 2),
+        1 => (n == 1) | (n == 2) | (n == 3) | (n == 9),
+        2 => (n == 1) | (n == 3) | (n == 4),
+        3 => (n == 1) | (n == 3),
+        4 => (n == 1) | (n == 2) | (n == 3) | (n == 4) | (n == 6),
+        5 => (n == 1)
+            | (n == 2)
+            | (n == 3)
+            | (n == 4)
+            | (n == 5)
+            | (n == 6)
+            | (n == 7)
+            | (n == 9)
+            | (n == 10),
+        6 => (n == 30) | (n == 31) | (n == 99),
+        7 => (n == 1) | (n == 2) | (n == 8) | (n == 9),
+        _ => false,
+    }
+}
+
+pub fn unless(good: bool, n: u8) -> u8
+    ensures { λ r. ⌜ r ≡ unlessOf good n ⌝ }
+{
+    if good { 0 } else { n }
+}
+
+// The kinds N, U and X: too long, then an edge, then the form.
+fn sized(m: usize, s: &[u8], good: bool) -> u8
+    ensures { λ r. ⌜ r ≡ sizedOf m (now (s .entry)) good ⌝ }
+{
+    if m < s.len() {
+        return 9;
+    }
+    if edge(s) {
+        return 10;
+    }
+    unless(good, 11)
+}
+
+fn rp_fault(s: &[u8]) -> u8
+    ensures { λ r. ⌜ r ≡ numberFault (number (now (s .entry))) ⌝ }
+{
+    let v = digits::short_value(s);
+    unless((1 <= v) & (v <= 999), 11)
+}
+
+fn day_fault(s: &[u8]) -> u8
+    ensures { λ r. ⌜ r ≡ dayFault (readDay (now (s .entry))) ⌝ }
+{
+    match calendar::Day::read(s) {
+        calendar::DateRead::Date(_) => 0,
+        calendar::DateRead::NotADate => 11,
+    }
+}
+
+// The fault of an item that is not empty, by the number of its kind and its most bytes or set.
+fn kind_fault(k: usize, m: usize, s: &[u8]) -> u8
+    ensures { λ r. ⌜ r ≡ faultOf (kindOf k m) (now (s .entry)) ⌝ }
+{
+    match k {
+        0 => sized(m, s, true),
+        1 => sized(m, s, one_width(s)),
+        2 => sized(m, s, all_code(s)),
+        3 => unless(member(7, digits::plain_number(s)), 11),
+        4 => unless(prefecture(s), 11),
+        5 => unless(seven(s), 11),
+        6 => unless(postal(s), 11),
+        7 => rp_fault(s),
+        8 => unless(decimal(3, 3, s), 11),
+        9 => unless(decimal(6, 5, s), 11),
+        10 => day_fault(s),
+        _ => unless(member(m, digits::plain_number(s)), 11),
+    }
+}
+
+fn required(n: usize, provider: bool) -> bool
+    ensures { λ r. ⌜ r ≡ requiredOf (provider) (needOf n) ⌝ }
+{
+    (n == 0) | ((n == 1) & provider)
+}
+
+// The fault of an item, by its code.
+pub fn item_fault(c: usize, provider: bool, s: &[u8]) -> u8
+    ensures { λ r. ⌜ r ≡ itemFault (provider) (itemOf c) (now (s .entry)) ⌝ }
+{
+    if s.len() == 0 {
+        let need = required(c % 4, provider);
+        return unless(!need, 8);
+    }
+    kind_fault(c / 4 % 16, c / 64, s)
+}

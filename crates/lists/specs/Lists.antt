@@ -1,0 +1,89 @@
+-- Lists of bytes: texts as bytes, tests of all bytes, equality as a test, parts; and an answer that is a value or a refusal.
+-- Nothing here is about notebooks; everything above is written with it.
+use Prim.Native.Nat.{ℕ, zero, suc, _+_, _-_}
+use Prim.Native.Char.{code}
+use Prim.Native.String.{String}
+use mathlib.Core.Bool.{Bool, true, false, cond, _&&_, _||_}
+use mathlib.Core.List.{List, [], _∷_, _++_}
+use lib.Dec.{leb, eqb}
+use lib.ListN.{length, getD, take, drop}
+
+-- the bytes of a text in ASCII
+unfoldable pub bytes : String → List ℕ
+bytes String.[] = []
+bytes (String._∷_ c s) = code c ∷ bytes s
+
+-- lo to hi, both ends included
+abbrev pub within : ℕ → ℕ → ℕ → Bool
+within lo hi x = leb lo x && leb x hi
+
+-- ---- tests of a list
+
+abbrev pub empty : List ℕ → Bool
+empty [] = true
+empty (b ∷ s) = false
+
+-- every byte passes the test
+abbrev pub all : (ℕ → Bool) → List ℕ → Bool
+all p [] = true
+all p (b ∷ s) = p b && all p s
+
+-- two lists are equal
+abbrev pub same : List ℕ → List ℕ → Bool
+same [] [] = true
+same [] (y ∷ ys) = false
+same (x ∷ xs) [] = false
+same (x ∷ xs) (y ∷ ys) = eqb x y && same xs ys
+
+-- n is one of the list, or b holds: from the left, as code joins tests by `|`
+abbrev pub orMember : Bool → List ℕ → ℕ → Bool
+orMember b [] n = b
+orMember b (m ∷ ms) n = orMember (b || eqb n m) ms n
+
+abbrev pub member : List ℕ → ℕ → Bool
+member ms n = orMember false ms n
+
+-- a property of every element
+abbrev pub All : {A : Type 0} → (A → Type 0) → List A → Type 0
+All P [] = Unit {0}
+All P (x ∷ xs) = P x × All P xs
+
+-- ---- parts of a list
+
+-- the last byte, 0 where there is none
+abbrev pub last : List ℕ → ℕ
+last s = getD s (length s - 1) 0
+
+-- the bytes from a to before e
+abbrev pub part : List ℕ → ℕ → ℕ → List ℕ
+part s a e = take (e - a) (drop a s)
+
+-- the bytes before the first that the test picks out
+abbrev pub upTo : (ℕ → Bool) → List ℕ → List ℕ
+upTo p [] = []
+upTo p (a ∷ l) = cond (p a) [] (a ∷ upTo p l)
+
+-- where the byte c first stands from a position on, or the end
+abbrev pub is : ℕ → ℕ → Bool
+is c b = eqb b c
+
+unfoldable pub findFrom : ℕ → List ℕ → ℕ → ℕ
+findFrom c s at = at + length (upTo (is c) (drop at s))
+
+-- ---- answers
+
+-- a value; or a refusal: document 01's number, and the line
+pub data Res (A : Type 0) : Type 0 where
+  ok : A → Res A
+  refused : ℕ → ℕ → Res A
+
+-- Faults are numbers of document 01's table, 0 for none. "Within it the lowest number": the first fault of two.
+infixr 20 _orElse_
+abbrev pub _orElse_ : ℕ → ℕ → ℕ
+zero orElse b = b
+(suc a) orElse b = suc a
+
+-- the fault n where the rule does not hold
+abbrev pub unless : Bool → ℕ → ℕ
+unless true n = 0
+unless false n = n

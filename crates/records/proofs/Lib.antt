@@ -1,0 +1,5 @@
+pub mod KindLaws
+pub mod Splits
+pub mod ItemLaws
+pub mod LineLaws
+pub mod TheLanguage

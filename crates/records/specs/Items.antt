@@ -1,0 +1,155 @@
+-- What an item of each kind may be, and what it is read to. Document 01, "Items"; refusals 8 to 11; 15-106 3.2.2, 3.2.5, 3.2.9.
+-- A fault is a number of document 01's table, 0 for none; a value is told of every item and means something where the fault is 0.
+use Prim.Native.Nat.{ℕ, zero, suc, _+_, _*_, _-_}
+use mathlib.Core.Bool.{Bool, true, false, cond, not, _&&_, _||_}
+use mathlib.Core.Option.{Option, none, some}
+use mathlib.Core.List.{List, [], _∷_, _++_}
+use lib.Dec.{leb, eqb}
+use lib.ListN.{length, getD, take, drop}
+use Rattle.lists.specs.Lists.{within, empty, all, same, last, upTo, _orElse_, unless}
+use Rattle.digits.specs.Digits.{isDigit, number, spell}
+use Rattle.calendar.specs.declared.DateRead.{DateRead}
+use Rattle.calendar.specs.declared.DateRead.the-variants.{Date, NotADate}
+use Rattle.calendar.specs.Era.{readDay, writeDay}
+use Rattle.characters.specs.Cells.{isOne, isPair}
+use Rattle.records.specs.Table.{Kind, N, U, X, A, F, C, P, R, W, Q, D, among}
+
+-- "D as days, P as seven digits, R as values, others as bytes"
+pub data Value : Type 0 where
+  text : List ℕ → Value
+  num : ℕ → Value
+  day : ℕ → Value
+
+-- "D in the era form, P without hyphen, R without leading zeros, .. all else kept"
+abbrev pub writeValue : Value → List ℕ
+writeValue (text s) = s
+writeValue (num n) = spell n
+writeValue (day n) = writeDay n
+
+-- ---- edges
+
+-- the last character is 8140h
+abbrev pub endsWide : List ℕ → Bool
+endsWide [] = false
+endsWide (a ∷ []) = false
+endsWide (a ∷ b ∷ r) = cond (isOne a) (endsWide (b ∷ r)) (cond (empty r) (eqb a 0x81 && eqb b 0x40) (endsWide r))
+
+-- two or more bytes, the first and the last both q
+abbrev pub quoted : ℕ → List ℕ → Bool
+quoted q s = leb 2 (length s) && (eqb (getD s 0 0) q && eqb (last s) q)
+
+-- "item begins or ends with 20h or the character 8140h, or has two or more bytes, the first and last both 22h or both 27h"
+unfoldable pub edge : List ℕ → Bool
+edge s =
+    eqb (getD s 0 0) 0x20 || (eqb (getD s 0 0) 0x81 && eqb (getD s 1 0) 0x40) || eqb (last s) 0x20 || endsWide s || quoted 0x22 s || quoted 0x27 s
+
+-- ---- the kinds of text
+
+-- characters of two bytes and nothing else
+abbrev pub allPairs : List ℕ → Bool
+allPairs [] = true
+allPairs (a ∷ []) = false
+allPairs (a ∷ b ∷ r) = isPair a b && allPairs r
+
+-- U: "text, all one-byte or all two-byte characters"
+unfoldable pub oneWidth : List ℕ → Bool
+oneWidth s = all isOne s || allPairs s
+
+-- X: "A–Z, a–z, 0–9, period, hyphen"
+abbrev pub isCode : ℕ → Bool
+isCode b = within 0x41 0x5a b || within 0x61 0x7a b || within 0x30 0x39 b || eqb b 0x2e || eqb b 0x2d
+
+-- ---- the kinds of digits
+
+-- spelled as one of the numbers: kind A and braces
+abbrev pub oneOf : List ℕ → List ℕ → Bool
+oneOf [] s = false
+oneOf (n ∷ ns) s = same s (spell n) || oneOf ns s
+
+-- C: "seven digits"
+unfoldable pub seven : List ℕ → Bool
+seven s = eqb (length s) 7 && all isDigit s
+
+-- without its fourth byte
+abbrev pub unhyphened : List ℕ → List ℕ
+unhyphened s = take 3 s ++ drop 4 s
+
+-- P: "seven digits, or three, hyphen, four"
+unfoldable pub postal : List ℕ → Bool
+postal s = seven s || (eqb (getD s 3 0) 0x2d && seven (unhyphened s))
+
+-- F: "01–47"; 528 is what the bytes of 00 give
+unfoldable pub prefecture : List ℕ → Bool
+prefecture s = eqb (length s) 2 && (all isDigit s && within (528 + 1) (528 + 47) (getD s 0 0 * 10 + getD s 1 0))
+
+abbrev pub isPeriod : ℕ → Bool
+isPeriod b = eqb b 0x2e
+
+-- "whole part up to 3 (Q: 6) digits .. No extra leading zero .. 0 is good"
+abbrev pub whole : ℕ → List ℕ → Bool
+whole w a = (leb 1 (length a) && leb (length a) w) && (all isDigit a && (eqb (length a) 1 || not (eqb (getD a 0 0) 0x30)))
+
+-- "optionally a period and up to 3 (Q: 5) digits .. no trailing zero in the fraction, no bare period"
+abbrev pub places : ℕ → List ℕ → Bool
+places f b = (leb 1 (length b) && leb (length b) f) && (all isDigit b && not (eqb (last b) 0x30))
+
+abbrev pub fraction : ℕ → List ℕ → Bool
+fraction f [] = true
+fraction f (p ∷ b) = places f b
+
+-- W and Q: the whole part up to the period, and what follows it
+unfoldable pub decimal : ℕ → ℕ → List ℕ → Bool
+decimal w f s = whole w (upTo isPeriod s) && fraction f (drop (length (upTo isPeriod s)) s)
+
+-- ---- R and D: what is read, and its fault
+
+-- R: "one to three digits with value 1–999; leading zeros are read (here)"
+abbrev pub numberFault : Option ℕ → ℕ
+numberFault none = 11
+numberFault (some n) = unless (leb 1 n) 11
+
+abbrev pub numberValue : Option ℕ → Value
+numberValue none = text []
+numberValue (some n) = num n
+
+abbrev pub dayFault : DateRead → ℕ
+dayFault (Date d) = 0
+dayFault NotADate = 11
+
+abbrev pub dayValue : DateRead → Value
+dayValue (Date d) = day (d .ymd)
+dayValue NotADate = text []
+
+-- ---- an item that is not empty: its fault, and its value where there is none
+
+-- N, U, X: 9, then 10, then 11; "F, C, P, D, A, braces, R, W, Q: only 8 and 11"
+unfoldable pub sized : ℕ → List ℕ → Bool → ℕ
+sized m s good = unless (leb (length s) m) 9 orElse unless (not (edge s)) 10 orElse unless good 11
+
+unfoldable pub fault : Kind → List ℕ → ℕ
+fault (N m) s = sized m s true
+fault (U m) s = sized m s (oneWidth s)
+fault (X m) s = sized m s (all isCode s)
+fault A s = unless (oneOf (1 ∷ 2 ∷ 8 ∷ 9 ∷ []) s) 11
+fault F s = unless (prefecture s) 11
+fault C s = unless (seven s) 11
+fault P s = unless (postal s) 11
+fault R s = numberFault (number s)
+fault W s = unless (decimal 3 3 s) 11
+fault Q s = unless (decimal 6 5 s) 11
+fault D s = dayFault (readDay s)
+fault (among ns) s = unless (oneOf ns s) 11
+
+unfoldable pub value : Kind → List ℕ → Value
+value (N m) s = text s
+value (U m) s = text s
+value (X m) s = text s
+value A s = text s
+value F s = text s
+value C s = text s
+value P s = text (cond (seven s) s (unhyphened s))
+value R s = numberValue (number s)
+value W s = text s
+value Q s = text s
+value D s = dayValue (readDay s)
+value (among ns) s = text s

@@ -1,0 +1,6 @@
+pub mod Split
+pub mod Table
+pub mod Items
+pub mod Records
+pub mod Language
+pub mod Paper
