@@ -1,0 +1,159 @@
+-- A record line by the code's numbers is the definition's: one law for each way through `read_line`. Assumes nothing.
+use Prim.Native.Nat.{ℕ, zero, suc, _+_, _-_, _%_, _≤_, _<_}
+use mathlib.Core.Path.{_≡_, refl, sym, ap, _∙_, subst}
+use mathlib.Core.Bool.{Bool, true, false, cond, not, _&&_, _||_, false≢true}
+use mathlib.Core.List.{List, [], _∷_}
+use native.Mathlib.Omega.{arith}
+use borrow.Author.Tests.{le-leb, lt-leb, eq-eqb, ne-eqb}
+use lib.Dec.{leb, eqb}
+use lib.ListN.{length, take, drop}
+use Rattle.lists.specs.Lists.{same, part, findFrom, unless, _orElse_}
+use Rattle.lists.proofs.Tests.{or-stops, not-false′}
+use Rattle.digits.specs.Digits.{spell}
+use Rattle.digits.specs.Short.{plainNumber}
+use Rattle.digits.proofs.Spelling.{same-spell}
+use Rattle.order.specs.declared.Facts.{Facts}
+use Rattle.records.specs.Split.{itemsOf, itemsFrom, itemEnd}
+use Rattle.records.specs.Table.{Row, table}
+use Rattle.records.specs.Records.{t911, rowOf, recordFrom, recordOf, itemsValue, itemsFault, pairs, faultFrom, faultWhere}
+use Rattle.lines.specs.declared.Details.{Details}
+use Rattle.lines.specs.declared.LineRead.{LineRead}
+use Rattle.lines.specs.declared.LineRead.the-variants.{Fault, Fine}
+use Rattle.lines.specs.Facts.{factsOf, lineRead}
+use Rattle.lines.specs.Codes.{codes, sliceOf, placeOf, placeIn, Lent, InCodes, pairsRaw, factsRaw, detailsRaw}
+use Rattle.lines.proofs.SplitLaws.{items-all, item-cut}
+use Rattle.lines.proofs.TableLaws.{rowBy, RowAt, row-of, row-of-number, slice-length}
+use Rattle.lines.proofs.FactLaws.{pairs-is, facts-is}
+
+pub lent : Lent codes
+lent = record { is = refl }
+
+-- what the code has found: the first item, its number, its row's place, the other items
+record Found (s h : List ℕ) (ss : List (List ℕ)) (n place : ℕ) : Type 0 where
+  cut : itemsOf s ≡ h ∷ ss
+  number : n ≡ plainNumber h
+  place-is : place ≡ placeOf n
+  inside : InCodes place
+
+module _ {s h : List ℕ} {ss : List (List ℕ)} {n place : ℕ} (f : Found s h ss n place) where
+  row : RowAt n (rowOf h) place
+  row = subst (λ (x : ℕ). RowAt n (rowOf h) x) (sym (f .place-is)) (subst (λ (x : ℕ). RowAt x (rowOf h) (placeOf x)) (sym (f .number)) (row-of h))
+
+  by-n : rowOf h ≡ rowBy table n
+  by-n = row-of-number h ∙ ap (rowBy table) (sym (f .number))
+
+  mark : same h t911 ≡ eqb n 911
+  unfolding t911 spell
+  mark = same-spell h 911 (omega arith) (omega arith) ∙ ap (λ (x : ℕ). eqb x 911) (sym (f .number))
+
+  -- the definition, by the code's numbers
+  fault-is : (provider : Bool) → faultFrom provider (itemsOf s) ≡
+      unless (leb 1 place || eqb n 911) 5 orElse unless (not (eqb n 911)) 6 orElse unless (eqb (length ss) (place % 16)) 7 orElse
+      itemsFault provider (sliceOf place) ss orElse unless (pairs (recordFrom (h ∷ ss))) 12
+  unfolding faultFrom
+  fault-is provider = rw (f .cut, row .items, row .listed, mark, slice-length place (f .inside))
+
+  module _ (z : place ≡ 0 → ⊥) where
+    listed : leb 1 place ≡ true
+    listed = le-leb 1 place (omega arith)
+
+    record-is : recordFrom (h ∷ ss) ≡ record { number = n; values = itemsValue (sliceOf place) ss }
+    unfolding recordFrom
+    record-is =
+        let e : (rowOf h) .number ≡ n = row .number listed in
+        let g : (rowOf h) .items ≡ sliceOf place = row .items in
+        rw (e, g)
+
+    pairs-of : length ss ≡ place % 16 → pairs (recordFrom (h ∷ ss)) ≡ pairsRaw n ss
+    pairs-of l = ap pairs record-is ∙ pairs-is n place ss (f .place-is) l
+
+    facts-of : length ss ≡ place % 16 → factsOf (recordOf s) ≡ factsRaw n ss
+    unfolding recordOf
+    facts-of l =
+        ap (λ (x : List (List ℕ)). factsOf (recordFrom x)) (f .cut) ∙ ap factsOf record-is
+        ∙ facts-is n place ss (f .place-is) l
+        (ap (λ (r : Row). leb 1 (r .number)) (sym by-n) ∙ row .listed ∙ listed)
+        (ap (λ (r : Row). r .number) (sym by-n) ∙ row .number listed)
+        (ap (λ (r : Row). r .items) (sym by-n) ∙ row .items)
+        (l ∙ sym (slice-length place (f .inside)))
+
+-- ---- the ways
+
+-- a fault is what is read
+read-fault : (g b : Bool) (s : List ℕ) (k : ℕ) → (k ≡ 0 → ⊥) → faultWhere g b s ≡ k → Fault k ≡ lineRead g b s
+unfolding lineRead
+read-fault g b s k z e = rw (e, ne-eqb k 0 z)
+
+pub read-chars : (s : List ℕ) (b g : Bool) → not g ≡ true → Fault 4 ≡ lineRead g b s
+unfolding faultWhere
+read-chars s b true e = absurd (false≢true e)
+read-chars s b false e = read-fault false b s 4 (λ z. omega arith) refl
+
+module _ (s : List ℕ) (b g : Bool) {e n : ℕ} (t : not g ≡ false) (q : e ≡ itemEnd s 0) (m : n ≡ plainNumber (take (e - 0) (drop 0 s))) where
+  found : {place : ℕ} → place ≡ placeOf n → InCodes place → Found s (take (e - 0) (drop 0 s)) (itemsFrom s (e + 1)) n place
+  found p i = record { cut = items-all s ∙ item-cut s 0 (omega arith) q; number = m; place-is = p; inside = i }
+
+  past : (k : ℕ) → faultFrom b (itemsOf s) ≡ k → faultWhere g b s ≡ k
+  unfolding faultWhere
+  past k h = rw (not-false′ g t) h
+
+  pub read-mark : n ≡ 911 → Fault 6 ≡ lineRead g b s
+  unfolding placeOf placeIn
+  read-mark h =
+      let f = found {place = 0} (ap placeOf (sym h)) (record { inside = omega arith }) in
+      read-fault g b s 6 (λ z. omega arith) (past 6 (fault-is f b ∙ rw (eq-eqb n 911 h)))
+
+  module _ {place : ℕ} (x : n ≡ 911 → ⊥) (p : place ≡ placeOf n) (i : InCodes place) where
+    pub read-unlisted : place ≡ 0 → Fault 5 ≡ lineRead g b s
+    read-unlisted z = read-fault g b s 5 (λ z. omega arith) (past 5 (fault-is (found p i) b ∙ rw (ne-eqb n 911 x, lt-leb 1 place (omega arith))))
+
+    module _ {count : ℕ} (z : place ≡ 0 → ⊥) (k : count ≡ length (itemsOf s)) where
+      counted : count ≡ suc (length (itemsFrom s (e + 1)))
+      counted = k ∙ ap length (found p i .cut)
+
+      pub read-count : (count ≡ place % 16 + 1 → ⊥) → Fault 7 ≡ lineRead g b s
+      read-count w =
+          read-fault g b s 7 (λ z. omega arith) (past 7 (fault-is (found p i) b ∙ rw (
+            ne-eqb n 911 x,
+            le-leb 1 place (omega arith),
+            ne-eqb (length (itemsFrom s (e + 1))) (place % 16) (λ y. w (omega (arith, counted, y))),
+          )))
+
+      module _ {f : ℕ} (w : count ≡ place % 16 + 1) (v : f ≡ itemsFault b (sliceOf place) (itemsFrom s (e + 1))) where
+        length-is : length (itemsFrom s (e + 1)) ≡ place % 16
+        length-is = omega (arith, counted, w)
+
+        left : faultFrom b (itemsOf s) ≡ f orElse unless (pairsRaw n (itemsFrom s (e + 1))) 12
+        left =
+            fault-is (found p i) b ∙ rw (
+              ne-eqb n 911 x,
+              le-leb 1 place (omega arith),
+              eq-eqb (length (itemsFrom s (e + 1))) (place % 16) length-is,
+              pairs-of (found p i) z length-is,
+              ← v,
+            )
+
+        pub read-items : (f ≡ 0 → ⊥) → Fault f ≡ lineRead g b s
+        read-items y = read-fault g b s f y (past f (left ∙ or-stops f _ y))
+
+        module _ (o : f ≡ 0) {d : Details} (h : d ≡ detailsRaw n (itemsFrom s (e + 1))) where
+          paired-is : d .paired ≡ pairsRaw n (itemsFrom s (e + 1))
+          unfolding detailsRaw
+          paired-is = ap (λ (y : Details). y .paired) h
+
+          facts-found : d .facts ≡ factsOf (recordOf s)
+          unfolding detailsRaw
+          facts-found = ap (λ (y : Details). y .facts) h ∙ sym (facts-of (found p i) z length-is)
+
+          by-pairs : (y : Bool) → d .paired ≡ y → faultWhere g b s ≡ unless y 12
+          by-pairs y r =
+              past (unless y 12) (left ∙ ap (λ (c : ℕ). c orElse unless (pairsRaw n (itemsFrom s (e + 1))) 12) o ∙ ap (λ (c : Bool). unless c 12) (sym paired-is ∙ r))
+
+          pub read-fine : d .paired ≡ true → Fine (d .facts) ≡ lineRead g b s
+          unfolding lineRead
+          read-fine r = rw (by-pairs true r) (ap Fine facts-found)
+
+          pub read-pairs : d .paired ≡ false → Fault 12 ≡ lineRead g b s
+          read-pairs r = read-fault g b s 12 (λ z. omega arith) (by-pairs false r)
+
+pub ruleset read-laws = (read-chars, read-mark, read-unlisted, read-count, read-items, read-fine, read-pairs)

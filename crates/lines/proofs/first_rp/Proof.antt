@@ -1,0 +1,39 @@
+use borrow.Author.Needs.{needs}
+use Prim.Native.Nat.{_-_}
+use lib.ListN.{length}
+use Rattle.lines.proofs.DetailLaws.{first-is}
+use Rattle.lines.proofs.first_rp.Statement.{statement}
+use Rattle.lines.proofs.first_rp.Tie as tie
+use Rattle.lines.proofs.first_rp.Reads as reads
+use Rattle.lines.proofs.first_rp.Lts as lts
+use Rattle.lines.proofs.item_at.Reads as item-at-reads
+use Rattle.lines.proofs.rp_value.Reads as rp-value-reads
+
+item-at-requires : tie.Need-item-at-requires
+item-at-requires c κs = search needs
+
+sub-rp-value : tie.Need-sub-rp-value
+sub-rp-value c = search needs
+
+part-rp-value-start : tie.Need-part-rp-value-start
+part-rp-value-start c = search needs
+
+part-rp-value-end : tie.Need-part-rp-value-end
+part-rp-value-end c = search needs
+
+rp-value-requires : tie.Need-rp-value-requires
+rp-value-requires c κs = search needs
+
+returns : tie.Need-returns
+returns c = search (needs, first-is)
+
+pub first-rp-spec : {M : Type 1} → statement M
+first-rp-spec =
+    tie.close
+    (tie.spec
+    item-at-requires
+    sub-rp-value
+    part-rp-value-start
+    part-rp-value-end
+    rp-value-requires
+    returns)

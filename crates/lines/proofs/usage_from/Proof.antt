@@ -1,0 +1,125 @@
+use borrow.Author.Needs.{needs}
+use Prim.Native.Nat.{_-_}
+use lib.ListN.{length}
+use Rattle.lines.proofs.DetailLaws.{usage-is}
+use Rattle.lines.proofs.usage_from.Statement.{statement}
+use Rattle.lines.proofs.usage_from.Tie as tie
+use Rattle.lines.proofs.usage_from.Reads as reads
+use Rattle.lines.proofs.usage_from.Lts as lts
+use Rattle.digits.proofs.plain_number.Reads as plain-number-reads
+use Rattle.lines.proofs.code_pair.Reads as code-pair-reads
+use Rattle.lines.proofs.form_pair.Reads as form-pair-reads
+use Rattle.lines.proofs.item_at.Reads as item-at-reads
+
+item-at-requires : tie.Need-item-at-requires
+item-at-requires c κs = search needs
+
+item-at-requires-2 : tie.Need-item-at-requires-2
+item-at-requires-2 c κs = search needs
+
+item-at-requires-3 : tie.Need-item-at-requires-3
+item-at-requires-3 c κs = search needs
+
+item-at-requires-4 : tie.Need-item-at-requires-4
+item-at-requires-4 c κs = search needs
+
+item-at-requires-5 : tie.Need-item-at-requires-5
+item-at-requires-5 c κs = search needs
+
+sub-code-pair : tie.Need-sub-code-pair
+sub-code-pair c = search needs
+
+part-code-pair-start : tie.Need-part-code-pair-start
+part-code-pair-start c = search needs
+
+part-code-pair-end : tie.Need-part-code-pair-end
+part-code-pair-end c = search needs
+
+sub-code-pair-2 : tie.Need-sub-code-pair-2
+sub-code-pair-2 c = search needs
+
+part-code-pair-start-2 : tie.Need-part-code-pair-start-2
+part-code-pair-start-2 c = search needs
+
+part-code-pair-end-2 : tie.Need-part-code-pair-end-2
+part-code-pair-end-2 c = search needs
+
+code-pair-requires : tie.Need-code-pair-requires
+code-pair-requires c κs = search needs
+
+sub-form-pair : tie.Need-sub-form-pair
+sub-form-pair c = search needs
+
+part-form-pair-start : tie.Need-part-form-pair-start
+part-form-pair-start c = search needs
+
+part-form-pair-end : tie.Need-part-form-pair-end
+part-form-pair-end c = search needs
+
+sub-form-pair-2 : tie.Need-sub-form-pair-2
+sub-form-pair-2 c = search needs
+
+part-form-pair-start-2 : tie.Need-part-form-pair-start-2
+part-form-pair-start-2 c = search needs
+
+part-form-pair-end-2 : tie.Need-part-form-pair-end-2
+part-form-pair-end-2 c = search needs
+
+sub-form-pair-3 : tie.Need-sub-form-pair-3
+sub-form-pair-3 c = search needs
+
+part-form-pair-start-3 : tie.Need-part-form-pair-start-3
+part-form-pair-start-3 c = search needs
+
+part-form-pair-end-3 : tie.Need-part-form-pair-end-3
+part-form-pair-end-3 c = search needs
+
+form-pair-requires : tie.Need-form-pair-requires
+form-pair-requires c κs = search needs
+
+sub-plain-number : tie.Need-sub-plain-number
+sub-plain-number c = search needs
+
+part-plain-number-start : tie.Need-part-plain-number-start
+part-plain-number-start c = search needs
+
+part-plain-number-end : tie.Need-part-plain-number-end
+part-plain-number-end c = search needs
+
+plain-number-requires : tie.Need-plain-number-requires
+plain-number-requires c κs = search needs
+
+returns : tie.Need-returns
+returns c = search (needs, usage-is)
+
+pub usage-from-spec : {M : Type 1} → statement M
+usage-from-spec =
+    tie.close
+    (tie.spec
+    item-at-requires
+    item-at-requires-2
+    item-at-requires-3
+    item-at-requires-4
+    item-at-requires-5
+    sub-code-pair
+    part-code-pair-start
+    part-code-pair-end
+    sub-code-pair-2
+    part-code-pair-start-2
+    part-code-pair-end-2
+    code-pair-requires
+    sub-form-pair
+    part-form-pair-start
+    part-form-pair-end
+    sub-form-pair-2
+    part-form-pair-start-2
+    part-form-pair-end-2
+    sub-form-pair-3
+    part-form-pair-start-3
+    part-form-pair-end-3
+    form-pair-requires
+    sub-plain-number
+    part-plain-number-start
+    part-plain-number-end
+    plain-number-requires
+    returns)

@@ -1,0 +1,409 @@
+// One record line: its items at positions, its fault, and the facts of a record that the order of records looks at.
+// Definitions: records, specs/Records.antt (the fault); specs/Facts.antt (the facts); specs/Codes.antt (the table as numbers). A
+// changed row of the table moves CODES and `place_of` here and `codes` and `places` there; proofs/TableLaws.antt compares both with
+// the table.
+ghost use mathlib.Core.Path.{_≡_};
+ghost use mathlib.Core.List.{[], _∷_};
+ghost use Prim.Native.Nat.{_≤_};
+ghost use lib.ListN.{length, getD};
+ghost use Rattle.lists.specs.Lists.{same};
+ghost use Rattle.records.specs.Split.{itemsOf, itemsFrom, itemEnd};
+ghost use Rattle.records.specs.Records.{orEmpty, isNum, itemsFault};
+ghost use Rattle.lines.specs.Facts.{lineRead};
+ghost use Rattle.lines.specs.Codes.{Lent, InCodes, ItemAt, placeOf, sliceOf, quantity, codeRaw, formRaw, rpRaw, dayRaw, detailsRaw, bareDetails, otherDetails, usageRaw};
+
+// ---- items at positions
+
+pub struct Span {
+    pub from: usize,
+    pub to: usize,
+    pub next: usize,
+}
+
+// Where the item that begins at a position ends.
+fn item_stop(s: &[u8], at: usize) -> usize
+    requires { ⌜ at ≤ length (now s) ⌝ }
+    ensures { λ r. ⌜ r ≡ itemEnd (now (s .entry)) at ⌝ }
+    ensures { λ r. ⌜ at ≤ r ⌝ }
+    ensures { λ r. ⌜ r ≤ length (now (s .entry)) ⌝ }
+{
+    lists::find_byte(s, at, 0x2c)
+}
+
+// The item that begins at a position, and where the next one begins; nothing past the line's end.
+fn item_at(s: &[u8], at: usize) -> Span
+    ensures { λ r. ⌜ ItemAt (now (s .entry)) at r ⌝ }
+{
+    if s.len() < at {
+        return Span {
+            from: 0,
+            to: 0,
+            next: at,
+        };
+    }
+    let end = item_stop(s, at);
+    Span {
+        from: at,
+        to: end,
+        next: end + 1,
+    }
+}
+
+fn count_items(s: &[u8]) -> usize
+    ensures { λ r. ⌜ r ≡ length (itemsOf (now (s .entry))) ⌝ }
+{
+    let mut n = 1;
+    let mut i = 0;
+    while i < s.len() {
+        if s[i] == 0x2c {
+            n += 1;
+            i += 1;
+        } else {
+            i += 1;
+        }
+    }
+    n
+}
+
+// ---- the table
+
+// For each item of each record, in the order of `place_of`: need + 4 times kind + 64 times the most bytes or the set of values.
+// Lent to the functions below, since a constant array is made anew wherever it is named.
+pub const CODES: [usize; 83] = [
+    2564, 44, 40, 26, 51202, 842, 51202, 1282, 34, 2566, 108, 7680, 12, 7680, 42, 42, 12, 25600, 42, 12, 40, 12, 7680, 17, 173, 22, 26,
+    51202, 842, 12, 2560, 51202, 12, 7680, 17, 237, 22, 12, 2560, 5122, 12, 28, 7680, 36, 768, 301, 842, 12, 28, 6400, 12, 28, 6400, 12,
+    28, 25600, 12, 28, 25600, 12, 28, 6402, 29, 6401, 365, 45, 1034, 12, 25600, 12, 25600, 12, 25600, 428, 12, 25600, 42, 2560, 7680,
+    51200, 42, 42, 12,
+];
+
+// Where a record's row stands in the codes: start times 16 and count; 0 where the number is not listed.
+fn place_of(n: u32) -> usize
+    ensures { λ r. ⌜ r ≡ placeOf n ⌝ }
+    ensures { λ r. ⌜ InCodes r ⌝ }
+{
+    match n {
+        1 => 10,
+        2 => 163,
+        3 => 212,
+        4 => 275,
+        5 => 322,
+        11 => 360,
+        15 => 483,
+        51 => 533,
+        55 => 611,
+        201 => 663,
+        281 => 771,
+        311 => 819,
+        291 => 867,
+        391 => 915,
+        301 => 968,
+        401 => 1090,
+        501 => 1122,
+        411 => 1155,
+        601 => 1202,
+        701 => 1238,
+        _ => 0,
+    }
+}
+
+// The first fault of the items from a position on, item by item from the left.
+fn items_fault(codes: &[usize; 83], place: usize, provider: bool, s: &[u8], at: usize) -> u8
+    requires { ⌜ Lent (now codes) ⌝ }
+    requires { ⌜ InCodes place ⌝ }
+    ensures { λ r. ⌜ r ≡ itemsFault provider (sliceOf place) (itemsFrom (now (s .entry)) at) ⌝ }
+{
+    let mut k = place / 16;
+    let end = k + place % 16;
+    let mut i = at;
+    while k < end {
+        if s.len() < i {
+            return 0;
+        }
+        let e = item_stop(s, i);
+        let c = codes[k];
+        let f = items::item_fault(c, provider, &s[i..e]);
+        if f != 0 {
+            return f;
+        }
+        i = e + 1;
+        k += 1;
+    }
+    0
+}
+
+// ---- pairs
+
+// The code is empty exactly when its kind is empty or 1.
+fn code_pair(k: &[u8], c: &[u8]) -> bool
+    ensures { λ r. ⌜ r ≡ codeRaw (now (k .entry)) (now (c .entry)) ⌝ }
+{
+    let a = c.len() == 0;
+    let n = digits::plain_number(k);
+    let b = (k.len() == 0) | (n == 1);
+    (a & b) | (!a & !b)
+}
+
+fn quantity_one(q: &[u8]) -> bool
+    ensures { λ r. ⌜ r ≡ orEmpty (quantity (now (q .entry))) (isNum (quantity (now (q .entry))) 1) ⌝ }
+{
+    let v = digits::short_value(q);
+    (q.len() == 0) | ((v == 1000) | (v == 1))
+}
+
+fn is_unit(u: &[u8], a: u8, b: u8, c: u8, d: u8) -> bool
+    ensures { λ r. ⌜ r ≡ same (now (u .entry)) (a ∷ b ∷ c ∷ d ∷ []) ⌝ }
+{
+    let w = lists::byte_at(u, 0);
+    let x = lists::byte_at(u, 1);
+    let y = lists::byte_at(u, 2);
+    let z = lists::byte_at(u, 3);
+    (u.len() == 4) & ((w == a) & ((x == b) & ((y == c) & (z == d))))
+}
+
+// The form of a 301 with its quantity and unit: "for one dispensing", "days" and "times".
+fn form_pair(f: &[u8], q: &[u8], u: &[u8]) -> bool
+    ensures { λ r. ⌜ r ≡ formRaw (now (f .entry)) (now (q .entry)) (now (u .entry)) ⌝ }
+{
+    let n = digits::plain_number(f);
+    let blank = u.len() == 0;
+    let once = blank | is_unit(u, 0x92, 0xb2, 0x8d, 0xdc);
+    let days = is_unit(u, 0x93, 0xfa, 0x95, 0xaa);
+    let times = is_unit(u, 0x89, 0xf1, 0x95, 0xaa);
+    if (n == 2) | (n == 4) | (n == 5) | (n == 9) | (n == 10) {
+        return quantity_one(q) & once;
+    }
+    if n == 1 {
+        return blank | days;
+    }
+    if n == 3 {
+        return blank | times;
+    }
+    if (n == 6) | (n == 7) {
+        return blank | (days | times);
+    }
+    true
+}
+
+// ---- facts
+
+// The value of an RP item, 0 where it is none.
+fn rp_value(s: &[u8]) -> u32
+    ensures { λ r. ⌜ r ≡ rpRaw (now (s .entry)) ⌝ }
+{
+    let v = digits::short_value(s);
+    if v <= 999 { v } else { 0 }
+}
+
+// The day of a date item, 0 where it is none.
+fn day_value(s: &[u8]) -> u32
+    ensures { λ r. ⌜ r ≡ dayRaw (now (s .entry)) ⌝ }
+{
+    match calendar::Day::read(s) {
+        calendar::DateRead::Date(d) => d.ymd,
+        calendar::DateRead::NotADate => 0,
+    }
+}
+
+// Whether the pairs of one line's values hold, and what the order looks at.
+pub struct Details {
+    pub paired: bool,
+    pub facts: order::Facts,
+}
+
+fn details_201(s: &[u8], at: usize) -> Details
+    ensures { λ r. ⌜ r ≡ detailsRaw 201 (itemsFrom (now (s .entry)) at) ⌝ }
+{
+    let first = item_at(s, at);
+    let name = item_at(s, first.next);
+    let dose = item_at(s, name.next);
+    let unit = item_at(s, dose.next);
+    let kind = item_at(s, unit.next);
+    let code = item_at(s, kind.next);
+    let a = first.from;
+    let b = first.to;
+    let rp = rp_value(&s[a..b]);
+    let c = kind.from;
+    let d = kind.to;
+    let e = code.from;
+    let f = code.to;
+    Details {
+        paired: code_pair(&s[c..d], &s[e..f]),
+        facts: order::Facts {
+            number: 201,
+            rp,
+            day: 0,
+            schedule: 0,
+            form: 0,
+            named: false,
+        },
+    }
+}
+
+// A 301 from its quantity on: whether its pairs hold, and its form.
+pub struct Usage {
+    pub paired: bool,
+    pub form: u32,
+}
+
+fn usage_from(s: &[u8], at: usize) -> Usage
+    ensures { λ r. ⌜ r ≡ usageRaw (itemsFrom (now (s .entry)) at) ⌝ }
+{
+    let quantity = item_at(s, at);
+    let unit = item_at(s, quantity.next);
+    let form = item_at(s, unit.next);
+    let kind = item_at(s, form.next);
+    let code = item_at(s, kind.next);
+    let a = kind.from;
+    let b = kind.to;
+    let c = code.from;
+    let d = code.to;
+    let coded = code_pair(&s[a..b], &s[c..d]);
+    let e = form.from;
+    let f = form.to;
+    let g = quantity.from;
+    let h = quantity.to;
+    let i = unit.from;
+    let j = unit.to;
+    let formed = form_pair(&s[e..f], &s[g..h], &s[i..j]);
+    Usage {
+        paired: coded & formed,
+        form: digits::plain_number(&s[e..f]),
+    }
+}
+
+fn details_301(s: &[u8], at: usize) -> Details
+    ensures { λ r. ⌜ r ≡ detailsRaw 301 (itemsFrom (now (s .entry)) at) ⌝ }
+{
+    let first = item_at(s, at);
+    let name = item_at(s, first.next);
+    let usage = usage_from(s, name.next);
+    let a = first.from;
+    let b = first.to;
+    let rp = rp_value(&s[a..b]);
+    Details {
+        paired: usage.paired,
+        facts: order::Facts {
+            number: 301,
+            rp,
+            day: 0,
+            schedule: 0,
+            form: usage.form,
+            named: !(name.from == name.to),
+        },
+    }
+}
+
+// A record without pairs of its own: what the order looks at is at most a value of its first item, or an 11's fee schedule.
+fn bare(number: u32, rp: u32, day: u32, schedule: u32) -> Details
+    ensures { λ r. ⌜ r ≡ bareDetails number rp day schedule ⌝ }
+{
+    Details {
+        paired: true,
+        facts: order::Facts {
+            number,
+            rp,
+            day,
+            schedule,
+            form: 0,
+            named: false,
+        },
+    }
+}
+
+fn details_5(s: &[u8], at: usize) -> Details
+    ensures { λ r. ⌜ r ≡ detailsRaw 5 (itemsFrom (now (s .entry)) at) ⌝ }
+{
+    let first = item_at(s, at);
+    let a = first.from;
+    let b = first.to;
+    bare(5, 0, day_value(&s[a..b]), 0)
+}
+
+fn details_11(s: &[u8], at: usize) -> Details
+    ensures { λ r. ⌜ r ≡ detailsRaw 11 (itemsFrom (now (s .entry)) at) ⌝ }
+{
+    let name = item_at(s, at);
+    let prefecture = item_at(s, name.next);
+    let schedule = item_at(s, prefecture.next);
+    let a = schedule.from;
+    let b = schedule.to;
+    bare(11, 0, 0, digits::plain_number(&s[a..b]))
+}
+
+// The value of the first item, for the records of an RP that have no pairs.
+fn first_rp(s: &[u8], at: usize) -> u32
+    ensures { λ r. ⌜ r ≡ rpRaw (getD (itemsFrom (now (s .entry)) at) 0 []) ⌝ }
+{
+    let first = item_at(s, at);
+    let a = first.from;
+    let b = first.to;
+    rp_value(&s[a..b])
+}
+
+// The records that have no pairs, but for 5 and 11.
+fn other_details(n: u32, s: &[u8], at: usize) -> Details
+    ensures { λ r. ⌜ r ≡ otherDetails n (itemsFrom (now (s .entry)) at) ⌝ }
+{
+    if (n == 281) | (n == 291) | (n == 311) | (n == 391) {
+        return bare(n, first_rp(s, at), 0, 0);
+    }
+    bare(n, 0, 0, 0)
+}
+
+fn record_details(n: u32, s: &[u8], at: usize) -> Details
+    ensures { λ r. ⌜ r ≡ detailsRaw n (itemsFrom (now (s .entry)) at) ⌝ }
+{
+    match n {
+        5 => details_5(s, at),
+        11 => details_11(s, at),
+        201 => details_201(s, at),
+        301 => details_301(s, at),
+        _ => other_details(n, s, at),
+    }
+}
+
+// ---- a line
+
+// What a record line is: its fault, or the facts of its record.
+pub enum LineRead {
+    Fault(u8),
+    Fine(order::Facts),
+}
+
+// Reads a record line; good: it is characters. In the order of document 01's table: 4, 6 or 5, 7, then the items from the left, then
+// the pairs.
+pub fn read_line(codes: &[usize; 83], provider: bool, good: bool, s: &[u8]) -> LineRead
+    requires { ⌜ Lent (now codes) ⌝ }
+    ensures { λ r. ⌜ r ≡ lineRead good provider (now (s .entry)) ⌝ }
+{
+    if !good {
+        return LineRead::Fault(4);
+    }
+    let start = 0;
+    let end = item_stop(s, start);
+    let n = digits::plain_number(&s[start..end]);
+    if n == 911 {
+        return LineRead::Fault(6);
+    }
+    let place = place_of(n);
+    if place == 0 {
+        return LineRead::Fault(5);
+    }
+    let count = count_items(s);
+    if count != place % 16 + 1 {
+        return LineRead::Fault(7);
+    }
+    let next = end + 1;
+    let f = items_fault(codes, place, provider, s, next);
+    if f != 0 {
+        return LineRead::Fault(f);
+    }
+    let d = record_details(n, s, next);
+    let paired = d.paired;
+    let facts = d.facts;
+    if paired {
+        LineRead::Fine(facts)
+    } else {
+        LineRead::Fault(12)
+    }
+}

@@ -1,0 +1,16 @@
+-- The worked examples of specs/Examples.antt come out as written there. Assumes nothing.
+use mathlib.Core.Path.{_≡_, refl}
+use mathlib.Core.Bool.{true, false}
+use Rattle.order.specs.Places.{inGroup, mayFollow}
+use Rattle.order.specs.Rules.{pairBroken, misplaced, continues, closesRp, lacking, missing, valueWrong, newerGroup, refusal, unfinished}
+use Rattle.order.specs.State.{none, start, hadAfter, advance, refusalOf, doctorOf, stepOf, finishOf}
+use Rattle.order.specs.Run.{ended, onward, runOf}
+use Rattle.order.specs.Examples.{holds, cases, doctors, twoGroups, theirDoctors}
+
+pub cases-hold : holds cases ≡ true
+unfolding inGroup mayFollow pairBroken misplaced continues closesRp lacking missing valueWrong newerGroup refusal unfinished none start hadAfter advance refusalOf stepOf finishOf ended onward runOf
+cases-hold = refl
+
+pub doctors-hold : doctors (start false) twoGroups ≡ theirDoctors
+unfolding none start hadAfter advance doctorOf
+doctors-hold = refl

@@ -1,0 +1,26 @@
+-- `State::finish` meets its contract. Assumes nothing.
+use Rattle.order.specs.State.{finishOf}
+use Rattle.order.specs.Rules.{unfinished}
+use borrow.Author.Needs.{needs}
+use Rattle.order.proofs.State.finish.Statement.{statement}
+use Rattle.order.proofs.State.finish.Tie as tie
+
+in-rp-requires : tie.Need-in-rp-requires
+in-rp-requires c κs = search needs
+
+in-group-requires : tie.Need-in-group-requires
+in-group-requires c κs = search needs
+
+lacking-requires : tie.Need-lacking-requires
+lacking-requires c κs = search needs
+
+pick-requires : tie.Need-pick-requires
+pick-requires c κs = search needs
+
+returns : tie.Need-returns
+unfolding finishOf unfinished
+returns c = cc
+
+pub finish-spec : {M : Type 1} → statement M
+finish-spec =
+    tie.close (tie.spec in-rp-requires in-group-requires lacking-requires pick-requires returns)

@@ -1,0 +1,12 @@
+-- `State::newer_group` meets its contract. Assumes nothing.
+use Rattle.order.specs.Rules.{newerGroup}
+use mathlib.Core.Path.{refl}
+use Rattle.order.proofs.State.newer_group.Statement.{statement}
+use Rattle.order.proofs.State.newer_group.Tie as tie
+
+returns : tie.Need-returns
+unfolding newerGroup
+returns c = refl
+
+pub newer-group-spec : {M : Type 1} → statement M
+newer-group-spec = tie.close (tie.spec returns)

@@ -1,0 +1,29 @@
+-- `State::value_wrong` meets its contract. Assumes nothing.
+use Rattle.order.specs.Rules.{valueWrong}
+use borrow.Author.Needs.{needs}
+use Rattle.order.proofs.State.value_wrong.Statement.{statement}
+use Rattle.order.proofs.State.value_wrong.Tie as tie
+
+cast-next : tie.Need-cast-next
+cast-next c = search needs
+
+add-next : tie.Need-add-next
+add-next c = search needs
+
+cast-value : tie.Need-cast-value
+cast-value c = search needs
+
+continues-requires : tie.Need-continues-requires
+continues-requires c κs = search needs
+
+of-open-rp-requires : tie.Need-of-open-rp-requires
+of-open-rp-requires c κs = search needs
+
+returns : tie.Need-returns
+unfolding valueWrong
+returns c = cc
+
+pub value-wrong-spec : {M : Type 1} → statement M
+value-wrong-spec =
+    tie.close
+    (tie.spec cast-next add-next cast-value continues-requires of-open-rp-requires returns)

@@ -1,0 +1,84 @@
+-- The pattern state of document 01, "Each record moves the reader from one place of this pattern to the next": the state before the first
+-- record, the state after one more, and a step. `Room` is what a step asks, so that its counts fit.
+use Prim.Native.Nat.{ℕ, _+_, _≤_, _<_}
+use mathlib.Core.Bool.{Bool, true, false, cond}
+use mathlib.Core.List.{[], _∷_}
+use lib.Dec.{eqb}
+use Rattle.order.specs.declared.Had.{Had}
+use Rattle.order.specs.declared.State.{State}
+use Rattle.order.specs.declared.Facts.{Facts}
+use Rattle.order.specs.declared.Moved.{Moved}
+use Rattle.order.specs.declared.Moved.the-variants.{Refused, On}
+use Rattle.order.specs.Places.{oneOf, inRp, inGroup}
+use Rattle.order.specs.Questions.{beforeOf, askedOf}
+use Rattle.order.specs.Rules.{refusal, unfinished}
+
+-- a group that has had its 5 only
+unfoldable pub none : Had
+none = record { had11 = false; schedule = 0; had51 = false; had411 = false; rp = 0; had301 = false; doctor = 0; drug = 0 }
+
+-- before the first record: line 1 is read
+unfoldable pub start : Bool → State
+start provider = record { provider = provider; place = 0; line = 1; groups = 0; drugs = 0; day = 0; had = none }
+
+-- What the open group has had after a record at this line: a 5 begins a group, so that nothing reaches into it from the group before; a
+-- 201 has no 301 behind it yet.
+unfoldable pub hadAfter : Had → Facts → ℕ → Had
+hadAfter h r line = record {
+  had11 = cond (eqb (r .number) 5) false (cond (eqb (r .number) 11) true (h .had11));
+  schedule = cond (eqb (r .number) 5) 0 (cond (eqb (r .number) 11) (r .schedule) (h .schedule));
+  had51 = cond (eqb (r .number) 5) false (cond (eqb (r .number) 51) true (h .had51));
+  had411 = cond (eqb (r .number) 5) false (cond (eqb (r .number) 411) true (h .had411));
+  rp = cond (eqb (r .number) 5) 0 (cond (eqb (r .number) 201) (r .rp) (h .rp));
+  had301 = cond (eqb (r .number) 5) false (cond (eqb (r .number) 201) false (cond (eqb (r .number) 301) true (h .had301)));
+  doctor = cond (eqb (r .number) 5) 0 (cond (eqb (r .number) 55) line (h .doctor));
+  drug = cond (eqb (r .number) 5) 0 (cond (eqb (r .number) 201) line (h .drug));
+}
+
+unfoldable pub advance : State → Facts → State
+advance s r = record {
+  provider = s .provider;
+  place = r .number;
+  line = s .line + 1;
+  groups = cond (eqb (r .number) 5) (s .groups + 1) (s .groups);
+  drugs = cond (eqb (r .number) 201) (s .drugs + 1) (s .drugs);
+  day = cond (eqb (r .number) 5) (r .day) (s .day);
+  had = hadAfter (s .had) r (s .line + 1);
+}
+
+-- ---- a step
+
+-- the lowest refusal of this line, 0 where it is good
+unfoldable pub refusalOf : State → Facts → ℕ
+refusalOf s r = refusal (beforeOf s) (askedOf s r)
+
+-- the RP of a record 201 to 391, else 0
+unfoldable pub rpOf : Facts → ℕ
+rpOf r = cond (inRp (r .number)) (r .rp) 0
+
+-- "line of the last preceding 55 in the group for 201–391 (else 0)"; 3.2.9, record 55: the RPs up to the next 55 are of this doctor
+unfoldable pub doctorOf : State → Facts → ℕ
+doctorOf s r = cond (inRp (r .number)) (s .had .doctor) 0
+
+unfoldable pub stepOf : State → Facts → Moved
+stepOf s r = cond (eqb (refusalOf s r) 0) (On (advance s r) (rpOf r) (doctorOf s r)) (Refused (refusalOf s r))
+
+-- 14 at the end, or 0
+unfoldable pub finishOf : State → ℕ
+finishOf s = cond (unfinished (beforeOf s)) 14 0
+
+-- ---- index values of the last record, from the state after it
+
+-- "group ordinal (0 outside groups; 1 first)"
+unfoldable pub groupOf : State → ℕ
+groupOf s = cond (inGroup (s .place)) (s .groups) 0
+
+-- "line of the last preceding 201 for 281 and 291 (else 0)"
+unfoldable pub drugOf : State → ℕ
+drugOf s = cond (oneOf (s .place) (281 ∷ 291 ∷ [])) (s .had .drug) 0
+
+-- one more group, drug and line can be counted in 32 bits
+pub record Room (s : State) : Type 0 where
+  pub groups : s .groups ≤ s .line
+  pub drugs : s .drugs ≤ s .line
+  pub line : s .line < 4294967295
