@@ -5,8 +5,10 @@ use mathlib.Core.Bool.{Bool, true, false, cond, _&&_}
 use mathlib.Core.List.{List, [], _∷_}
 use native.Mathlib.Omega.{arith}
 use borrow.Author.Tests.{eq-eqb, ne-eqb}
+use lib.Dec.{eqb}
 use lib.ListN.{length, getD, drop, length-drop, List·getD-eq-default}
-use Rattle.lists.specs.Lists.{all, upTo, is, findFrom}
+use Rattle.lists.specs.Lists.{all, same, upTo, is, findFrom}
+use Rattle.lists.proofs.Tests.{same-true}
 use Rattle.lists.proofs.Cuts.{drop-step, drop-end, upTo-hit, upTo-go, upTo-out, upTo-le}
 
 pub past-end : (s : List ℕ) (i : ℕ) → length s ≤ i → 0 ≡ getD s i 0
@@ -62,3 +64,37 @@ find-low c s at = omega arith
 pub find-high : (c : ℕ) (s : List ℕ) (at : ℕ) → at ≤ length s → findFrom c s at ≤ length s
 unfolding findFrom
 find-high c s at h = omega (arith, upTo-le (is c) (drop at s), length-drop at s)
+
+-- ---- a loop that compares two lists
+
+pub record SameLeft (a b : List ℕ) (i : ℕ) : Type 0 where
+  pub left : same a b ≡ same (drop i a) (drop i b)
+  pub long : length a ≡ length b
+
+pub same-length : (a b : List ℕ) → (length a ≡ length b → ⊥) → false ≡ same a b
+same-length a b h = go (same a b) refl
+  where
+    go : (x : Bool) → same a b ≡ x → false ≡ x
+    go false e = refl
+    go true e = absurd (h (ap length (same-true a b e)))
+
+pub same-start : (a b : List ℕ) → length a ≡ length b → SameLeft a b 0
+same-start a b h = record { left = refl; long = h }
+
+module _ {a b : List ℕ} {i : ℕ} (v : SameLeft a b i) where
+  both-step : i < length a → same (drop i a) (drop i b) ≡ (eqb (getD a i 0) (getD b i 0) && same (drop (i + 1) a) (drop (i + 1) b))
+  both-step h = let k : i < length b = omega (arith, v .long) in rw (drop-step a i 0 h, drop-step b i 0 k)
+
+  pub same-stop : i < length a → (getD a i 0 ≡ getD b i 0 → ⊥) → false ≡ same a b
+  same-stop h t = sym (v .left ∙ both-step h ∙ rw (ne-eqb _ _ t))
+
+  pub same-go : i < length a → getD a i 0 ≡ getD b i 0 → SameLeft a b (i + 1)
+  same-go h t = record { left = v .left ∙ both-step h ∙ rw (eq-eqb _ _ t); long = v .long }
+
+  pub same-out : length a ≤ i → true ≡ same a b
+  same-out h = let k : length b ≤ i = omega (arith, v .long) in sym (v .left ∙ rw (drop-end a i h, drop-end b i k))
+
+  pub same-inside : i < length a → i < length b
+  same-inside h = omega (arith, v .long)
+
+pub ruleset same-laws = (same-length, same-start, same-stop, same-go, same-out, same-inside)

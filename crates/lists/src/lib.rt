@@ -3,7 +3,7 @@
 ghost use mathlib.Core.Path.{_≡_};
 ghost use Prim.Native.Nat.{_-_};
 ghost use lib.ListN.{getD};
-ghost use Rattle.lists.specs.Lists.{findFrom};
+ghost use Rattle.lists.specs.Lists.{same, findFrom};
 
 // The byte at an index, 0 past the end.
 pub fn byte_at(s: &[u8], i: usize) -> u8
@@ -31,4 +31,21 @@ pub fn find_byte(s: &[u8], at: usize, c: u8) -> usize
         i += 1;
     }
     i
+}
+
+// Whether two slices hold the same bytes.
+pub fn same_bytes(a: &[u8], b: &[u8]) -> bool
+    ensures { λ r. ⌜ r ≡ same (now (a .entry)) (now (b .entry)) ⌝ }
+{
+    if a.len() != b.len() {
+        return false;
+    }
+    let mut i = 0;
+    while i < a.len() {
+        if a[i] != b[i] {
+            return false;
+        }
+        i += 1;
+    }
+    true
 }

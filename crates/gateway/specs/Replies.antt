@@ -1,0 +1,14 @@
+-- What each call replies, in document 01's numbers: the refusal and its line, or 0 and the values of the call's result. Fields that a
+-- reply does not use are 0.
+use Prim.Native.Nat.{ℕ}
+use Rattle.notebook.specs.declared.Checked.{Checked}
+use Rattle.notebook.specs.declared.Checked.the-variants.{Accepted, Refused}
+use Rattle.gateway.specs.declared.Reply.{Reply}
+
+abbrev pub refusal : ℕ → ℕ → Reply
+refusal n line = record { refusal = n; line = line; a = 0; b = 0; c = 0 }
+
+-- "Check returns the counts of records, groups and 201s": a records, b groups, c drugs
+abbrev pub checkReply : Checked → Reply
+checkReply (Accepted records groups drugs) = record { refusal = 0; line = 0; a = records; b = groups; c = drugs }
+checkReply (Refused n line) = refusal n line

@@ -1,0 +1,102 @@
+// Files: line 1, the records in their order, and the end. `check` is one pass: each line is found, read and put in its place before
+// the next one is looked at, so the first faulty line is the one that answers.
+// Definitions: specs/Notebook.antt (what a file is read to), specs/Check.antt.
+ghost use mathlib.Core.Path.{_≡_};
+ghost use lib.ListN.{length, drop};
+ghost use Rattle.characters.specs.Rows.{rows};
+ghost use Rattle.order.specs.State.{start};
+ghost use Rattle.lines.specs.Codes.{Lent};
+ghost use Rattle.notebook.specs.Notebook.{closed as closedOf, recordsFrom};
+ghost use Rattle.notebook.specs.Check.{checkOf, tally, directionOf, Behind, Closing};
+
+// The counts of records, groups and drugs; or a refusal's number and line.
+pub enum Checked {
+    Accepted(u32, u32, u32),
+    Refused(u32, u32),
+}
+
+// 1 for provider to patient, 2 for patient to provider, 0 for a line that is no line 1.
+fn direction(line: &[u8]) -> u32
+    ensures { λ r. ⌜ r ≡ directionOf (now (line .entry)) ⌝ }
+{
+    let provider = b"JAHISTC04,1";
+    if lists::same_bytes(line, provider) {
+        return 1;
+    }
+    let patient = b"JAHISTC04,2";
+    if lists::same_bytes(line, patient) {
+        return 2;
+    }
+    0
+}
+
+// The end of a file: what is missing there, or the counts.
+fn close(st: order::State) -> Checked
+    requires { ⌜ Closing st ⌝ }
+    ensures { λ r. ⌜ r ≡ tally st (closedOf st) ⌝ }
+{
+    let missing = st.finish();
+    if missing == 0 {
+        return Checked::Accepted(st.line - 1, st.groups, st.drugs);
+    }
+    Checked::Refused(missing, st.line + 1)
+}
+
+// The records of a file from behind line 1 on.
+fn check_records(codes: &[usize; 83], provider: bool, s: &[u8], from: usize) -> Checked
+    requires { ⌜ Lent (now codes) ⌝ }
+    requires { ⌜ Behind (now s) from ⌝ }
+    ensures { λ r. ⌜ r ≡ tally (start provider) (recordsFrom (start provider) (rows (drop from (now (s .entry))))) ⌝ }
+{
+    let mut st = order::State::new(provider);
+    let mut at = from;
+    loop {
+        match characters::line_at(s, at) {
+            characters::Line::End => return close(st),
+            characters::Line::Mark => return close(st),
+            characters::Line::Broken => return Checked::Refused(2, st.line + 1),
+            characters::Line::Whole(end, good) => {
+                match lines::read_line(codes, provider, good, &s[at..end]) {
+                    lines::LineRead::Fault(n) => {
+                        return Checked::Refused(digits::wide(n), st.line + 1);
+                    }
+                    lines::LineRead::Fine(facts) => match st.step(facts) {
+                        order::Moved::Refused(n) => return Checked::Refused(n, st.line + 1),
+                        order::Moved::On(next, _, _) => {
+                            st = next;
+                            at = end + 2;
+                        }
+                    },
+                }
+            }
+        }
+    }
+}
+
+// The counts of an accepted file, or the one refusal with its line.
+pub fn check(s: &[u8]) -> Checked
+    ensures { λ r. ⌜ r ≡ checkOf (now (s .entry)) ⌝ }
+{
+    let len = s.len();
+    if 65536 < len {
+        return Checked::Refused(1, 0);
+    }
+    let codes = lines::CODES;
+    let start = 0;
+    match characters::line_at(s, start) {
+        characters::Line::End => return Checked::Refused(2, 1),
+        characters::Line::Mark => return Checked::Refused(2, 1),
+        characters::Line::Broken => return Checked::Refused(2, 1),
+        characters::Line::Whole(end, _) => {
+            let d = direction(&s[start..end]);
+            let from = end + 2;
+            if d == 1 {
+                return check_records(&codes, true, s, from);
+            }
+            if d == 2 {
+                return check_records(&codes, false, s, from);
+            }
+            Checked::Refused(3, 1)
+        }
+    }
+}
