@@ -1,0 +1,408 @@
+"""A plain reading of check from document 01, for comparing with the gateway.
+
+check(data) answers ("ok", records, groups, drugs) or ("no", number, line).
+Whatever a record's standing depends on is found by looking back over the list
+of the records before it, so that the rules are not told a second time as a
+state machine.
+"""
+
+import datetime
+import re
+import unicodedata
+from collections import namedtuple
+
+LIMIT = 65536
+
+# --- characters: from Python's codec, not from 01's table of cells -----------
+
+
+def _decoded(raw):
+    """The one character that these bytes are, or None."""
+    try:
+        text = raw.decode("shift_jis")
+    except UnicodeDecodeError:
+        return None
+    return text if len(text) == 1 else None
+
+
+def _row_and_cell(pair):
+    """Row and cell of JIS X 0208, by way of the ISO-2022-JP codec."""
+    raw = _decoded(pair).encode("iso2022_jp")
+    assert raw[:3] == b"\x1b$B" and len(raw) == 8
+    return raw[3] - 0x20, raw[4] - 0x20
+
+
+# The codec also takes the control characters 00h-1Fh and 7Fh: left out.
+ONE_BYTE = {
+    bytes([b])
+    for b in range(256)
+    if _decoded(bytes([b])) and unicodedata.category(_decoded(bytes([b]))) != "Cc"
+}
+
+# JIS X 0208-1990 added 84-5 and 84-6, so 1983 is the codec without these two.
+TWO_BYTE = {
+    bytes([a, b])
+    for a in range(0x80, 256)
+    for b in range(256)
+    if _decoded(bytes([a, b]))
+}
+_ADDED_1990 = {"凜".encode("shift_jis"), "熙".encode("shift_jis")}
+assert {_row_and_cell(pair) for pair in _ADDED_1990} == {(84, 5), (84, 6)}
+TWO_BYTE -= _ADDED_1990
+assert len(TWO_BYTE) == 6877
+assert len(ONE_BYTE) == 95 + 63
+
+
+def characters(raw):
+    """The list of characters, each as its bytes; None if one is no character."""
+    found, at = [], 0
+    while at < len(raw):
+        for length, allowed in ((1, ONE_BYTE), (2, TWO_BYTE)):
+            if raw[at : at + length] in allowed:
+                found.append(raw[at : at + length])
+                at += length
+                break
+        else:
+            return None
+    return found
+
+
+# --- items ------------------------------------------------------------------
+
+FIRST_DAY = datetime.date(1873, 1, 1)
+LAST_DAY = datetime.date(2087, 12, 31)
+
+# letter: year before year 1, first day, last day
+ERAS = {
+    b"M": (1867, FIRST_DAY, datetime.date(1912, 7, 29)),
+    b"T": (1911, datetime.date(1912, 7, 30), datetime.date(1926, 12, 24)),
+    b"S": (1925, datetime.date(1926, 12, 25), datetime.date(1989, 1, 7)),
+    b"H": (1988, datetime.date(1989, 1, 8), LAST_DAY),
+}
+
+
+def day(raw):
+    """The day that a D item names, or None."""
+    western = re.fullmatch(rb"([0-9]{4})([0-9]{2})([0-9]{2})", raw)
+    era = re.fullmatch(rb"([MTSH])([0-9]{2})([0-9]{2})([0-9]{2})", raw)
+    try:
+        if western:
+            found = datetime.date(*(int(part) for part in western.groups()))
+            first, last = FIRST_DAY, LAST_DAY
+        elif era:
+            before, first, last = ERAS[era[1]]
+            found = datetime.date(before + int(era[2]), int(era[3]), int(era[4]))
+        else:
+            return None
+    except ValueError:
+        return None
+    return found if first <= found <= last else None
+
+
+PATTERNS = {
+    "A": rb"[1289]",
+    "F": rb"0[1-9]|[123][0-9]|4[0-7]",
+    "C": rb"[0-9]{7}",
+    "P": rb"[0-9]{3}-?[0-9]{4}",
+    "R": rb"(?!0+\Z)[0-9]{1,3}",
+    "W": rb"(0|[1-9][0-9]{0,2})(\.[0-9]{0,2}[1-9])?",
+    "Q": rb"(0|[1-9][0-9]{0,5})(\.[0-9]{0,4}[1-9])?",
+    "X": rb"[A-Za-z0-9.-]+",
+}
+
+# name: items in order. An item is kind, most bytes (N, U, X) or values
+# (braces, written as one string), and its need.
+TABLE = {
+    "1": ["U 40 !", "= 1/2 !", "D !", "P ?", "N 800 ?", "X 13 ?", "N 800 ?",
+          "N 20 ?", "W ?", "U 40 ?"],
+    "2": ["= 1/2/3/9 !", "N 120 !", "A !"],
+    "3": ["N 120 !", "D ?", "D ?", "A !"],
+    "4": ["N 400 !", "D ?", "A !"],
+    "5": ["D !", "A !"],
+    "11": ["N 120 !", "F +", "= 1/3/4 +", "C ?", "P ?", "N 800 ?", "X 13 ?",
+           "A !"],
+    "15": ["N 40 !", "N 800 ?", "A !"],
+    "51": ["N 120 !", "F +", "= 1/3 +", "C ?", "A !"],
+    "55": ["N 40 !", "N 80 ?", "A !"],
+    "201": ["R !", "N 120 !", "Q !", "N 12 !", "= 1/2/3/4/6 +", "X 13 ?", "A !"],
+    "281": ["R !", "N 100 !", "A !"],
+    "291": ["R !", "N 400 !", "A !"],
+    "301": ["R !", "N 100 ?", "R +", "N 100 +", "= 1/2/3/4/5/6/7/9/10 +",
+            "= 1/2 +", "X 16 ?", "A !"],
+    "311": ["R !", "N 100 !", "A !"],
+    "391": ["R !", "N 400 !", "A !"],
+    "401": ["N 400 !", "A !"],
+    "411": ["N 400 !", "= 30/31/99 !", "A !"],
+    "501": ["N 400 !", "A !"],
+    "601": ["N 400 !", "D ?"],
+    "701": ["N 40 !", "N 120 !", "N 800 !", "D ?", "D ?", "A !"],
+}
+
+EDGES = {b" ", b"\x81\x40"}
+
+
+def item_fault(direction, item, rule):
+    """8, 9, 10, 11 or None for one item."""
+    parts = rule.split()
+    kind, need = parts[0], parts[-1]
+    if item == b"":
+        return 8 if need == "!" or (need == "+" and direction == 1) else None
+    if kind in ("N", "U", "X"):
+        if len(item) > int(parts[1]):
+            return 9
+        found = characters(item)
+        if found[0] in EDGES or found[-1] in EDGES:
+            return 10
+        if len(item) >= 2 and item[:1] == item[-1:] and item[:1] in (b'"', b"'"):
+            return 10
+        if kind == "U" and len({len(one) for one in found}) > 1:
+            return 11
+        if kind == "X" and not re.fullmatch(PATTERNS["X"], item):
+            return 11
+    elif kind == "D":
+        return None if day(item) else 11
+    elif kind == "=":
+        return None if item in [v.encode() for v in parts[1].split("/")] else 11
+    elif not re.fullmatch(PATTERNS[kind], item):
+        return 11
+    return None
+
+
+# --- pairs ------------------------------------------------------------------
+
+Record = namedtuple("Record", "number items")
+
+PREPARATION = bytes.fromhex("92B28DDC")
+DAYS = bytes.fromhex("93FA95AA")
+TIMES = bytes.fromhex("89F195AA")
+
+
+def open_group(before):
+    """The records from the last 5 on; empty where no group is open."""
+    numbers = [r.number for r in before]
+    if 5 not in numbers or 701 in numbers:
+        return []
+    return before[len(numbers) - 1 - numbers[::-1].index(5) :]
+
+
+def institution(group):
+    """The kind in the group's 11, or None without one."""
+    kinds = [r.items[2] for r in group if r.number == 11]
+    return kinds[0] if kinds else None
+
+
+def pair_fault(direction, before, rec):
+    if rec.number not in (201, 301):
+        return False
+    kind, code = rec.items[-3], rec.items[-2]
+    if (code == b"") != (kind in (b"", b"1")):
+        return True
+    if rec.number == 201:
+        return False
+    _, usage, quantity, unit, form = rec.items[:5]
+    if form in (b"2", b"4", b"5", b"9", b"10"):
+        if quantity != b"" and int(quantity) != 1:
+            return True
+        units = [PREPARATION]
+    elif form == b"1":
+        units = [DAYS]
+    elif form == b"3":
+        units = [TIMES]
+    elif form in (b"6", b"7"):
+        units = [DAYS, TIMES]
+    else:
+        units = [unit]
+    if unit != b"" and unit not in units:
+        return True
+    asked = direction == 2 or (
+        institution(open_group(before)) == b"4" and form not in (b"9", b"10")
+    )
+    return asked and usage == b""
+
+
+# --- place ------------------------------------------------------------------
+
+OF_RP = (201, 281, 291, 301, 311, 391)
+
+# Which part of a group a record belongs to; the parts stand in this order.
+PART = {11: 1, 15: 2, 51: 3, 55: 4, 401: 5, 411: 6, 501: 7, 601: 8}
+PART.update((number, 4) for number in OF_RP)
+
+# Which records of an RP may stand right before one of it (a 201 needs none).
+RIGHT_BEFORE = {
+    281: (201, 281),
+    291: (201, 281, 291),
+    301: (201, 281, 291),
+    311: (301, 311),
+    391: (201, 281, 291, 301, 311, 391),
+}
+
+
+def may_stand(direction, before, number):
+    numbers = [r.number for r in before]
+    last = numbers[-1] if numbers else None
+    if last == 55 and number != 201:
+        return False
+    if direction == 1 and last == 51 and number not in (55, 201):
+        return False
+    if number == 1:
+        return numbers == []
+    if number in (2, 3, 4):
+        return all(earlier <= number for earlier in numbers)
+    if number == 5:
+        return 701 not in numbers
+    if number == 701:
+        return True
+    group = open_group(before)
+    if not group:
+        return False
+    inside = [r.number for r in group[1:]]
+    if any(PART[earlier] > PART[number] for earlier in inside):
+        return False
+    if number in (11, 15, 51) and number in inside:
+        return False
+    if direction == 1:
+        if number in (51, 55) and institution(group) in (b"1", b"3"):
+            return False
+        if number == 401 and 201 not in inside:
+            return False
+    if number == 55:
+        return 201 not in inside or 55 in inside
+    if number in RIGHT_BEFORE:
+        return last in RIGHT_BEFORE[number]
+    return True
+
+
+# --- prescriptions ----------------------------------------------------------
+
+
+def begins_rp(group, rec):
+    """Whether this 201 begins an RP, standing after these records of a group."""
+    if group[-1].number not in (201, 281, 291):
+        return True
+    return int(group[-1].items[0]) != int(rec.items[0])
+
+
+def prescriptions(group):
+    """The group's RPs so far, each as its list of records."""
+    found = []
+    for at, rec in enumerate(group):
+        if rec.number == 201 and begins_rp(group[at - 1 : at], rec):
+            found.append([])
+        if rec.number in OF_RP:
+            found[-1].append(rec)
+    return found
+
+
+def value_fault(before, rec):
+    if rec.number not in OF_RP:
+        return False
+    group = open_group(before)
+    rps = prescriptions(group)
+    expected = int(rps[-1][0].items[0]) if rps else 0
+    if rec.number == 201 and begins_rp(group, rec):
+        expected += 1
+    return int(rec.items[0]) != expected
+
+
+# --- what is missing where a part closes --------------------------------------
+
+
+def missing(direction, before, rec):
+    """Whether 14 is due at this record, which may stand; None for the end."""
+    number = rec.number if rec else None
+    numbers = [r.number for r in before]
+    if rec is None and numbers and numbers[-1] == 55:
+        return True
+    if direction == 2:
+        return numbers == [] and number != 1
+
+    if rec is None and numbers and numbers[-1] == 51:
+        return True
+    if number in (701, None) and 5 not in numbers:
+        return True
+    group = open_group(before)
+    if not group:
+        return False
+    rps = prescriptions(group)
+    if group[-1].number in OF_RP:
+        of_it = number in OF_RP and not (number == 201 and begins_rp(group, rec))
+        if not of_it and 301 not in [r.number for r in rps[-1]]:
+            return True
+    if number in (5, 701, None):
+        inside = [r.number for r in group]
+        if 11 not in inside:
+            return True
+        if rps and institution(group) == b"4" and 51 not in inside:
+            return True
+        if not rps and 411 not in inside:
+            return True
+    return False
+
+
+def newer(before, rec):
+    if rec.number != 5:
+        return False
+    days = [day(r.items[0]) for r in before if r.number == 5]
+    return days != [] and day(rec.items[0]) > days[-1]
+
+
+# --- check ------------------------------------------------------------------
+
+
+def record_fault(direction, before, line):
+    """(number of the refusal or None, the record if there is one)"""
+    if characters(line) is None:
+        return 4, None
+    name, *items = line.split(b",")
+    name = name.decode("shift_jis")
+    if name == "911":
+        return 6, None
+    if name not in TABLE:
+        return 5, None
+    rules = TABLE[name]
+    if len(items) != len(rules):
+        return 7, None
+    for item, rule in zip(items, rules):
+        fault = item_fault(direction, item, rule)
+        if fault:
+            return fault, None
+    rec = Record(int(name), items)
+    if pair_fault(direction, before, rec):
+        return 12, None
+    if not may_stand(direction, before, rec.number):
+        return 13, None
+    if missing(direction, before, rec):
+        return 14, None
+    if value_fault(before, rec):
+        return 15, None
+    if newer(before, rec):
+        return 16, None
+    return None, rec
+
+
+def check(data):
+    if len(data) > LIMIT:
+        return ("no", 1, 0)
+    *lines, rest = data.split(b"\r\n")
+    records = []
+    direction = None
+    for at, line in enumerate(lines, 1):
+        if re.search(rb"[\r\n\x1a]", line):
+            return ("no", 2, at)
+        if at == 1:
+            if line not in (b"JAHISTC04,1", b"JAHISTC04,2"):
+                return ("no", 3, 1)
+            direction = int(line[-1:])
+            continue
+        fault, rec = record_fault(direction, records, line)
+        if fault:
+            return ("no", fault, at)
+        records.append(rec)
+    end = len(lines) + 1
+    if lines == [] or rest not in (b"", b"\x1a"):
+        return ("no", 2, end)
+    if missing(direction, records, None):
+        return ("no", 14, end)
+    numbers = [r.number for r in records]
+    return ("ok", len(numbers), numbers.count(5), numbers.count(201))
