@@ -18,7 +18,7 @@ use Rattle.lists.proofs.Cuts.{drop-step, drop-end, two-on, last-on, take-upTo, 
 use Rattle.characters.specs.declared.Scan.{Scan}
 use Rattle.characters.specs.declared.Line.{Line}
 use Rattle.characters.specs.declared.Line.the-variants.{Whole, Mark, End, Broken}
-use Rattle.characters.specs.Text.{allChars, isStop, clean, text, ScanOf}
+use Rattle.characters.specs.Text.{allChars, isStop, clean, text, commaCount, ScanOf}
 use Rattle.characters.specs.Rows.{consRow, rows, flat, lineEnd, isLine, endMark, WholeLine, BrokenRow, LineMeans, LineOf}
 
 -- ---- rows are the file
@@ -203,7 +203,7 @@ module _ (s : List ℕ) (at : ℕ) where
       pub line-no-feed : (getD s ((r .end) + 1) 0 ≡ 0x0a → ⊥) → LineOf s at Broken
       line-no-feed f = broken-at (λ _ _ b. f b) (λ a b _. absurd (omega arith))
 
-      pub line-whole : getD s (r .end) 0 ≡ 0x0d → getD s ((r .end) + 1) 0 ≡ 0x0a → LineOf s at (Whole (r .end) (r .good))
+      pub line-whole : getD s (r .end) 0 ≡ 0x0d → getD s ((r .end) + 1) 0 ≡ 0x0a → LineOf s at (Whole (r .end) (r .good) (r .commas))
       line-whole a b =
           let t : text (drop at s) ≡ part s at (r .end) = sym (take-upTo isStop (drop at s)) ∙ ap (λ (j : ℕ). take j (drop at s)) text-length in
           let m : at + length (text (drop at s)) ≡ (r .end) = omega (arith, v .ends) in
@@ -218,6 +218,7 @@ module _ (s : List ℕ) (at : ℕ) where
               cut = ap rows w ∙ rows-line (part s at (r .end)) (drop ((r .end) + 2) s) c;
               clear = c;
               chars = v .chars ∙ ap allChars t;
+              commas = v .commas ∙ ap commaCount t;
             };
           }
 

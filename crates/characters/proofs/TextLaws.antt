@@ -1,21 +1,21 @@
 -- Laws of specs/Text one character at a time, and the loop of `scan_text`. Assumes nothing.
 use Prim.Native.Nat.{ℕ, zero, suc, _+_, _-_, _≤_, _<_}
 use mathlib.Core.Path.{_≡_, refl, sym, ap, _∙_, subst}
-use mathlib.Core.Bool.{Bool, true, false, cond, not, _&&_, _||_, and-true, and-false, false≢true}
-use mathlib.Core.Logic.{_⊎_, ⊎-elim}
+use mathlib.Core.Bool.{Bool, true, false, cond, not, _&&_, _||_, and-true, and-false, false≢true, true≢false}
+use mathlib.Core.Logic.{_⊎_, inl, inr, ⊎-elim}
 use mathlib.Core.List.{List, [], _∷_, _++_}
 use native.Mathlib.Omega.{arith}
-use borrow.Author.Tests.{le-leb, lt-leb, leb-true, leb-false, ne-eqb}
+use native.Mathlib.Nat.{add-zero, zero-add}
+use borrow.Author.Tests.{le-leb, lt-leb, leb-true, leb-false, eqb-true, eq-eqb, ne-eqb}
 use lib.Dec.{leb, eqb}
 use lib.ListN.{length, take, drop, getD}
 use lib.Seq.{drop-drop}
 use Rattle.lists.specs.Lists.{within, all, upTo}
-use Rattle.lists.proofs.Tests.{both, either, neither}
+use Rattle.lists.proofs.Tests.{both, either, or-first, within-in, within-above, below, below-at}
 use Rattle.lists.proofs.Cuts.{drop-step, drop-end, two-on}
-use Rattle.characters.specs.declared.Char.{Char}
-use Rattle.characters.specs.declared.Char.the-variants.{One, Two, Bad}
-use Rattle.characters.specs.Cells.{isOne, isPair, isTrail, isLead}
-use Rattle.characters.specs.Text.{charOf, charAt, allChars, isStop, clean, text, ScanOf}
+use Rattle.characters.specs.Cells.{isOne, isPair, isTrail, isLead, allowed, fullRow, partRow}
+use Rattle.characters.specs.Text.{Char, One, Two, Bad, charOf, charAt, allChars, isStop, clean, commaCount, text, ScanOf}
+use Rattle.characters.specs.Classes.{wholeLead, classOf, classesFrom, Classes, isKana, LeadAt, PairAt}
 
 -- ---- no character has a 0Dh, 0Ah or 1Ah in it
 
@@ -58,44 +58,59 @@ chars-clean (a ∷ b ∷ r) e = go (isOne a) refl (isPair a b) refl (chars-clean
 
 -- ---- one character of a text, as `char_at` tells it
 
-tells-one : (a : ℕ) (l : List ℕ) → charOf (a ∷ l) ≡ One → isOne a ≡ true
-tells-one a [] h = go (isOne a) h
-  where
-    go : (b : Bool) → cond b One Bad ≡ One → b ≡ true
-    go true e = refl
-    go false e = cc
-tells-one a (b ∷ r) h = go (isOne a) (isPair a b) h
-  where
-    go : (x y : Bool) → cond x One (cond y Two Bad) ≡ One → x ≡ true
-    go true y e = refl
-    go false true e = cc
-    go false false e = cc
-
 one-char : (a : ℕ) (l : List ℕ) → isOne a ≡ true → allChars (a ∷ l) ≡ allChars l
 one-char a [] h = h
 one-char a (b ∷ r) h = simp h
 
-one-text : (a : ℕ) (l : List ℕ) → charOf (a ∷ l) ≡ One → (length (text (a ∷ l)) ≡ 1 + length (text l)) × (allChars (text (a ∷ l)) ≡ allChars (text l))
-one-text a l h =
-    let o : isOne a ≡ true = tells-one a l h in
-    (simp (one-go a o) (omega arith), simp (one-go a o) (one-char a (text l) o))
+-- a text by what is left of it behind its first n bytes
+record Leaves (l r : List ℕ) (n : ℕ) : Type 0 where
+  size : length (text l) ≡ n + length (text r)
+  chars : allChars (text l) ≡ allChars (text r)
 
-two-text : (a : ℕ) (l : List ℕ) → charOf (a ∷ l) ≡ Two
-    → (length (text (a ∷ l)) ≡ 2 + length (text (drop 1 l))) × (allChars (text (a ∷ l)) ≡ allChars (text (drop 1 l)))
-two-text a [] h = go (isOne a) h
+one-text : (a : ℕ) (l : List ℕ) → isOne a ≡ true → Leaves (a ∷ l) l 1
+one-text a l o = record { size = simp (one-go a o) (omega arith); chars = simp (one-go a o) (one-char a (text l) o) }
+
+-- a lead is no comma, and neither is a trail
+lead-high : (a : ℕ) → isLead a ≡ true → 0x81 ≤ a
+lead-high a e =
+    ⊎-elim
+    (λ h. leb-true 0x81 a (both (leb 0x81 a) (leb a 0x9f) h .0))
+    (λ h. omega (arith, leb-true 0xe0 a (both (leb 0xe0 a) (leb a 0xef) h .0)))
+    (either (within 0x81 0x9f a) (within 0xe0 0xef a) e)
+
+trail-high : (b : ℕ) → isTrail b ≡ true → 0x40 ≤ b
+trail-high b e =
+    ⊎-elim
+    (λ h. leb-true 0x40 b (both (leb 0x40 b) (leb b 0x7e) h .0))
+    (λ h. omega (arith, leb-true 0x80 b (both (leb 0x80 b) (leb b 0xfc) h .0)))
+    (either (within 0x40 0x7e b) (within 0x80 0xfc b) e)
+
+no-comma : (b : ℕ) → 0x40 ≤ b → eqb b 0x2c ≡ false
+no-comma b h = ne-eqb b 0x2c (λ e. omega arith)
+
+two-parts : (a b : ℕ) (r : List ℕ) → charOf (a ∷ b ∷ r) ≡ Two → (isOne a ≡ false) × (isPair a b ≡ true)
+two-parts a b r h = go (isOne a) (isPair a b) h
   where
-    go : (b : Bool) → cond b One Bad ≡ Two → (length (text (a ∷ [])) ≡ 2 + length (text [])) × (allChars (text (a ∷ [])) ≡ allChars (text []))
-    go true e = let z : _≡_ {A = ℕ} 0 1 = cc in absurd (omega arith)
-    go false e = let z : _≡_ {A = ℕ} 0 1 = cc in absurd (omega arith)
-two-text a (b ∷ r) h = go (isOne a) refl (isPair a b) refl h
+    go : (x y : Bool) → cond x One (cond y Two Bad) ≡ Two → (x ≡ false) × (y ≡ true)
+    go true y e = let z : _≡_ {A = ℕ} 0 1 = cc in absurd (omega arith)
+    go false false e = let z : _≡_ {A = ℕ} 0 1 = cc in absurd (omega arith)
+    go false true e = (refl, refl)
+
+two-lone : (a : ℕ) → charOf (a ∷ []) ≡ Two → ⊥
+two-lone a h = go (isOne a) h
   where
-    go : (x : Bool) → isOne a ≡ x → (y : Bool) → isPair a b ≡ y → cond x One (cond y Two Bad) ≡ Two
-        → (length (text (a ∷ b ∷ r)) ≡ 2 + length (text r)) × (allChars (text (a ∷ b ∷ r)) ≡ allChars (text r))
-    go true p y q e = let z : _≡_ {A = ℕ} 0 1 = cc in absurd (omega arith)
-    go false p false q e = let z : _≡_ {A = ℕ} 0 1 = cc in absurd (omega arith)
-    go false p true q e =
-        let s : (isStop a ≡ false) × (isStop b ≡ false) = pair-go a b q in
-        (simp (s .0, s .1) (omega arith), simp (s .0, s .1, p, q))
+    go : (b : Bool) → cond b One Bad ≡ Two → ⊥
+    go true e = let z : _≡_ {A = ℕ} 0 1 = cc in omega arith
+    go false e = let z : _≡_ {A = ℕ} 0 1 = cc in omega arith
+
+two-text : (a : ℕ) (l : List ℕ) → charOf (a ∷ l) ≡ Two → Leaves (a ∷ l) (drop 1 l) 2 × (commaCount (text (a ∷ l)) ≡ commaCount (text (drop 1 l)))
+two-text a [] h = absurd (two-lone a h)
+two-text a (b ∷ r) h =
+    let p : (isOne a ≡ false) × (isPair a b ≡ true) = two-parts a b r h in
+    let s : (isStop a ≡ false) × (isStop b ≡ false) = pair-go a b (p .1) in
+    let q : (isLead a ≡ true) × (isTrail b ≡ true) = pair-parts a b (p .1) in
+    let m : 0x81 ≤ a = lead-high a (q .0) in
+    (record { size = simp (s .0, s .1) (omega arith); chars = simp (s .0, s .1, p .0, p .1) }, simp (s .0, s .1, no-comma a (omega arith), no-comma b (trail-high b (q .1))) (omega arith))
 
 bad-text : (a : ℕ) (l : List ℕ) → isStop a ≡ false → charOf (a ∷ l) ≡ Bad → allChars (text (a ∷ l)) ≡ false
 bad-text a [] s h = simp s (go (isOne a) h)
@@ -111,96 +126,333 @@ bad-text a (b ∷ r) s h = go (isOne a) refl (isPair a b) refl (isStop b) refl h
     go false p false q true t e = simp (s, t, p)
     go false p false q false t e = simp (s, t, p, q)
 
--- ---- the loop of scan_text: the text's end and its goodness, as told by what is left from i on
+-- ---- classes: what the table tells of a byte
 
-pub record Scanned (s : List ℕ) (at i : ℕ) (good : Bool) : Type 0 where
+class-from : (a n k : ℕ) → k < n → getD (classesFrom a n) k 0 ≡ classOf (a + k)
+class-from a zero k h = absurd (omega arith)
+class-from a (suc n) zero h = ap classOf (sym (add-zero a))
+class-from a (suc n) (suc k) h =
+    let e : suc a + k ≡ a + suc k = omega arith in
+    class-from (suc a) n k (omega arith) ∙ ap classOf e
+
+pub class-at : {l : List ℕ} (b : ℕ) {i : ℕ} → Classes l → i ≡ b → i < 256 → getD l i 0 ≡ classOf b
+class-at b {i} v e h = ap (λ (x : List ℕ). getD x i 0) (v .is) ∙ class-from 0 256 i h ∙ ap classOf (zero-add i ∙ e)
+
+-- what a class says of its byte
+record Told (a : ℕ) (c : ℕ) : Type 0 where
+  one : c ≡ 1 → (isOne a ≡ true) × (eqb a 0x2c ≡ false)
+  comma : c ≡ 2 → (isOne a ≡ true) × (eqb a 0x2c ≡ true)
+  none : c ≡ 0 → (isOne a ≡ false) × (isLead a ≡ false)
+  lead : (c ≡ 1 → ⊥) → (c ≡ 2 → ⊥) → isOne a ≡ false
+  whole : c ≡ 3 → wholeLead a ≡ true
+  high : (c ≡ 0 → ⊥) → (c ≡ 1 → ⊥) → (c ≡ 2 → ⊥) → isLead a ≡ true
+
+whole-lead : (a : ℕ) → wholeLead a ≡ true → isLead a ≡ true
+whole-lead a e =
+    let lo : 0x81 ≤ a = omega (arith, parts .0) in
+    go (leb a 0x9f) refl
+  where
+    parts : (0x89 ≤ a) × ((a ≤ 0x9f) ⊎ ((0xe0 ≤ a) × (a ≤ 0xe9)))
+    parts =
+        ⊎-elim
+        (λ h. ⊎-elim
+        (λ k. (leb-true 0x89 a (both (leb 0x89 a) (leb a 0x97) k .0), inl (omega (arith, leb-true a 0x97 (both (leb 0x89 a) (leb a 0x97) k .1)))))
+        (λ k. (omega (arith, leb-true 0x99 a (both (leb 0x99 a) (leb a 0x9f) k .0)), inl (leb-true a 0x9f (both (leb 0x99 a) (leb a 0x9f) k .1))))
+        (either (within 0x89 0x97 a) (within 0x99 0x9f a) h))
+        (λ k. let p = both (leb 0xe0 a) (leb a 0xe9) k in (omega (arith, leb-true 0xe0 a (p .0)), inr (leb-true 0xe0 a (p .0), leb-true a 0xe9 (p .1))))
+        (either (within 0x89 0x97 a || within 0x99 0x9f a) (within 0xe0 0xe9 a) e)
+
+    go : (x : Bool) → leb a 0x9f ≡ x → isLead a ≡ true
+    go true q = or-first (within 0x81 0x9f a) (within 0xe0 0xef a) (within-in 0x81 0x9f a (omega (arith, parts .0)) (leb-true a 0x9f q))
+    go false q =
+        ⊎-elim
+        (λ h. absurd (omega (arith, h, leb-false a 0x9f q)))
+        (λ h. rw (within-above 0x81 0x9f a (leb-false a 0x9f q)) (within-in 0xe0 0xef a (h .0) (omega (arith, h .1))))
+        (parts .1)
+
+told : (a : ℕ) → Told a (classOf a)
+unfolding classOf
+told a = go (eqb a 0x2c) refl (isOne a) refl (wholeLead a) refl (isLead a) refl
+  where
+    comma-one : eqb a 0x2c ≡ true → isOne a ≡ true
+    comma-one e = rw (eqb-true a 0x2c e)
+
+    go : (x : Bool) → eqb a 0x2c ≡ x → (y : Bool) → isOne a ≡ y → (z : Bool) → wholeLead a ≡ z → (w : Bool) → isLead a ≡ w → Told a (cond x 2 (cond y 1 (cond z 3 (cond w 4 0))))
+    go true p y q z r w t = record {
+      one = λ e. absurd (omega arith);
+      comma = λ e. (comma-one p, p);
+      none = λ e. absurd (omega arith);
+      lead = λ e f. absurd (f refl);
+      whole = λ e. absurd (omega arith);
+      high = λ e f g. absurd (g refl);
+    }
+    go false p true q z r w t = record {
+      one = λ e. (q, p);
+      comma = λ e. absurd (omega arith);
+      none = λ e. absurd (omega arith);
+      lead = λ e f. absurd (e refl);
+      whole = λ e. absurd (omega arith);
+      high = λ e f g. absurd (f refl);
+    }
+    go false p false q true r w t = record {
+      one = λ e. absurd (omega arith);
+      comma = λ e. absurd (omega arith);
+      none = λ e. absurd (omega arith);
+      lead = λ e f. q;
+      whole = λ e. r;
+      high = λ e f g. whole-lead a r;
+    }
+    go false p false q false r true t = record {
+      one = λ e. absurd (omega arith);
+      comma = λ e. absurd (omega arith);
+      none = λ e. absurd (omega arith);
+      lead = λ e f. q;
+      whole = λ e. absurd (omega arith);
+      high = λ e f g. t;
+    }
+    go false p false q false r false t = record {
+      one = λ e. absurd (omega arith);
+      comma = λ e. absurd (omega arith);
+      none = λ e. (q, t);
+      lead = λ e f. q;
+      whole = λ e. absurd (omega arith);
+      high = λ e f g. absurd (e refl);
+    }
+
+-- every trail makes a character with a lead of whole rows; rows 4 and 5 are whole where is_kana says so: computed over the bytes
+abbrev onlyIf : Bool → Bool → Bool
+onlyIf x y = not x || y
+
+onlyIf-at : (x y : Bool) → onlyIf x y ≡ true → x ≡ true → y ≡ true
+onlyIf-at true y e h = e
+onlyIf-at false y e h = absurd (false≢true h)
+
+wholeTrails : ℕ → Bool
+wholeTrails a = onlyIf (wholeLead a) (below (λ b. onlyIf (isTrail b) (isPair a b)) 256)
+
+whole-trails : below wholeTrails 256 ≡ true
+unfolding below wholeTrails isPair allowed fullRow partRow
+whole-trails = refl
+
+kanaTrails : ℕ → Bool
+kanaTrails b = onlyIf (isKana 0x82 b) (isPair 0x82 b) && onlyIf (isKana 0x83 b) (isPair 0x83 b)
+
+kana-trails : below kanaTrails 256 ≡ true
+unfolding below kanaTrails isKana isPair allowed fullRow partRow
+kana-trails = refl
+
+lead-byte : (a : ℕ) → isLead a ≡ true → a < 256
+lead-byte a e =
+    ⊎-elim
+    (λ h. omega (arith, leb-true a 0x9f (both (leb 0x81 a) (leb a 0x9f) h .1)))
+    (λ h. omega (arith, leb-true a 0xef (both (leb 0xe0 a) (leb a 0xef) h .1)))
+    (either (within 0x81 0x9f a) (within 0xe0 0xef a) e)
+
+trail-byte : (b : ℕ) → isTrail b ≡ true → b < 256
+trail-byte b e =
+    ⊎-elim
+    (λ h. omega (arith, leb-true b 0x7e (both (leb 0x40 b) (leb b 0x7e) h .1)))
+    (λ h. omega (arith, leb-true b 0xfc (both (leb 0x80 b) (leb b 0xfc) h .1)))
+    (either (within 0x40 0x7e b) (within 0x80 0xfc b) e)
+
+whole-pair : (a b : ℕ) → wholeLead a ≡ true → isTrail b ≡ isPair a b
+unfolding wholeTrails
+whole-pair a b e = go (isTrail b) refl (isPair a b) refl
+  where
+    go : (x : Bool) → isTrail b ≡ x → (y : Bool) → isPair a b ≡ y → x ≡ y
+    go true p y q =
+        sym (onlyIf-at (isTrail b) (isPair a b)
+        (below-at (λ b. onlyIf (isTrail b) (isPair a b)) 256
+        (onlyIf-at (wholeLead a) (below (λ b. onlyIf (isTrail b) (isPair a b)) 256) (below-at wholeTrails 256 whole-trails a (lead-byte a (whole-lead a e))) e)
+        b (trail-byte b p)) p) ∙ q
+    go false p true q = absurd (false≢true (sym p ∙ pair-parts a b q .1))
+    go false p false q = refl
+
+kana-byte : (a b : ℕ) → isKana a b ≡ true → b < 256
+unfolding isKana
+kana-byte a b e = go (eqb a 0x82) (eqb a 0x83) e
+  where
+    go : (x y : Bool) → cond x (within 0x9f 0xf1 b) (cond y (within 0x40 0x7e b || within 0x80 0x96 b) false) ≡ true → b < 256
+    go true y e = omega (arith, leb-true b 0xf1 (both (leb 0x9f b) (leb b 0xf1) e .1))
+    go false true e =
+        ⊎-elim
+        (λ h. omega (arith, leb-true b 0x7e (both (leb 0x40 b) (leb b 0x7e) h .1)))
+        (λ h. omega (arith, leb-true b 0x96 (both (leb 0x80 b) (leb b 0x96) h .1)))
+        (either (within 0x40 0x7e b) (within 0x80 0x96 b) e)
+    go false false e = absurd (false≢true e)
+
+kana-lead : (a b : ℕ) → isKana a b ≡ true → (a ≡ 0x82) ⊎ (a ≡ 0x83)
+unfolding isKana
+kana-lead a b e = go (eqb a 0x82) refl (eqb a 0x83) refl e
+  where
+    go : (x : Bool) → eqb a 0x82 ≡ x → (y : Bool) → eqb a 0x83 ≡ y → cond x (within 0x9f 0xf1 b) (cond y (within 0x40 0x7e b || within 0x80 0x96 b) false) ≡ true → (a ≡ 0x82) ⊎ (a ≡ 0x83)
+    go true p y q e = inl (eqb-true a 0x82 p)
+    go false p true q e = inr (eqb-true a 0x83 q)
+    go false p false q e = absurd (false≢true e)
+
+kana-pair : (a b : ℕ) → isKana a b ≡ true → isPair a b ≡ true
+unfolding kanaTrails
+kana-pair a b e =
+    let t = both (onlyIf (isKana 0x82 b) (isPair 0x82 b)) (onlyIf (isKana 0x83 b) (isPair 0x83 b)) (below-at kanaTrails 256 kana-trails b (kana-byte a b e)) in
+    ⊎-elim
+    (λ h. rw h (onlyIf-at (isKana 0x82 b) (isPair 0x82 b) (t .0) (rw h at e)))
+    (λ h. rw h (onlyIf-at (isKana 0x83 b) (isPair 0x83 b) (t .1) (rw h at e)))
+    (kana-lead a b e)
+
+-- the ways through is_kana
+module _ (a b : ℕ) where
+  pub kana-82 : {x : Bool} → a ≡ 0x82 → x ≡ within 0x9f 0xf1 b → x ≡ isKana a b
+  unfolding isKana
+  kana-82 h e = e ∙ simp (eq-eqb a 0x82 h)
+
+  pub kana-83 : {x y : Bool} → (a ≡ 0x82 → ⊥) → a ≡ 0x83 → x ≡ within 0x40 0x7e b → y ≡ within 0x80 0x96 b → (x || y) ≡ isKana a b
+  unfolding isKana
+  kana-83 h k e f = rw (e, f) (simp (ne-eqb a 0x82 h, eq-eqb a 0x83 k))
+
+  pub kana-none : (a ≡ 0x82 → ⊥) → (a ≡ 0x83 → ⊥) → false ≡ isKana a b
+  unfolding isKana
+  kana-none h k = simp (ne-eqb a 0x82 h, ne-eqb a 0x83 k)
+
+-- ---- a lead at a position, and the ways through pair_at
+
+pub lead-at : (s : List ℕ) (i : ℕ) {c : ℕ} → i < length s → c ≡ classOf (getD s i 0) → (c ≡ 1 → ⊥) → (c ≡ 2 → ⊥) → (c ≡ 0 → ⊥) → LeadAt s i c
+lead-at s i h q a b d = record { inside = h; class = q; one = a; comma = b; none = d }
+
+module _ (s : List ℕ) (i : ℕ) {c : ℕ} (v : LeadAt s i c) where
+  byte-told : Told (getD s i 0) c
+  byte-told = subst (Told (getD s i 0)) (sym (v .class)) (told (getD s i 0))
+
+  no-one : isOne (getD s i 0) ≡ false
+  no-one = byte-told .lead (v .one) (v .comma)
+
+  pub pair-short : length s ≤ i + 1 → PairAt s i false
+  unfolding charAt
+  pair-short k = record { tells = rw (drop-step s i 0 (v .inside), drop-end s (i + 1) k) (simp no-one) }
+
+  module _ (k : i + 1 < length s) where
+    by-pair : charAt s i ≡ cond (isPair (getD s i 0) (getD s (i + 1) 0)) Two Bad
+    unfolding charAt
+    by-pair = rw (two-on s i 0 k) (simp no-one)
+
+    pub pair-whole : {x : Bool} → c ≡ 3 → x ≡ isTrail (getD s (i + 1) 0) → PairAt s i x
+    pair-whole e q = record { tells = by-pair ∙ ap (λ (y : Bool). cond y Two Bad) (sym (whole-pair (getD s i 0) (getD s (i + 1) 0) (byte-told .whole e)) ∙ sym q) }
+
+    pub pair-kana : {x : Bool} → x ≡ isKana (getD s i 0) (getD s (i + 1) 0) → x ≡ true → PairAt s i true
+    pair-kana p q = record { tells = by-pair ∙ ap (λ (y : Bool). cond y Two Bad) (kana-pair (getD s i 0) (getD s (i + 1) 0) (sym p ∙ q)) }
+
+    pub pair-other : {x : Bool} → x ≡ isPair (getD s i 0) (getD s (i + 1) 0) → PairAt s i x
+    pair-other q = record { tells = by-pair ∙ ap (λ (y : Bool). cond y Two Bad) (sym q) }
+
+pub ruleset pair-laws = (pair-short, pair-whole, pair-kana, pair-other)
+
+no-pair : (a b : ℕ) → isLead a ≡ false → isPair a b ≡ false
+unfolding isPair
+no-pair a b e = simp e
+
+-- ---- the loop of scan_text: the text's end, its goodness and its commas, as told by what is left from i on
+
+pub record Scanned (s : List ℕ) (at i : ℕ) (good : Bool) (n : ℕ) : Type 0 where
   pub ends : at + length (text (drop at s)) ≡ i + length (text (drop i s))
   pub chars : allChars (text (drop at s)) ≡ (good && allChars (text (drop i s)))
+  pub commas : commaCount (text (drop at s)) ≡ n + commaCount (text (drop i s))
+  pub few : n + at ≤ i
 
-pub scan-start : (s : List ℕ) (at : ℕ) → Scanned s at at true
-scan-start s at = record { ends = refl; chars = refl }
+pub scan-start : (s : List ℕ) (at : ℕ) → Scanned s at at true 0
+scan-start s at = record { ends = refl; chars = refl; commas = sym (zero-add (commaCount (text (drop at s)))); few = omega arith }
 
-module _ {s : List ℕ} {at i : ℕ} {good : Bool} (v : Scanned s at i good) where
-  done : text (drop i s) ≡ [] → ScanOf s at (record { end = i; good = good })
+module _ {s : List ℕ} {at i : ℕ} {good : Bool} {n : ℕ} (v : Scanned s at i good n) where
+  done : text (drop i s) ≡ [] → ScanOf s at (record { end = i; good = good; commas = n })
   done e = record {
     ends = omega (arith, v .ends, ap length e);
     chars = sym (v .chars ∙ ap (λ (l : List ℕ). good && allChars l) e ∙ and-true good);
+    commas = omega (arith, v .commas, ap commaCount e);
   }
 
-  pub scan-end : length s ≤ i → ScanOf s at (record { end = i; good = good })
+  pub scan-end : length s ≤ i → ScanOf s at (record { end = i; good = good; commas = n })
   scan-end h = done (rw (drop-end s i h))
 
-  module _ (h : i < length s) where
+  module _ (h : i < length s) {c : ℕ} (q : c ≡ classOf (getD s i 0)) where
     now-at : drop i s ≡ getD s i 0 ∷ drop (i + 1) s
     now-at = drop-step s i 0 h
 
+    says : Told (getD s i 0) c
+    says = subst (Told (getD s i 0)) (sym q) (told (getD s i 0))
+
+    -- a byte of text, with its commas
+    byte-on : isStop (getD s i 0) ≡ false → (length (text (drop i s)) ≡ 1 + length (text (drop (i + 1) s))) × (commaCount (text (drop i s)) ≡ cond (eqb (getD s i 0) 0x2c) 1 0 + commaCount (text (drop (i + 1) s)))
+    byte-on e = rw now-at (simp e (omega arith), simp e)
+
+    one-on : isOne (getD s i 0) ≡ true → (m : ℕ) → cond (eqb (getD s i 0) 0x2c) 1 0 ≡ m → m ≤ 1 → Scanned s at (i + 1) good (n + m)
+    one-on o m e k =
+        let w : Leaves (drop i s) (drop (i + 1) s) 1 = rw now-at (one-text (getD s i 0) (drop (i + 1) s) o) in
+        record {
+          ends = omega (arith, v .ends, w .size);
+          chars = v .chars ∙ ap (λ (b : Bool). good && b) (w .chars);
+          commas = omega (arith, v .commas, byte-on (one-go (getD s i 0) o) .1, e);
+          few = omega (arith, v .few);
+        }
+
+    pub scan-one : c ≡ 1 → Scanned s at (i + 1) good n
+    scan-one e =
+        let w = says .one e in
+        subst (Scanned s at (i + 1) good) (add-zero n) (one-on (w .0) 0 (rw (w .1)) (omega arith))
+
+    pub scan-comma : c ≡ 2 → Scanned s at (i + 1) good (n + 1)
+    scan-comma e = let w = says .comma e in one-on (w .0) 1 (rw (w .1)) (omega arith)
+
     -- x is what is_stop said
-    pub scan-stop : {x : Bool} → x ≡ isStop (getD s i 0) → x ≡ true → ScanOf s at (record { end = i; good = good })
-    scan-stop p q = done (rw now-at (simp (sym p ∙ q)))
+    pub scan-stop : {x : Bool} → c ≡ 0 → x ≡ isStop (getD s i 0) → x ≡ true → ScanOf s at (record { end = i; good = good; commas = n })
+    scan-stop e p t = done (rw now-at (simp (sym p ∙ t)))
 
-    -- a character, which leaves the rest of the text
-    on : (n : ℕ) (r : List ℕ) → drop (i + n) s ≡ r
-        → (length (text (drop i s)) ≡ n + length (text r)) × (allChars (text (drop i s)) ≡ allChars (text r)) → Scanned s at (i + n) good
-    on n r e w = record {
-      ends = omega (arith, v .ends, w .0, ap (λ (l : List ℕ). length (text l)) e);
-      chars = v .chars ∙ ap (λ (b : Bool). good && b) (w .1 ∙ ap (λ (l : List ℕ). allChars (text l)) (sym e));
-    }
+    -- a byte that begins no character and is no comma
+    bad-on : isOne (getD s i 0) ≡ false → isStop (getD s i 0) ≡ false → charAt s i ≡ Bad → Scanned s at (i + 1) false n
+    unfolding charAt
+    bad-on o t e =
+        let f : allChars (text (drop i s)) ≡ false = rw now-at (bad-text (getD s i 0) (drop (i + 1) s) t (ap charOf (sym now-at) ∙ e)) in
+        let z : eqb (getD s i 0) 0x2c ≡ false = no-one-comma (getD s i 0) o in
+        let w = byte-on t in
+        record {
+          ends = omega (arith, v .ends, w .0);
+          chars = v .chars ∙ ap (λ (b : Bool). good && b) f ∙ and-false good;
+          commas = v .commas ∙ ap (λ (k : ℕ). n + k) (w .1 ∙ rw z (zero-add (commaCount (text (drop (i + 1) s)))));
+          few = omega (arith, v .few);
+        }
+      where
+        no-one-comma : (a : ℕ) → isOne a ≡ false → eqb a 0x2c ≡ false
+        no-one-comma a o = ne-eqb a 0x2c (λ e. true≢false (sym (rw e) ∙ o))
 
-    -- k is what char_at said
-    module _ {k : Char} (q : k ≡ charAt s i) where
-      told : charOf (getD s i 0 ∷ drop (i + 1) s) ≡ k
+    pub scan-bad : {x : Bool} → c ≡ 0 → x ≡ isStop (getD s i 0) → x ≡ false → Scanned s at (i + 1) false n
+    unfolding charAt
+    scan-bad e p t =
+        let w = says .none e in
+        bad-on (w .0) (sym p ∙ t) (rw now-at (no-char (getD s i 0) (drop (i + 1) s) (w .0) (w .1)))
+      where
+        no-char : (a : ℕ) (l : List ℕ) → isOne a ≡ false → isLead a ≡ false → charOf (a ∷ l) ≡ Bad
+        no-char a [] o l = rw o
+        no-char a (b ∷ r) o l = rw (o, no-pair a b l)
+
+    module _ (a : c ≡ 1 → ⊥) (b : c ≡ 2 → ⊥) (d : c ≡ 0 → ⊥) {x : Bool} (p : PairAt s i x) where
+      pub scan-two : x ≡ true → Scanned s at (i + 2) good n
       unfolding charAt
-      told = ap charOf (sym now-at) ∙ sym q
-
-      pub scan-one : k ≡ One → Scanned s at (i + 1) good
-      scan-one e = on 1 (drop (i + 1) s) refl (rw now-at (one-text (getD s i 0) (drop (i + 1) s) (told ∙ e)))
-
-      pub scan-two : k ≡ Two → Scanned s at (i + 2) good
       scan-two e =
           let two : i + 1 + 1 ≡ i + 2 = omega arith in
-          let n : drop 1 (drop (i + 1) s) ≡ drop (i + 2) s = drop-drop 1 (i + 1) s ∙ ap (λ (k : ℕ). drop k s) two in
-          on 2 (drop 1 (drop (i + 1) s)) (sym n) (rw now-at (two-text (getD s i 0) (drop (i + 1) s) (told ∙ e)))
-
-      pub scan-bad : {x : Bool} → k ≡ Bad → x ≡ isStop (getD s i 0) → x ≡ false → Scanned s at (i + 1) false
-      scan-bad e p t =
-          let g : text (drop i s) ≡ getD s i 0 ∷ text (drop (i + 1) s) = rw now-at (simp (sym p ∙ t)) in
-          let f : allChars (text (drop i s)) ≡ false = rw now-at (bad-text (getD s i 0) (drop (i + 1) s) (sym p ∙ t) (told ∙ e)) in
+          let t : charOf (getD s i 0 ∷ drop (i + 1) s) ≡ Two = ap charOf (sym now-at) ∙ p .tells ∙ rw e in
+          let r : drop 1 (drop (i + 1) s) ≡ drop (i + 2) s = drop-drop 1 (i + 1) s ∙ ap (λ (k : ℕ). drop k s) two in
+          let w = two-text (getD s i 0) (drop (i + 1) s) t in
+          let u : Leaves (drop i s) (drop (i + 2) s) 2 = rw (now-at, ← r) (w .0) in
+          let m : commaCount (text (drop i s)) ≡ commaCount (text (drop (i + 2) s)) = rw (now-at, ← r) (w .1) in
           record {
-            ends = omega (arith, v .ends, ap length g);
-            chars = v .chars ∙ ap (λ (b : Bool). good && b) f ∙ and-false good;
+            ends = omega (arith, v .ends, u .size);
+            chars = v .chars ∙ ap (λ (b : Bool). good && b) (u .chars);
+            commas = omega (arith, v .commas, m);
+            few = omega (arith, v .few);
           }
 
-pub ruleset scan-laws = (scan-start, scan-stop, scan-one, scan-two, scan-bad, scan-end)
+      pub scan-half : x ≡ false → Scanned s at (i + 1) false n
+      scan-half e = bad-on (says .lead a b) (high-go (getD s i 0) (omega (arith, lead-high (getD s i 0) (says .high d a b)))) (p .tells ∙ rw e)
 
--- ---- the ways through char_at: x is what is_one said, y what is_pair said
+pub ruleset scan-laws = (scan-start, scan-one, scan-comma, scan-stop, scan-bad, lead-at, scan-two, scan-half, scan-end)
 
-pub char-none : (s : List ℕ) (i : ℕ) → length s ≤ i → Bad ≡ charAt s i
-unfolding charAt
-char-none s i h = rw (drop-end s i h)
-
-module _ (s : List ℕ) (i : ℕ) {x : Bool} (h : i < length s) (p : x ≡ isOne (getD s i 0)) where
-  pub char-one : x ≡ true → One ≡ charAt s i
-  unfolding charAt
-  char-one q = rw (drop-step s i 0 h) (go (drop (i + 1) s) (sym p ∙ q))
-    where
-      go : (l : List ℕ) → isOne (getD s i 0) ≡ true → One ≡ charOf (getD s i 0 ∷ l)
-      go [] e = simp e
-      go (b ∷ r) e = simp e
-
-  module _ (q : x ≡ false) where
-    pub char-short : length s ≤ i + 1 → Bad ≡ charAt s i
-    unfolding charAt
-    char-short k = rw (drop-step s i 0 h, drop-end s (i + 1) k) (simp (sym p ∙ q))
-
-    module _ {y : Bool} (k : i + 1 < length s) (e : y ≡ isPair (getD s i 0) (getD s (i + 1) 0)) where
-      by-pair : charAt s i ≡ cond y Two Bad
-      unfolding charAt
-      by-pair = rw (two-on s i 0 k) (simp (sym p ∙ q, sym e))
-
-      pub char-two : y ≡ true → Two ≡ charAt s i
-      char-two t = sym (rw t at by-pair)
-
-      pub char-bad : y ≡ false → Bad ≡ charAt s i
-      char-bad t = sym (rw t at by-pair)
-
-pub ruleset char-laws = (char-none, char-one, char-short, char-two, char-bad)
+-- what a caller lends is the table
+pub classes-lent : Classes (classesFrom 0 256)
+classes-lent = record { is = refl }

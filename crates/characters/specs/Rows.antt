@@ -7,7 +7,7 @@ use mathlib.Core.List.{List, [], _∷_, _++_}
 use lib.Dec.{eqb}
 use lib.ListN.{length, drop}
 use Rattle.lists.specs.Lists.{same, part}
-use Rattle.characters.specs.Text.{allChars, clean, text}
+use Rattle.characters.specs.Text.{allChars, clean, text, commaCount}
 use Rattle.characters.specs.declared.Line.{Line}
 use Rattle.characters.specs.declared.Line.the-variants.{Whole, Mark, End, Broken}
 
@@ -39,13 +39,14 @@ endMark = 0x1a ∷ []
 
 -- ---- what stands where a row begins, as the code answers it
 
--- a line from at to e, and the rows behind its end
-pub record WholeLine (s : List ℕ) (at e : ℕ) (good : Bool) : Type 0 where
+-- a line from at to e with n commas, and the rows behind its end
+pub record WholeLine (s : List ℕ) (at e : ℕ) (good : Bool) (n : ℕ) : Type 0 where
   pub low : at ≤ e
   pub high : e + 2 ≤ length s
   pub cut : rows (drop at s) ≡ (part s at e ++ lineEnd) ∷ rows (drop (e + 2) s)
   pub clear : clean (part s at e) ≡ true
   pub chars : good ≡ allChars (part s at e)
+  pub commas : n ≡ commaCount (part s at e)
 
 -- the first row is no line, and no 1Ah at the end
 abbrev pub BrokenRow : List (List ℕ) → Type 0
@@ -53,7 +54,7 @@ BrokenRow [] = ⊥
 BrokenRow (r ∷ rs) = (isLine r ≡ false) × (same r endMark ≡ false)
 
 abbrev pub LineMeans : List ℕ → ℕ → Line → Type 0
-LineMeans s at (Whole e good) = WholeLine s at e good
+LineMeans s at (Whole e good n) = WholeLine s at e good n
 LineMeans s at Mark = rows (drop at s) ≡ endMark ∷ []
 LineMeans s at End = rows (drop at s) ≡ []
 LineMeans s at Broken = BrokenRow (rows (drop at s))

@@ -7,9 +7,11 @@ use lib.Dec.{eqb}
 use lib.ListN.{length, drop}
 use Rattle.lists.specs.Lists.{all, upTo}
 use Rattle.characters.specs.Cells.{isOne, isPair}
-use Rattle.characters.specs.declared.Char.{Char}
-use Rattle.characters.specs.declared.Char.the-variants.{One, Two, Bad}
 use Rattle.characters.specs.declared.Scan.{Scan}
+
+-- a character of one byte, of two, or none
+pub data Char : Type 0 where
+  One Two Bad : Char
 
 -- the character that a list begins with
 abbrev pub charOf : List ℕ → Char
@@ -39,7 +41,13 @@ clean s = all (λ b. not (isStop b)) s
 abbrev pub text : List ℕ → List ℕ
 text l = upTo isStop l
 
--- what a scan from a position finds: where the text ends, and whether it is characters
+-- how many 2Ch a list has
+abbrev pub commaCount : List ℕ → ℕ
+commaCount [] = 0
+commaCount (a ∷ l) = cond (eqb a 0x2c) 1 0 + commaCount l
+
+-- what a scan from a position finds: where the text ends, whether it is characters, and how many commas it has
 pub record ScanOf (s : List ℕ) (at : ℕ) (r : Scan) : Type 0 where
   pub ends : r .end ≡ at + length (text (drop at s))
   pub chars : r .good ≡ allChars (text (drop at s))
+  pub commas : r .commas ≡ commaCount (text (drop at s))

@@ -2,10 +2,11 @@
 // Definitions: specs/Cells.antt, specs/Text.antt, specs/Rows.antt. A new kind of answer about characters (as a script) moves Char,
 // charOf, char_at and whoever matches on it.
 ghost use mathlib.Core.Path.{_≡_};
-ghost use Prim.Native.Nat.{_≤_};
+ghost use Prim.Native.Nat.{_≤_, _<_};
 ghost use Rattle.lists.specs.Lists.{within as isWithin};
 ghost use Rattle.characters.specs.Cells.{row2, row3, allowed, leadRow, trailCell, trailRow, isOne, isLead, isTrail, isPair};
-ghost use Rattle.characters.specs.Text.{charAt, isStop, ScanOf};
+ghost use Rattle.characters.specs.Text.{isStop, ScanOf};
+ghost use Rattle.characters.specs.Classes.{Classes, classOf, isKana, LeadAt, PairAt};
 ghost use Rattle.characters.specs.Rows.{LineOf};
 
 fn within(lo: u8, hi: u8, x: u8) -> bool
@@ -112,64 +113,373 @@ pub fn is_pair(a: u8, b: u8) -> bool
     is_lead(a) & is_trail(b) & allowed_cell(lead_row(a) + trail_row(b), trail_cell(b))
 }
 
-pub enum Char {
-    One,
-    Two,
-    Bad,
+// The class of each byte. Lent to the scan, since a constant array is made anew wherever it is named.
+pub const CLASSES: [u8; 256] = [
+    0,
+    0,
+    0,
+    0,
+    0,
+    0,
+    0,
+    0,
+    0,
+    0,
+    0,
+    0,
+    0,
+    0,
+    0,
+    0,
+    0,
+    0,
+    0,
+    0,
+    0,
+    0,
+    0,
+    0,
+    0,
+    0,
+    0,
+    0,
+    0,
+    0,
+    0,
+    0,
+    1,
+    1,
+    1,
+    1,
+    1,
+    1,
+    1,
+    1,
+    1,
+    1,
+    1,
+    1,
+    2,
+    1,
+    1,
+    1,
+    1,
+    1,
+    1,
+    1,
+    1,
+    1,
+    1,
+    1,
+    1,
+    1,
+    1,
+    1,
+    1,
+    1,
+    1,
+    1,
+    1,
+    1,
+    1,
+    1,
+    1,
+    1,
+    1,
+    1,
+    1,
+    1,
+    1,
+    1,
+    1,
+    1,
+    1,
+    1,
+    1,
+    1,
+    1,
+    1,
+    1,
+    1,
+    1,
+    1,
+    1,
+    1,
+    1,
+    1,
+    1,
+    1,
+    1,
+    1,
+    1,
+    1,
+    1,
+    1,
+    1,
+    1,
+    1,
+    1,
+    1,
+    1,
+    1,
+    1,
+    1,
+    1,
+    1,
+    1,
+    1,
+    1,
+    1,
+    1,
+    1,
+    1,
+    1,
+    1,
+    1,
+    1,
+    1,
+    1,
+    1,
+    1,
+    1,
+    0,
+    0,
+    4,
+    4,
+    4,
+    4,
+    4,
+    4,
+    4,
+    4,
+    3,
+    3,
+    3,
+    3,
+    3,
+    3,
+    3,
+    3,
+    3,
+    3,
+    3,
+    3,
+    3,
+    3,
+    3,
+    4,
+    3,
+    3,
+    3,
+    3,
+    3,
+    3,
+    3,
+    0,
+    1,
+    1,
+    1,
+    1,
+    1,
+    1,
+    1,
+    1,
+    1,
+    1,
+    1,
+    1,
+    1,
+    1,
+    1,
+    1,
+    1,
+    1,
+    1,
+    1,
+    1,
+    1,
+    1,
+    1,
+    1,
+    1,
+    1,
+    1,
+    1,
+    1,
+    1,
+    1,
+    1,
+    1,
+    1,
+    1,
+    1,
+    1,
+    1,
+    1,
+    1,
+    1,
+    1,
+    1,
+    1,
+    1,
+    1,
+    1,
+    1,
+    1,
+    1,
+    1,
+    1,
+    1,
+    1,
+    1,
+    1,
+    1,
+    1,
+    1,
+    1,
+    1,
+    1,
+    3,
+    3,
+    3,
+    3,
+    3,
+    3,
+    3,
+    3,
+    3,
+    3,
+    4,
+    4,
+    4,
+    4,
+    4,
+    4,
+    0,
+    0,
+    0,
+    0,
+    0,
+    0,
+    0,
+    0,
+    0,
+    0,
+    0,
+    0,
+    0,
+    0,
+    0,
+    0,
+];
+
+fn wide(b: u8) -> usize
+    ensures { λ r. ⌜ r ≡ b ⌝ }
+    ensures { λ r. ⌜ r < 256 ⌝ }
+{
+    b as usize
 }
 
-// The character at a position.
-pub fn char_at(s: &[u8], at: usize) -> Char
-    ensures { λ r. ⌜ r ≡ charAt (now (s .entry)) at ⌝ }
+fn class_of(classes: &[u8; 256], b: u8) -> u8
+    requires { ⌜ Classes (now classes) ⌝ }
+    ensures { λ r. ⌜ r ≡ classOf b ⌝ }
 {
-    if s.len() <= at {
-        return Char::Bad;
+    let i = wide(b);
+    classes[i]
+}
+
+// The characters of row 4 (hiragana) and row 5 (katakana), which most names are written in.
+fn is_kana(a: u8, b: u8) -> bool
+    ensures { λ r. ⌜ r ≡ isKana a b ⌝ }
+{
+    if a == 0x82 {
+        return within(0x9f, 0xf1, b);
     }
-    let a = s[at];
-    if is_one(a) {
-        return Char::One;
+    if a == 0x83 {
+        return within(0x40, 0x7e, b) | within(0x80, 0x96, b);
     }
-    let next = at + 1;
+    false
+}
+
+// Whether the two bytes at a position that a lead begins are a character; c: the lead's class.
+fn pair_at(s: &[u8], i: usize, c: u8) -> bool
+    requires { ⌜ LeadAt (now s) i c ⌝ }
+    ensures { λ r. ⌜ PairAt (now (s .entry)) i r ⌝ }
+{
+    let next = i + 1;
     if s.len() <= next {
-        return Char::Bad;
+        return false;
     }
+    let a = s[i];
     let b = s[next];
-    if is_pair(a, b) { Char::Two } else { Char::Bad }
+    if c == 3 {
+        return is_trail(b);
+    }
+    if is_kana(a, b) {
+        return true;
+    }
+    is_pair(a, b)
 }
 
 pub struct Scan {
     pub end: usize,
     pub good: bool,
+    pub commas: usize,
 }
 
-// Where the first 0Dh, 0Ah or 1Ah from a position stands, or the end; and whether all before it is characters. None of the three
-// is a character or a trail, so a step over a character never passes one, behind a bad byte too.
-pub fn scan_text(s: &[u8], at: usize) -> Scan
+// Where the first 0Dh, 0Ah or 1Ah from a position stands, or the end; whether all before it is characters; and how many of them are
+// commas. None of the three is a character or a trail, so a step over a character never passes one, behind a bad byte too.
+pub fn scan_text(classes: &[u8; 256], s: &[u8], at: usize) -> Scan
+    requires { ⌜ Classes (now classes) ⌝ }
     ensures { λ r. ⌜ ScanOf (now (s .entry)) at r ⌝ }
 {
     let mut i = at;
     let mut good = true;
+    let mut commas = 0;
     while i < s.len() {
-        match char_at(s, i) {
-            Char::One => i += 1,
-            Char::Two => i += 2,
-            Char::Bad => {
-                let b = s[i];
-                if is_stop(b) {
-                    return Scan { end: i, good };
+        let b = s[i];
+        let c = class_of(classes, b);
+        if c == 1 {
+            i += 1;
+            while i < s.len() {
+                let next = s[i];
+                let class = class_of(classes, next);
+                if class != 1 {
+                    break;
                 }
-                good = false;
                 i += 1;
             }
+        } else if c == 2 {
+            commas += 1;
+            i += 1;
+        } else if c == 0 {
+            if is_stop(b) {
+                return Scan {
+                    end: i,
+                    good,
+                    commas,
+                };
+            }
+            good = false;
+            i += 1;
+        } else if pair_at(s, i, c) {
+            i += 2;
+        } else {
+            good = false;
+            i += 1;
         }
     }
-    Scan { end: i, good }
+    Scan {
+        end: i,
+        good,
+        commas,
+    }
 }
 
 // What stands at a position where a row begins.
 pub enum Line {
-    // A line that 0Dh 0Ah ends: where its text ends, and whether it is characters.
-    Whole(usize, bool),
+    // A line that 0Dh 0Ah ends: where its text ends, whether it is characters, and its commas.
+    Whole(usize, bool, usize),
     // 1Ah as the last byte.
     Mark,
     // Nothing.
@@ -178,15 +488,17 @@ pub enum Line {
     Broken,
 }
 
-pub fn line_at(s: &[u8], at: usize) -> Line
+pub fn line_at(classes: &[u8; 256], s: &[u8], at: usize) -> Line
+    requires { ⌜ Classes (now classes) ⌝ }
     ensures { λ r. ⌜ LineOf (now (s .entry)) at r ⌝ }
 {
     if s.len() <= at {
         return Line::End;
     }
-    let r = scan_text(s, at);
+    let r = scan_text(classes, s, at);
     let end = r.end;
     let good = r.good;
+    let commas = r.commas;
     if s.len() <= end {
         return Line::Broken;
     }
@@ -206,5 +518,5 @@ pub fn line_at(s: &[u8], at: usize) -> Line
     if s[next] != 0x0a {
         return Line::Broken;
     }
-    Line::Whole(end, good)
+    Line::Whole(end, good, commas)
 }

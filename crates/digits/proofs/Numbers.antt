@@ -9,24 +9,8 @@ use borrow.Author.Tests.{leb-true, leb-false, le-leb, lt-leb, eqb-true, eqb-fals
 use lib.Dec.{leb, eqb}
 use lib.ListN.{length}
 use Rattle.lists.specs.Lists.{within, all}
-use Rattle.lists.proofs.Tests.{both, cond-case}
+use Rattle.lists.proofs.Tests.{both, cond-case, below, below-at}
 use Rattle.digits.specs.Digits.{isDigit, value, number, spell, digitCount}
-
--- the test holds of every number below n
-unfoldable pub below : (ℕ → Bool) → ℕ → Bool
-below p zero = true
-below p (suc n) = p n && below p n
-
-pub below-at : (p : ℕ → Bool) (n : ℕ) → below p n ≡ true → (m : ℕ) → m < n → p m ≡ true
-unfolding below
-below-at p zero e m h = absurd (omega arith)
-below-at p (suc n) e m h =
-    let q : (p n ≡ true) × (below p n ≡ true) = both (p n) (below p n) e in
-    go q (below-at p n (q .1)) (eqb m n) refl
-  where
-    go : (p n ≡ true) × (below p n ≡ true) → ((m : ℕ) → m < n → p m ≡ true) → (b : Bool) → eqb m n ≡ b → p m ≡ true
-    go q i true e = rw (eqb-true m n e) (q .0)
-    go q i false e = let ne : m ≡ n → ⊥ = eqb-false m n e in i m (omega arith)
 
 is : Option ℕ → ℕ → Bool
 is none n = false

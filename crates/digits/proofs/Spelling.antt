@@ -10,10 +10,10 @@ use borrow.Author.Tests.{leb-true, le-leb, lt-leb, eqb-true, eqb-false}
 use lib.Dec.{leb, eqb}
 use lib.ListN.{length, getD}
 use Rattle.lists.specs.Lists.{all, same}
-use Rattle.lists.proofs.Tests.{both, same-refl, same-true}
+use Rattle.lists.proofs.Tests.{both, same-refl, same-true, below, below-at}
 use Rattle.digits.specs.Digits.{isDigit, value, number, spell, digitCount}
 use Rattle.digits.specs.Short.{orThousand, shortValue, plainNumber}
-use Rattle.digits.proofs.Numbers.{below, below-at, digit-is, Digits, number-is}
+use Rattle.digits.proofs.Numbers.{digit-is, Digits, number-is}
 
 spelled : ℕ → Bool
 spelled n = eqb (plainNumber (spell (suc n))) (suc n)

@@ -20,8 +20,8 @@ use Rattle.lines.specs.declared.Details.{Details}
 use Rattle.lines.specs.declared.LineRead.{LineRead}
 use Rattle.lines.specs.declared.LineRead.the-variants.{Fault, Fine}
 use Rattle.lines.specs.Facts.{factsOf, lineRead}
-use Rattle.lines.specs.Codes.{codes, sliceOf, placeOf, placeIn, Lent, InCodes, pairsRaw, factsRaw, detailsRaw}
-use Rattle.lines.proofs.SplitLaws.{items-all, item-cut}
+use Rattle.lines.specs.Codes.{codes, sliceOf, placeOf, placeIn, Lent, Commas, InCodes, pairsRaw, factsRaw, detailsRaw}
+use Rattle.lines.proofs.SplitLaws.{items-all, item-cut, items-count}
 use Rattle.lines.proofs.TableLaws.{rowBy, RowAt, row-of, row-of-number, slice-length}
 use Rattle.lines.proofs.FactLaws.{pairs-is, facts-is}
 
@@ -107,11 +107,11 @@ module _ (s : List ℕ) (b g : Bool) {e n : ℕ} (t : not g ≡ false) (q : e �
     pub read-unlisted : place ≡ 0 → Fault 5 ≡ lineRead g b s
     read-unlisted z = read-fault g b s 5 (λ z. omega arith) (past 5 (fault-is (found p i) b ∙ rw (ne-eqb n 911 x, lt-leb 1 place (omega arith))))
 
-    module _ {count : ℕ} (z : place ≡ 0 → ⊥) (k : count ≡ length (itemsOf s)) where
-      counted : count ≡ suc (length (itemsFrom s (e + 1)))
-      counted = k ∙ ap length (found p i .cut)
+    module _ {commas : ℕ} (z : place ≡ 0 → ⊥) (k : Commas s commas) where
+      counted : commas ≡ length (itemsFrom s (e + 1))
+      counted = omega (arith, k .is, items-count s, ap length (found p i .cut))
 
-      pub read-count : (count ≡ place % 16 + 1 → ⊥) → Fault 7 ≡ lineRead g b s
+      pub read-count : (commas ≡ place % 16 → ⊥) → Fault 7 ≡ lineRead g b s
       read-count w =
           read-fault g b s 7 (λ z. omega arith) (past 7 (fault-is (found p i) b ∙ rw (
             ne-eqb n 911 x,
@@ -119,7 +119,7 @@ module _ (s : List ℕ) (b g : Bool) {e n : ℕ} (t : not g ≡ false) (q : e �
             ne-eqb (length (itemsFrom s (e + 1))) (place % 16) (λ y. w (omega (arith, counted, y))),
           )))
 
-      module _ {f : ℕ} (w : count ≡ place % 16 + 1) (v : f ≡ itemsFault b (sliceOf place) (itemsFrom s (e + 1))) where
+      module _ {f : ℕ} (w : commas ≡ place % 16) (v : f ≡ itemsFault b (sliceOf place) (itemsFrom s (e + 1))) where
         length-is : length (itemsFrom s (e + 1)) ≡ place % 16
         length-is = omega (arith, counted, w)
 

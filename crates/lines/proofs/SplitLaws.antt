@@ -13,6 +13,7 @@ use lib.Seq.{drop-drop}
 use Rattle.lists.specs.Lists.{part, upTo, findFrom}
 use Rattle.lists.proofs.Cuts.{drop-step, drop-end, take-upTo}
 use Rattle.lists.proofs.Loops.{find-low, find-high}
+use Rattle.characters.specs.Text.{commaCount}
 use Rattle.records.specs.Split.{isComma, consItem, itemsOf, itemsFrom, itemEnd}
 use Rattle.lines.specs.declared.Span.{Span}
 use Rattle.lines.specs.Codes.{ItemAt}
@@ -102,31 +103,14 @@ behind-item {s} {at} {k} b v = v .says ∙ ap (λ (x : List (List ℕ)). getD x 
 
 -- ---- how many
 
--- What the loop of count_items keeps.
-pub record Counted (s : List ℕ) (i n : ℕ) : Type 0 where
-  pub small : n ≤ i + 1
-  pub same : n + length (itemsOf (drop i s)) ≡ length (itemsOf s) + 1
-
 length-cons : (a : ℕ) (l : List ℕ) → length (consItem a (itemsOf l)) ≡ length (itemsOf l)
 length-cons a l = rw (items-cut l)
 
-module _ (s : List ℕ) (i : ℕ) {n : ℕ} (v : Counted s i n) where
-  pub counted-comma : i < length s → getD s i 0 ≡ 0x2c → Counted s (i + 1) (n + 1)
-  counted-comma h t =
-      let d : length (itemsOf (drop i s)) ≡ suc (length (itemsOf (drop (i + 1) s))) = rw (drop-step s i 0 h) (simp (eq-eqb _ _ t)) in
-      record { small = omega (arith, v .small); same = omega (arith, v .same, d) }
-
-  pub counted-byte : i < length s → (getD s i 0 ≡ 0x2c → ⊥) → Counted s (i + 1) n
-  counted-byte h t =
-      let d : length (itemsOf (drop i s)) ≡ length (itemsOf (drop (i + 1) s)) = rw (drop-step s i 0 h) (simp (ne-eqb _ _ t) (length-cons (getD s i 0) (drop (i + 1) s))) in
-      record { small = omega (arith, v .small); same = omega (arith, v .same, d) }
-
-  pub counted-all : length s ≤ i → n ≡ length (itemsOf s)
-  counted-all h =
-      let d : length (itemsOf (drop i s)) ≡ 1 = rw (drop-end s i h) in
-      omega (arith, v .same, d)
-
-pub counted-start : (s : List ℕ) → Counted s 0 1
-counted-start s = record { small = omega arith; same = omega arith }
-
-pub ruleset count-laws = (counted-start, counted-comma, counted-byte, counted-all)
+-- one item more than commas
+pub items-count : (l : List ℕ) → length (itemsOf l) ≡ suc (commaCount l)
+items-count [] = refl
+items-count (a ∷ l) = go (isComma a) (items-count l)
+  where
+    go : (b : Bool) → length (itemsOf l) ≡ suc (commaCount l) → length (cond b ([] ∷ itemsOf l) (consItem a (itemsOf l))) ≡ suc (cond b 1 0 + commaCount l)
+    go true e = omega (arith, e)
+    go false e = omega (arith, e, length-cons a l)

@@ -9,6 +9,7 @@ use lib.ListN.{length, getD, take, drop}
 use Rattle.lists.specs.Lists.{empty, member, part}
 use Rattle.digits.specs.Digits.{number}
 use Rattle.digits.specs.Short.{plainNumber}
+use Rattle.characters.specs.Text.{commaCount}
 use Rattle.calendar.specs.Era.{readDay}
 use Rattle.order.specs.declared.Facts.{Facts}
 use Rattle.records.specs.Table.{Item, Row, R, fromProvider}
@@ -64,6 +65,10 @@ placeOf n = placeIn places n
 -- what the code is lent: the codes; and a row's place in them
 pub record Lent (l : List ℕ) : Type 0 where
   pub is : l ≡ codes
+
+-- n is the number of commas of a line
+pub record Commas (s : List ℕ) (n : ℕ) : Type 0 where
+  pub is : n ≡ commaCount s
 
 pub record InCodes (place : ℕ) : Type 0 where
   pub inside : place / 16 + place % 16 ≤ 83

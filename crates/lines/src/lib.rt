@@ -7,10 +7,10 @@ ghost use mathlib.Core.List.{[], _∷_};
 ghost use Prim.Native.Nat.{_≤_};
 ghost use lib.ListN.{length, getD};
 ghost use Rattle.lists.specs.Lists.{same};
-ghost use Rattle.records.specs.Split.{itemsOf, itemsFrom, itemEnd};
+ghost use Rattle.records.specs.Split.{itemsFrom, itemEnd};
 ghost use Rattle.records.specs.Records.{orEmpty, isNum, itemsFault};
 ghost use Rattle.lines.specs.Facts.{lineRead};
-ghost use Rattle.lines.specs.Codes.{Lent, InCodes, ItemAt, placeOf, sliceOf, quantity, codeRaw, formRaw, rpRaw, dayRaw, detailsRaw, bareDetails, otherDetails, usageRaw};
+ghost use Rattle.lines.specs.Codes.{Lent, Commas, InCodes, ItemAt, placeOf, sliceOf, quantity, codeRaw, formRaw, rpRaw, dayRaw, detailsRaw, bareDetails, otherDetails, usageRaw};
 
 // ---- items at positions
 
@@ -47,22 +47,6 @@ fn item_at(s: &[u8], at: usize) -> Span
         to: end,
         next: end + 1,
     }
-}
-
-fn count_items(s: &[u8]) -> usize
-    ensures { λ r. ⌜ r ≡ length (itemsOf (now (s .entry))) ⌝ }
-{
-    let mut n = 1;
-    let mut i = 0;
-    while i < s.len() {
-        if s[i] == 0x2c {
-            n += 1;
-            i += 1;
-        } else {
-            i += 1;
-        }
-    }
-    n
 }
 
 // ---- the table
@@ -449,10 +433,17 @@ pub enum LineRead {
     Fine(order::Facts),
 }
 
-// Reads a record line; good: it is characters. In the order of document 01's table: 4, 6 or 5, 7, then the items from the left, then
-// the pairs.
-pub fn read_line(codes: &[usize; 83], provider: bool, good: bool, s: &[u8]) -> LineRead
+// Reads a record line; good: it is characters; commas: how many it has. In the order of document 01's table: 4, 6 or 5, 7, then the
+// items from the left, then the pairs.
+pub fn read_line(
+    codes: &[usize; 83],
+    provider: bool,
+    good: bool,
+    commas: usize,
+    s: &[u8],
+) -> LineRead
     requires { ⌜ Lent (now codes) ⌝ }
+    requires { ⌜ Commas (now s) commas ⌝ }
     ensures { λ r. ⌜ r ≡ lineRead good provider (now (s .entry)) ⌝ }
 {
     if !good {
@@ -468,8 +459,7 @@ pub fn read_line(codes: &[usize; 83], provider: bool, good: bool, s: &[u8]) -> L
     if place == 0 {
         return LineRead::Fault(5);
     }
-    let count = count_items(s);
-    if count != place % 16 + 1 {
+    if commas != place % 16 {
         return LineRead::Fault(7);
     }
     let next = end + 1;

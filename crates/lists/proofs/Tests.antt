@@ -5,7 +5,7 @@ use mathlib.Core.Bool.{Bool, true, false, cond, not, _&&_, _||_, and-false, fals
 use mathlib.Core.Logic.{_⊎_, inl, inr}
 use mathlib.Core.List.{List, [], _∷_, _++_}
 use native.Mathlib.Omega.{arith}
-use borrow.Author.Tests.{le-leb, lt-leb, eqb-true, eq-eqb, ne-eqb}
+use borrow.Author.Tests.{le-leb, lt-leb, eqb-true, eqb-false, eq-eqb, ne-eqb}
 use lib.Dec.{leb, eqb}
 use lib.ListN.{length}
 use Rattle.lists.specs.Lists.{within, empty, all, same, All, _orElse_, unless}
@@ -90,6 +90,24 @@ all-append p (x ∷ a) b = go (p x) (all-append p a b)
 pub all-both : {A : Type 0} (P Q : A → Type 0) (xs : List A) → All P xs → All Q xs → All (λ x. P x × Q x) xs
 all-both P Q [] h g = tt
 all-both P Q (x ∷ xs) (h, t) (g, u) = ((h, g), all-both P Q xs t u)
+
+-- ---- a fact for every number below n, from one computed test
+
+-- the test holds of every number below n
+unfoldable pub below : (ℕ → Bool) → ℕ → Bool
+below p zero = true
+below p (suc n) = p n && below p n
+
+pub below-at : (p : ℕ → Bool) (n : ℕ) → below p n ≡ true → (m : ℕ) → m < n → p m ≡ true
+unfolding below
+below-at p zero e m h = absurd (omega arith)
+below-at p (suc n) e m h =
+    let q : (p n ≡ true) × (below p n ≡ true) = both (p n) (below p n) e in
+    go q (below-at p n (q .1)) (eqb m n) refl
+  where
+    go : (p n ≡ true) × (below p n ≡ true) → ((m : ℕ) → m < n → p m ≡ true) → (b : Bool) → eqb m n ≡ b → p m ≡ true
+    go q i true e = rw (eqb-true m n e) (q .0)
+    go q i false e = let ne : m ≡ n → ⊥ = eqb-false m n e in i m (omega arith)
 
 -- ---- faults in their order
 

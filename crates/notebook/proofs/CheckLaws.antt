@@ -27,6 +27,7 @@ use Rattle.order.proofs.Laws.{taken, next-line, provider-kept, room, room-start
 use Rattle.lines.specs.declared.LineRead.{LineRead}
 use Rattle.lines.specs.declared.LineRead.the-variants.{Fault, Fine}
 use Rattle.lines.specs.Facts.{factsOf, lineRead}
+use Rattle.lines.specs.Codes.{Commas}
 use Rattle.notebook.specs.declared.Checked.{Checked}
 use Rattle.notebook.specs.declared.Checked.the-variants.{Accepted, Refused}
 use Rattle.notebook.specs.Notebook.{Notebook, stepLine, prepend, closed, onward, recordsFrom, notebookOf, readRows, readFile}
@@ -151,8 +152,8 @@ module _ {provider : Bool} {s : List ℕ} {from : ℕ} {st : State} {at : ℕ} (
         go [] b = absurd b
         go (r ∷ rs) b = rw (b .1, b .0)
 
-    module _ {e : ℕ} {good : Bool} (q : k ≡ Whole e good) where
-      whole : WholeLine s at e good
+    module _ {e : ℕ} {good : Bool} {n : ℕ} (q : k ≡ Whole e good n) where
+      whole : WholeLine s at e good n
       whole = means q
 
       pub whole-low : at ≤ e
@@ -167,6 +168,9 @@ module _ {provider : Bool} {s : List ℕ} {from : ℕ} {st : State} {at : ℕ} (
       pub whole-less : length s - (e + 2) < length s - at
       whole-less = omega (arith, whole .high, whole .low)
 
+      pub whole-commas : Commas (take (e - at) (drop at s)) n
+      whole-commas = record { is = whole .commas }
+
       line-row : recordsFrom st (rows (drop at s)) ≡ onward (st .line + 1) (recordOf (part s at e)) (λ t. recordsFrom t (rows (drop (e + 2) s))) (stepLine st (part s at e))
       unfolding recordsFrom
       line-row =
@@ -177,12 +181,12 @@ module _ {provider : Bool} {s : List ℕ} {from : ℕ} {st : State} {at : ℕ} (
         unfolding lineFault
         own-fault = rw (v .side, whole .chars)
 
-        pub reading-fault : {n m : ℕ} → a ≡ Fault n → m ≡ n → Refused m (st .line + 1) ≡ tally (start provider) (recordsFrom (start provider) (rows (drop from s)))
+        pub reading-fault : {j m : ℕ} → a ≡ Fault j → m ≡ j → Refused m (st .line + 1) ≡ tally (start provider) (recordsFrom (start provider) (rows (drop from s)))
         unfolding stepLine onward
-        reading-fault {n} {m} t u =
-            let f : (faultWhere good provider (part s at e) ≡ n) × (n ≡ 0 → ⊥) = read-fault good provider (part s at e) n (sym p ∙ t) in
-            let g : lineFault (st .provider) (part s at e) ≡ n = own-fault ∙ f .0 in
-            sym (v .left ∙ ap (tally st) line-row ∙ rw (g, ne-eqb n 0 (f .1), u))
+        reading-fault {j} {m} t u =
+            let f : (faultWhere good provider (part s at e) ≡ j) × (j ≡ 0 → ⊥) = read-fault good provider (part s at e) j (sym p ∙ t) in
+            let g : lineFault (st .provider) (part s at e) ≡ j = own-fault ∙ f .0 in
+            sym (v .left ∙ ap (tally st) line-row ∙ rw (g, ne-eqb j 0 (f .1), u))
 
         module _ {facts : Facts} (t : a ≡ Fine facts) {m : Moved} (o : m ≡ stepOf st facts) where
           fine : (faultWhere good provider (part s at e) ≡ 0) × (facts ≡ factsOf (recordOf (part s at e)))
@@ -195,7 +199,7 @@ module _ {provider : Bool} {s : List ℕ} {from : ℕ} {st : State} {at : ℕ} (
           next : Moved → Res (List Record)
           next = onward (st .line + 1) (recordOf (part s at e)) (λ t. recordsFrom t (rows (drop (e + 2) s)))
 
-          pub reading-refused : {n : ℕ} → m ≡ StepRefused n → Refused n (st .line + 1) ≡ tally (start provider) (recordsFrom (start provider) (rows (drop from s)))
+          pub reading-refused : {j : ℕ} → m ≡ StepRefused j → Refused j (st .line + 1) ≡ tally (start provider) (recordsFrom (start provider) (rows (drop from s)))
           unfolding onward next
           reading-refused u = sym (v .left ∙ ap (tally st) (line-row ∙ ap next (moved ∙ u)))
 
@@ -217,7 +221,7 @@ module _ {provider : Bool} {s : List ℕ} {from : ℕ} {st : State} {at : ℕ} (
                 small = v .small;
               }
 
-pub ruleset reading-laws = (reading-start, reading-closing, reading-fits, reading-end, reading-mark, reading-broken, whole-low, whole-high, whole-fits, whole-less, reading-fault, reading-refused, reading-on)
+pub ruleset reading-laws = (reading-start, reading-closing, reading-fits, reading-end, reading-mark, reading-broken, whole-low, whole-high, whole-fits, whole-less, whole-commas, reading-fault, reading-refused, reading-on)
 
 -- ---- the file
 
@@ -256,8 +260,8 @@ module _ (s : List ℕ) where
           go [] b = absurd b
           go (r ∷ rs) b = rw (b .0)
 
-      module _ {e : ℕ} {good : Bool} (q : k ≡ Whole e good) where
-        line-1 : WholeLine s 0 e good
+      module _ {e : ℕ} {good : Bool} {n : ℕ} (q : k ≡ Whole e good n) where
+        line-1 : WholeLine s 0 e good n
         line-1 = first q
 
         pub line-1-high : e ≤ length s

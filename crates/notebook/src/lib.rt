@@ -4,6 +4,7 @@
 ghost use mathlib.Core.Path.{_≡_};
 ghost use lib.ListN.{length, drop};
 ghost use Rattle.characters.specs.Rows.{rows};
+ghost use Rattle.characters.specs.Classes.{Classes};
 ghost use Rattle.order.specs.State.{start};
 ghost use Rattle.lines.specs.Codes.{Lent};
 ghost use Rattle.notebook.specs.Notebook.{closed as closedOf, recordsFrom};
@@ -43,7 +44,14 @@ fn close(st: order::State) -> Checked
 }
 
 // The records of a file from behind line 1 on.
-fn check_records(codes: &[usize; 83], provider: bool, s: &[u8], from: usize) -> Checked
+fn check_records(
+    classes: &[u8; 256],
+    codes: &[usize; 83],
+    provider: bool,
+    s: &[u8],
+    from: usize,
+) -> Checked
+    requires { ⌜ Classes (now classes) ⌝ }
     requires { ⌜ Lent (now codes) ⌝ }
     requires { ⌜ Behind (now s) from ⌝ }
     ensures { λ r. ⌜ r ≡ tally (start provider) (recordsFrom (start provider) (rows (drop from (now (s .entry))))) ⌝ }
@@ -51,12 +59,12 @@ fn check_records(codes: &[usize; 83], provider: bool, s: &[u8], from: usize) -> 
     let mut st = order::State::new(provider);
     let mut at = from;
     loop {
-        match characters::line_at(s, at) {
+        match characters::line_at(classes, s, at) {
             characters::Line::End => return close(st),
             characters::Line::Mark => return close(st),
             characters::Line::Broken => return Checked::Refused(2, st.line + 1),
-            characters::Line::Whole(end, good) => {
-                match lines::read_line(codes, provider, good, &s[at..end]) {
+            characters::Line::Whole(end, good, commas) => {
+                match lines::read_line(codes, provider, good, commas, &s[at..end]) {
                     lines::LineRead::Fault(n) => {
                         return Checked::Refused(digits::wide(n), st.line + 1);
                     }
@@ -81,20 +89,21 @@ pub fn check(s: &[u8]) -> Checked
     if 65536 < len {
         return Checked::Refused(1, 0);
     }
+    let classes = characters::CLASSES;
     let codes = lines::CODES;
     let start = 0;
-    match characters::line_at(s, start) {
+    match characters::line_at(&classes, s, start) {
         characters::Line::End => return Checked::Refused(2, 1),
         characters::Line::Mark => return Checked::Refused(2, 1),
         characters::Line::Broken => return Checked::Refused(2, 1),
-        characters::Line::Whole(end, _) => {
+        characters::Line::Whole(end, _, _) => {
             let d = direction(&s[start..end]);
             let from = end + 2;
             if d == 1 {
-                return check_records(&codes, true, s, from);
+                return check_records(&classes, &codes, true, s, from);
             }
             if d == 2 {
-                return check_records(&codes, false, s, from);
+                return check_records(&classes, &codes, false, s, from);
             }
             Checked::Refused(3, 1)
         }

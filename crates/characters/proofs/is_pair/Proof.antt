@@ -1,5 +1,7 @@
-use Rattle.characters.specs.Cells.{isPair}
 use borrow.Author.Needs.{needs}
+use Prim.Native.Nat.{_-_}
+use lib.ListN.{length}
+use Rattle.characters.specs.Cells.{isPair}
 use Rattle.characters.proofs.is_pair.Statement.{statement}
 use Rattle.characters.proofs.is_pair.Tie as tie
 use Rattle.characters.proofs.is_pair.Reads as reads

@@ -1,95 +1,158 @@
+use native.Mathlib.Omega.{arith}
 use borrow.Author.Needs.{needs}
 use Prim.Native.Nat.{_-_}
 use lib.ListN.{length}
-use Rattle.characters.proofs.TextLaws.{Scanned, scan-laws}
+use Rattle.characters.proofs.TextLaws.{Scanned, scan-laws, scan-one}
+use Prim.Native.Nat.{_≤_}
 use Rattle.characters.proofs.scan_text.Statement.{statement}
 use Rattle.characters.proofs.scan_text.Tie as tie
 use Rattle.characters.proofs.scan_text.Reads as reads
 use Rattle.characters.proofs.scan_text.Lts as lts
-use Rattle.characters.proofs.char_at.Reads as char-at-reads
+use Rattle.characters.proofs.class_of.Reads as class-of-reads
 use Rattle.characters.proofs.is_stop.Reads as is-stop-reads
+use Rattle.characters.proofs.pair_at.Reads as pair-at-reads
+
+abbrev Inv-loop2 : tie.InvT-loop2
+Inv-loop2 classes s at i₀ good commas b c i = Scanned s at i good commas × (i₀ ≤ i)
+
+abbrev μ-loop2 : tie.MeasureT-loop2
+μ-loop2 classes s at i₀ good commas b c i = length s - i
 
 abbrev Inv-loop : tie.InvT-loop
-Inv-loop s at i₀ good₀ i good = Scanned s at i good
+Inv-loop classes s at i₀ good₀ commas₀ i good commas = Scanned s at i good commas
 
 abbrev μ-loop : tie.MeasureT-loop
-μ-loop s at i₀ good₀ i good = length s - i
+μ-loop classes s at i₀ good₀ commas₀ i good commas = length s - i
 
-loop-holds : tie.Need-loop-holds Inv-loop μ-loop
+loop-holds : tie.Need-loop-holds Inv-loop2 μ-loop2 Inv-loop μ-loop
 loop-holds c = search (needs, scan-laws)
 
-char-at-requires : tie.Need-char-at-requires Inv-loop μ-loop
-char-at-requires c κs = search (needs, scan-laws)
-
-enum-told : tie.Need-enum-told Inv-loop μ-loop
-enum-told c = search (needs, scan-laws)
-
-add-i : tie.Need-add-i Inv-loop μ-loop
-add-i c = search (needs, scan-laws)
-
-loop-less : tie.Need-loop-less Inv-loop μ-loop
-loop-less c = search (needs, scan-laws)
-
-loop-again : tie.Need-loop-again Inv-loop μ-loop
-loop-again c = search (needs, scan-laws)
-
-enum-told-2 : tie.Need-enum-told-2 Inv-loop μ-loop
-enum-told-2 c = search (needs, scan-laws)
-
-add-i-2 : tie.Need-add-i-2 Inv-loop μ-loop
-add-i-2 c = search (needs, scan-laws)
-
-loop-less-2 : tie.Need-loop-less-2 Inv-loop μ-loop
-loop-less-2 c = search (needs, scan-laws)
-
-loop-again-2 : tie.Need-loop-again-2 Inv-loop μ-loop
-loop-again-2 c = search (needs, scan-laws)
-
-enum-told-3 : tie.Need-enum-told-3 Inv-loop μ-loop
-enum-told-3 c = search (needs, scan-laws)
-
-shared-slice-read-b : tie.Need-shared-slice-read-b Inv-loop μ-loop
+shared-slice-read-b : tie.Need-shared-slice-read-b Inv-loop2 μ-loop2 Inv-loop μ-loop
 shared-slice-read-b c = search (needs, scan-laws)
 
-is-stop-requires : tie.Need-is-stop-requires Inv-loop μ-loop
-is-stop-requires c κs = search (needs, scan-laws)
+class-of-requires : tie.Need-class-of-requires Inv-loop2 μ-loop2 Inv-loop μ-loop
+class-of-requires c κs = search (needs, scan-laws)
 
-returns : tie.Need-returns Inv-loop μ-loop
-returns c = search (needs, scan-laws)
+add-i : tie.Need-add-i Inv-loop2 μ-loop2 Inv-loop μ-loop
+add-i c = search (needs, scan-laws)
 
-add-i-3 : tie.Need-add-i-3 Inv-loop μ-loop
+loop2-holds : tie.Need-loop2-holds Inv-loop2 μ-loop2 Inv-loop μ-loop
+loop2-holds c = search (needs, scan-laws)
+
+loop-less : tie.Need-loop-less Inv-loop2 μ-loop2 Inv-loop μ-loop
+loop-less c = search (needs, scan-laws)
+
+loop-again : tie.Need-loop-again Inv-loop2 μ-loop2 Inv-loop μ-loop
+loop-again c = search (needs, scan-laws)
+
+shared-slice-read-next : tie.Need-shared-slice-read-next Inv-loop2 μ-loop2 Inv-loop μ-loop
+shared-slice-read-next c = search (needs, scan-laws)
+
+class-of-requires-2 : tie.Need-class-of-requires-2 Inv-loop2 μ-loop2 Inv-loop μ-loop
+class-of-requires-2 c κs = search (needs, scan-laws)
+
+loop-less-2 : tie.Need-loop-less-2 Inv-loop2 μ-loop2 Inv-loop μ-loop
+loop-less-2 c = search (needs, scan-laws)
+
+loop-again-2 : tie.Need-loop-again-2 Inv-loop2 μ-loop2 Inv-loop μ-loop
+loop-again-2 c = search (needs, scan-laws)
+
+add-i-2 : tie.Need-add-i-2 Inv-loop2 μ-loop2 Inv-loop μ-loop
+add-i-2 c = search (needs, scan-laws)
+
+loop2-less : tie.Need-loop2-less Inv-loop2 μ-loop2 Inv-loop μ-loop
+loop2-less c = search (needs, scan-laws)
+
+loop2-again : tie.Need-loop2-again Inv-loop2 μ-loop2 Inv-loop μ-loop
+loop2-again c = (scan-one (c .before .before .before .before .loop2 .inv .0) (omega arith) (c .before .class-of2 .ensures) (c .if2 .left), omega arith)
+
+add-commas : tie.Need-add-commas Inv-loop2 μ-loop2 Inv-loop μ-loop
+add-commas c = search (needs, scan-laws)
+
+add-i-3 : tie.Need-add-i-3 Inv-loop2 μ-loop2 Inv-loop μ-loop
 add-i-3 c = search (needs, scan-laws)
 
-loop-less-3 : tie.Need-loop-less-3 Inv-loop μ-loop
+loop-less-3 : tie.Need-loop-less-3 Inv-loop2 μ-loop2 Inv-loop μ-loop
 loop-less-3 c = search (needs, scan-laws)
 
-loop-again-3 : tie.Need-loop-again-3 Inv-loop μ-loop
+loop-again-3 : tie.Need-loop-again-3 Inv-loop2 μ-loop2 Inv-loop μ-loop
 loop-again-3 c = search (needs, scan-laws)
 
-returns-2 : tie.Need-returns-2 Inv-loop μ-loop
+is-stop-requires : tie.Need-is-stop-requires Inv-loop2 μ-loop2 Inv-loop μ-loop
+is-stop-requires c κs = search (needs, scan-laws)
+
+returns : tie.Need-returns Inv-loop2 μ-loop2 Inv-loop μ-loop
+returns c = search (needs, scan-laws)
+
+add-i-4 : tie.Need-add-i-4 Inv-loop2 μ-loop2 Inv-loop μ-loop
+add-i-4 c = search (needs, scan-laws)
+
+loop-less-4 : tie.Need-loop-less-4 Inv-loop2 μ-loop2 Inv-loop μ-loop
+loop-less-4 c = search (needs, scan-laws)
+
+loop-again-4 : tie.Need-loop-again-4 Inv-loop2 μ-loop2 Inv-loop μ-loop
+loop-again-4 c = search (needs, scan-laws)
+
+pair-at-requires : tie.Need-pair-at-requires Inv-loop2 μ-loop2 Inv-loop μ-loop
+pair-at-requires c κs = search (needs, scan-laws)
+
+add-i-5 : tie.Need-add-i-5 Inv-loop2 μ-loop2 Inv-loop μ-loop
+add-i-5 c = search (needs, scan-laws)
+
+loop-less-5 : tie.Need-loop-less-5 Inv-loop2 μ-loop2 Inv-loop μ-loop
+loop-less-5 c = search (needs, scan-laws)
+
+loop-again-5 : tie.Need-loop-again-5 Inv-loop2 μ-loop2 Inv-loop μ-loop
+loop-again-5 c = search (needs, scan-laws)
+
+add-i-6 : tie.Need-add-i-6 Inv-loop2 μ-loop2 Inv-loop μ-loop
+add-i-6 c = search (needs, scan-laws)
+
+loop-less-6 : tie.Need-loop-less-6 Inv-loop2 μ-loop2 Inv-loop μ-loop
+loop-less-6 c = search (needs, scan-laws)
+
+loop-again-6 : tie.Need-loop-again-6 Inv-loop2 μ-loop2 Inv-loop μ-loop
+loop-again-6 c = search (needs, scan-laws)
+
+returns-2 : tie.Need-returns-2 Inv-loop2 μ-loop2 Inv-loop μ-loop
 returns-2 c = search (needs, scan-laws)
 
 pub scan-text-spec : {M : Type 1} → statement M
 scan-text-spec =
     tie.close
     (tie.spec
+    Inv-loop2
+    μ-loop2
     Inv-loop
     μ-loop
     loop-holds
-    char-at-requires
-    enum-told
+    shared-slice-read-b
+    class-of-requires
     add-i
+    loop2-holds
     loop-less
     loop-again
-    enum-told-2
-    add-i-2
+    shared-slice-read-next
+    class-of-requires-2
     loop-less-2
     loop-again-2
-    enum-told-3
-    shared-slice-read-b
-    is-stop-requires
-    returns
+    add-i-2
+    loop2-less
+    loop2-again
+    add-commas
     add-i-3
     loop-less-3
     loop-again-3
+    is-stop-requires
+    returns
+    add-i-4
+    loop-less-4
+    loop-again-4
+    pair-at-requires
+    add-i-5
+    loop-less-5
+    loop-again-5
+    add-i-6
+    loop-less-6
+    loop-again-6
     returns-2)

@@ -7,7 +7,6 @@ use Rattle.lines.proofs.read_line.Tie as tie
 use Rattle.lines.proofs.read_line.Reads as reads
 use Rattle.lines.proofs.read_line.Lts as lts
 use Rattle.digits.proofs.plain_number.Reads as plain-number-reads
-use Rattle.lines.proofs.count_items.Reads as count-items-reads
 use Rattle.lines.proofs.item_stop.Reads as item-stop-reads
 use Rattle.lines.proofs.items_fault.Reads as items-fault-reads
 use Rattle.lines.proofs.place_of.Reads as place-of-reads
@@ -39,12 +38,6 @@ place-of-requires c κs = search needs
 
 returns-3 : tie.Need-returns-3
 returns-3 c = search (needs, read-laws)
-
-count-items-requires : tie.Need-count-items-requires
-count-items-requires c κs = search needs
-
-add-if4 : tie.Need-add-if4
-add-if4 c = search needs
 
 returns-4 : tie.Need-returns-4
 returns-4 c = search (needs, read-laws)
@@ -80,8 +73,6 @@ read-line-spec =
     returns-2
     place-of-requires
     returns-3
-    count-items-requires
-    add-if4
     returns-4
     add-next
     items-fault-requires

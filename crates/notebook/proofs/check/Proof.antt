@@ -4,6 +4,8 @@ use lib.ListN.{length}
 use Rattle.notebook.proofs.CheckLaws.{check-laws}
 use Rattle.lines.specs.Codes.{codes}
 use Rattle.lines.proofs.LineLaws.{lent}
+use Rattle.characters.specs.Classes.{classOf}
+use Rattle.characters.proofs.TextLaws.{classes-lent}
 use Rattle.notebook.proofs.check.Statement.{statement}
 use Rattle.notebook.proofs.check.Tie as tie
 use Rattle.notebook.proofs.check.Reads as reads
@@ -13,28 +15,29 @@ use Rattle.notebook.proofs.check_records.Reads as check-records-reads
 use Rattle.notebook.proofs.direction.Reads as direction-reads
 
 returns : tie.Need-returns
-returns c = search (needs, check-laws, lent)
+returns c = search (needs, check-laws, lent, classes-lent)
 
 line-at-requires : tie.Need-line-at-requires
-line-at-requires c κs = search needs
+unfolding classOf
+line-at-requires c κs = search (needs, check-laws, lent, classes-lent)
 
 enum-told : tie.Need-enum-told
 enum-told c = search needs
 
 returns-2 : tie.Need-returns-2
-returns-2 c = search (needs, check-laws, lent)
+returns-2 c = search (needs, check-laws, lent, classes-lent)
 
 enum-told-2 : tie.Need-enum-told-2
 enum-told-2 c = search needs
 
 returns-3 : tie.Need-returns-3
-returns-3 c = search (needs, check-laws, lent)
+returns-3 c = search (needs, check-laws, lent, classes-lent)
 
 enum-told-3 : tie.Need-enum-told-3
 enum-told-3 c = search needs
 
 returns-4 : tie.Need-returns-4
-returns-4 c = search (needs, check-laws, lent)
+returns-4 c = search (needs, check-laws, lent, classes-lent)
 
 enum-known-end : tie.Need-enum-known-end
 enum-known-end c = search needs
@@ -46,30 +49,30 @@ part-direction-start : tie.Need-part-direction-start
 part-direction-start c = search needs
 
 part-direction-end : tie.Need-part-direction-end
-part-direction-end c = search (needs, check-laws, lent)
+part-direction-end c = search (needs, check-laws, lent, classes-lent)
 
 direction-requires : tie.Need-direction-requires
 direction-requires c κs = search needs
 
 add-from : tie.Need-add-from
-add-from c = search (needs, check-laws, lent)
+add-from c = search (needs, check-laws, lent, classes-lent)
 
 check-records-requires : tie.Need-check-records-requires
-unfolding codes
-check-records-requires c κs = search (needs, check-laws, lent)
+unfolding codes classOf
+check-records-requires c κs = search (needs, check-laws, lent, classes-lent)
 
 returns-5 : tie.Need-returns-5
-returns-5 c = search (needs, check-laws, lent)
+returns-5 c = search (needs, check-laws, lent, classes-lent)
 
 check-records-requires-2 : tie.Need-check-records-requires-2
-unfolding codes
-check-records-requires-2 c κs = search (needs, check-laws, lent)
+unfolding codes classOf
+check-records-requires-2 c κs = search (needs, check-laws, lent, classes-lent)
 
 returns-6 : tie.Need-returns-6
-returns-6 c = search (needs, check-laws, lent)
+returns-6 c = search (needs, check-laws, lent, classes-lent)
 
 returns-7 : tie.Need-returns-7
-returns-7 c = search (needs, check-laws, lent)
+returns-7 c = search (needs, check-laws, lent, classes-lent)
 
 pub check-spec : {M : Type 1} → statement M
 check-spec =

@@ -14,10 +14,10 @@ use Rattle.order.proofs.State.new.Reads as new-reads
 use Rattle.order.proofs.State.step.Reads as step-reads
 
 abbrev Inv-loop : tie.InvT-loop
-Inv-loop codes provider s from st₀ at₀ st at = Reading provider s from st at
+Inv-loop classes codes provider s from st₀ at₀ st at = Reading provider s from st at
 
 abbrev μ-loop : tie.MeasureT-loop
-μ-loop codes provider s from st₀ at₀ st at = length s - at
+μ-loop classes codes provider s from st₀ at₀ st at = length s - at
 
 new-requires : tie.Need-new-requires Inv-loop μ-loop
 new-requires c κs = search (needs, reading-laws)
@@ -49,8 +49,8 @@ returns-2 c = search (needs, reading-laws)
 enum-told-3 : tie.Need-enum-told-3 Inv-loop μ-loop
 enum-told-3 c = search (needs, reading-laws)
 
-add-t14 : tie.Need-add-t14 Inv-loop μ-loop
-add-t14 c = search (needs, reading-laws)
+add-t16 : tie.Need-add-t16 Inv-loop μ-loop
+add-t16 c = search (needs, reading-laws)
 
 returns-3 : tie.Need-returns-3 Inv-loop μ-loop
 returns-3 c = search (needs, reading-laws)
@@ -76,8 +76,8 @@ enum-known-n c = search (needs, reading-laws)
 wide-requires : tie.Need-wide-requires Inv-loop μ-loop
 wide-requires c κs = search (needs, reading-laws)
 
-add-t21 : tie.Need-add-t21 Inv-loop μ-loop
-add-t21 c = search (needs, reading-laws)
+add-t23 : tie.Need-add-t23 Inv-loop μ-loop
+add-t23 c = search (needs, reading-laws)
 
 returns-4 : tie.Need-returns-4 Inv-loop μ-loop
 returns-4 c = search (needs, reading-laws)
@@ -91,8 +91,8 @@ step-requires c κs = search (needs, reading-laws)
 enum-known-n-2 : tie.Need-enum-known-n-2 Inv-loop μ-loop
 enum-known-n-2 c = search (needs, reading-laws)
 
-add-t23 : tie.Need-add-t23 Inv-loop μ-loop
-add-t23 c = search (needs, reading-laws)
+add-t25 : tie.Need-add-t25 Inv-loop μ-loop
+add-t25 c = search (needs, reading-laws)
 
 returns-5 : tie.Need-returns-5 Inv-loop μ-loop
 returns-5 c = search (needs, reading-laws)
@@ -125,7 +125,7 @@ check-records-spec =
     close-requires-2
     returns-2
     enum-told-3
-    add-t14
+    add-t16
     returns-3
     enum-known-end
     sub-read-line
@@ -134,12 +134,12 @@ check-records-spec =
     read-line-requires
     enum-known-n
     wide-requires
-    add-t21
+    add-t23
     returns-4
     enum-known-facts
     step-requires
     enum-known-n-2
-    add-t23
+    add-t25
     returns-5
     enum-known-next
     add-at
