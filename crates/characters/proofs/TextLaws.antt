@@ -6,15 +6,16 @@ use mathlib.Core.Logic.{_⊎_, inl, inr, ⊎-elim}
 use mathlib.Core.List.{List, [], _∷_, _++_}
 use native.Mathlib.Omega.{arith}
 use native.Mathlib.Nat.{add-zero, zero-add}
+use native.Mathlib.Numerals.{add-one}
 use borrow.Author.Tests.{le-leb, lt-leb, leb-true, leb-false, eqb-true, eq-eqb, ne-eqb}
 use lib.Dec.{leb, eqb}
-use lib.ListN.{length, take, drop, getD}
-use lib.Seq.{drop-drop}
+use lib.ListN.{length, take, drop, getD, set, length-set, length-take, List·getD-append}
+use lib.Seq.{drop-drop, sets, sets-eq}
 use Rattle.lists.specs.Lists.{within, all, upTo}
 use Rattle.lists.proofs.Tests.{both, either, or-first, within-in, within-above, below, below-at}
 use Rattle.lists.proofs.Cuts.{drop-step, drop-end, two-on}
 use Rattle.characters.specs.Cells.{isOne, isPair, isTrail, isLead, allowed, fullRow, partRow}
-use Rattle.characters.specs.Text.{Char, One, Two, Bad, charOf, charAt, allChars, isStop, clean, commaCount, text, ScanOf}
+use Rattle.characters.specs.Text.{Char, One, Two, Bad, charOf, charAt, allChars, isStop, clean, commaCount, commasFrom, Stops, Sixteen, text, ScanOf}
 use Rattle.characters.specs.Classes.{wholeLead, classOf, classesFrom, Classes, isKana, LeadAt, PairAt}
 
 -- ---- no character has a 0Dh, 0Ah or 1Ah in it
@@ -103,14 +104,15 @@ two-lone a h = go (isOne a) h
     go true e = let z : _≡_ {A = ℕ} 0 1 = cc in omega arith
     go false e = let z : _≡_ {A = ℕ} 0 1 = cc in omega arith
 
-two-text : (a : ℕ) (l : List ℕ) → charOf (a ∷ l) ≡ Two → Leaves (a ∷ l) (drop 1 l) 2 × (commaCount (text (a ∷ l)) ≡ commaCount (text (drop 1 l)))
+two-text : (a : ℕ) (l : List ℕ) → charOf (a ∷ l) ≡ Two
+    → Leaves (a ∷ l) (drop 1 l) 2 × (commaCount (text (a ∷ l)) ≡ commaCount (text (drop 1 l))) × ((k : ℕ) → commasFrom k (text (a ∷ l)) ≡ commasFrom (suc (suc k)) (text (drop 1 l)))
 two-text a [] h = absurd (two-lone a h)
 two-text a (b ∷ r) h =
     let p : (isOne a ≡ false) × (isPair a b ≡ true) = two-parts a b r h in
     let s : (isStop a ≡ false) × (isStop b ≡ false) = pair-go a b (p .1) in
     let q : (isLead a ≡ true) × (isTrail b ≡ true) = pair-parts a b (p .1) in
     let m : 0x81 ≤ a = lead-high a (q .0) in
-    (record { size = simp (s .0, s .1) (omega arith); chars = simp (s .0, s .1, p .0, p .1) }, simp (s .0, s .1, no-comma a (omega arith), no-comma b (trail-high b (q .1))) (omega arith))
+    (record { size = simp (s .0, s .1) (omega arith); chars = simp (s .0, s .1, p .0, p .1) }, simp (s .0, s .1, no-comma a (omega arith), no-comma b (trail-high b (q .1))) (omega arith), λ k. simp (s .0, s .1, no-comma a (omega arith), no-comma b (trail-high b (q .1))))
 
 bad-text : (a : ℕ) (l : List ℕ) → isStop a ≡ false → charOf (a ∷ l) ≡ Bad → allChars (text (a ∷ l)) ≡ false
 bad-text a [] s h = simp s (go (isOne a) h)
@@ -351,24 +353,74 @@ no-pair a b e = simp e
 
 -- ---- the loop of scan_text: the text's end, its goodness and its commas, as told by what is left from i on
 
-pub record Scanned (s : List ℕ) (at i : ℕ) (good : Bool) (n : ℕ) : Type 0 where
+-- the commas of the whole text from its beginning, and those that are left, into the places behind the n first
+abbrev kept : List ℕ → ℕ → List ℕ → List ℕ
+kept a n w = sets a n (take (16 - n) w)
+
+pub record Scanned (s : List ℕ) (at : ℕ) (a₀ a : List ℕ) (i : ℕ) (good : Bool) (n : ℕ) : Type 0 where
   pub ends : at + length (text (drop at s)) ≡ i + length (text (drop i s))
   pub chars : allChars (text (drop at s)) ≡ (good && allChars (text (drop i s)))
   pub commas : commaCount (text (drop at s)) ≡ n + commaCount (text (drop i s))
   pub few : n + at ≤ i
+  pub places : kept a n (commasFrom (i - at) (text (drop i s))) ≡ kept a₀ 0 (commasFrom 0 (text (drop at s)))
+  pub size : length a ≡ 16
+  pub first : length a₀ ≡ 16
 
-pub scan-start : (s : List ℕ) (at : ℕ) → Scanned s at at true 0
-scan-start s at = record { ends = refl; chars = refl; commas = sym (zero-add (commaCount (text (drop at s)))); few = omega arith }
+pub scan-start : (s : List ℕ) (at : ℕ) (a : List ℕ) → Sixteen a → Scanned s at a a at true 0
+scan-start s at a h =
+    let z : at - at ≡ 0 = omega arith in
+    record {
+      ends = refl;
+      chars = refl;
+      commas = sym (zero-add (commaCount (text (drop at s))));
+      few = omega arith;
+      places = ap (λ (k : ℕ). kept a 0 (commasFrom k (text (drop at s)))) z;
+      size = h .is;
+      first = h .is;
+    }
 
-module _ {s : List ℕ} {at i : ℕ} {good : Bool} {n : ℕ} (v : Scanned s at i good n) where
-  done : text (drop i s) ≡ [] → ScanOf s at (record { end = i; good = good; commas = n })
+-- what was kept is read back
+count-places : (k : ℕ) (l : List ℕ) → length (commasFrom k l) ≡ commaCount l
+count-places k [] = refl
+count-places k (b ∷ l) = go (eqb b 0x2c) (count-places (suc k) l)
+  where
+    go : (x : Bool) → length (commasFrom (suc k) l) ≡ commaCount l → length (cond x (k ∷ commasFrom (suc k) l) (commasFrom (suc k) l)) ≡ cond x 1 0 + commaCount l
+    go true e = omega (arith, e)
+    go false e = omega (arith, e)
+
+take-at-index : (j m : ℕ) (w : List ℕ) → j < m → getD (take m w) j 0 ≡ getD w j 0
+take-at-index j zero w h = absurd (omega arith)
+take-at-index j (suc m) [] h = refl
+take-at-index zero (suc m) (x ∷ w) h = refl
+take-at-index (suc j) (suc m) (x ∷ w) h = take-at-index j m w (omega arith)
+
+read-back : (a a₀ w : List ℕ) → a ≡ kept a₀ 0 w → length a₀ ≡ 16 → (j : ℕ) → j < length w → j < 16 → getD a j 0 ≡ getD w j 0
+read-back a a₀ w e h j p q =
+    let n : length (take 16 w) ≤ 16 = omega (arith, length-take 16 w) in
+    let m : j < length (take 16 w) = omega (arith, length-take 16 w) in
+    let r : sets a₀ 0 (take 16 w) ≡ take 16 w ++ drop (length (take 16 w)) a₀ = sets-eq (take 16 w) a₀ 0 (omega arith) ∙ rw zero-add in
+    ap (λ (x : List ℕ). getD x j 0) (e ∙ r) ∙ List·getD-append (take 16 w) (drop (length (take 16 w)) a₀) 0 j m ∙ take-at-index j 16 w q
+
+module _ {s : List ℕ} {at : ℕ} {a₀ a : List ℕ} {i : ℕ} {good : Bool} {n : ℕ} (v : Scanned s at a₀ a i good n) where
+  take-none : kept a n [] ≡ a
+  take-none = go (16 - n)
+    where
+      go : (m : ℕ) → sets a n (take m []) ≡ a
+      go zero = refl
+      go (suc m) = refl
+
+  done : text (drop i s) ≡ [] → ScanOf s at a (record { end = i; good = good; commas = n })
   done e = record {
     ends = omega (arith, v .ends, ap length e);
     chars = sym (v .chars ∙ ap (λ (l : List ℕ). good && allChars l) e ∙ and-true good);
     commas = omega (arith, v .commas, ap commaCount e);
+    places = record {
+      here = read-back a a₀ (commasFrom 0 (text (drop at s))) (sym (ap (λ (l : List ℕ). kept a n (commasFrom (i - at) l)) e ∙ take-none) ∙ v .places) (v .first);
+    };
+    size = record { is = v .size };
   }
 
-  pub scan-end : length s ≤ i → ScanOf s at (record { end = i; good = good; commas = n })
+  pub scan-end : length s ≤ i → ScanOf s at a (record { end = i; good = good; commas = n })
   scan-end h = done (rw (drop-end s i h))
 
   module _ (h : i < length s) {c : ℕ} (q : c ≡ classOf (getD s i 0)) where
@@ -382,30 +434,67 @@ module _ {s : List ℕ} {at i : ℕ} {good : Bool} {n : ℕ} (v : Scanned s at i
     byte-on : isStop (getD s i 0) ≡ false → (length (text (drop i s)) ≡ 1 + length (text (drop (i + 1) s))) × (commaCount (text (drop i s)) ≡ cond (eqb (getD s i 0) 0x2c) 1 0 + commaCount (text (drop (i + 1) s)))
     byte-on e = rw now-at (simp e (omega arith), simp e)
 
-    one-on : isOne (getD s i 0) ≡ true → (m : ℕ) → cond (eqb (getD s i 0) 0x2c) 1 0 ≡ m → m ≤ 1 → Scanned s at (i + 1) good (n + m)
-    one-on o m e k =
+    one-on : {a′ : List ℕ} → isOne (getD s i 0) ≡ true → (m : ℕ) → cond (eqb (getD s i 0) 0x2c) 1 0 ≡ m → m ≤ 1
+        → kept a′ (n + m) (commasFrom (i + 1 - at) (text (drop (i + 1) s))) ≡ kept a₀ 0 (commasFrom 0 (text (drop at s))) → length a′ ≡ 16 → Scanned s at a₀ a′ (i + 1) good (n + m)
+    one-on o m e k t z =
         let w : Leaves (drop i s) (drop (i + 1) s) 1 = rw now-at (one-text (getD s i 0) (drop (i + 1) s) o) in
         record {
           ends = omega (arith, v .ends, w .size);
           chars = v .chars ∙ ap (λ (b : Bool). good && b) (w .chars);
           commas = omega (arith, v .commas, byte-on (one-go (getD s i 0) o) .1, e);
           few = omega (arith, v .few);
+          places = t;
+          size = z;
+          first = v .first;
         }
 
-    pub scan-one : c ≡ 1 → Scanned s at (i + 1) good n
+    -- the commas that are left, behind a byte of text
+    places-on : isStop (getD s i 0) ≡ false
+        → commasFrom (i - at) (text (drop i s)) ≡ cond (eqb (getD s i 0) 0x2c) ((i - at) ∷ commasFrom (i + 1 - at) (text (drop (i + 1) s))) (commasFrom (i + 1 - at) (text (drop (i + 1) s)))
+    places-on e =
+        let z : suc (i - at) ≡ i + 1 - at = omega (arith, v .few) in
+        rw now-at (simp e (ap (λ (k : ℕ). cond (eqb (getD s i 0) 0x2c) ((i - at) ∷ commasFrom k (text (drop (i + 1) s))) (commasFrom k (text (drop (i + 1) s)))) z))
+
+    plain-on : isStop (getD s i 0) ≡ false → eqb (getD s i 0) 0x2c ≡ false → kept a n (commasFrom (i + 1 - at) (text (drop (i + 1) s))) ≡ kept a₀ 0 (commasFrom 0 (text (drop at s)))
+    plain-on e z = ap (kept a n) (sym (places-on e ∙ rw z)) ∙ v .places
+
+    pub scan-one : c ≡ 1 → Scanned s at a₀ a (i + 1) good n
     scan-one e =
         let w = says .one e in
-        subst (Scanned s at (i + 1) good) (add-zero n) (one-on (w .0) 0 (rw (w .1)) (omega arith))
+        let z : n + 0 ≡ n = add-zero n in
+        subst (Scanned s at a₀ a (i + 1) good) z
+        (one-on (w .0) 0 (rw (w .1)) (omega arith) (ap (λ (k : ℕ). kept a k (commasFrom (i + 1 - at) (text (drop (i + 1) s)))) z ∙ plain-on (one-go (getD s i 0) (w .0)) (w .1)) (v .size))
 
-    pub scan-comma : c ≡ 2 → Scanned s at (i + 1) good (n + 1)
-    scan-comma e = let w = says .comma e in one-on (w .0) 1 (rw (w .1)) (omega arith)
+    comma-on : isOne (getD s i 0) ≡ true → eqb (getD s i 0) 0x2c ≡ true
+        → kept a n ((i - at) ∷ commasFrom (i + 1 - at) (text (drop (i + 1) s))) ≡ kept a₀ 0 (commasFrom 0 (text (drop at s)))
+    comma-on o z = ap (kept a n) (sym (places-on (one-go (getD s i 0) o) ∙ rw z)) ∙ v .places
+
+    pub scan-comma : c ≡ 2 → n < 16 → Scanned s at a₀ (set a n (i - at)) (i + 1) good (n + 1)
+    scan-comma e k =
+        let w = says .comma e in
+        let x : 16 - n ≡ suc (16 - (n + 1)) = omega arith in
+        let y : n + 1 ≡ suc n = add-one n in
+        one-on (w .0) 1 (rw (w .1)) (omega arith)
+        (ap (λ (j : ℕ). sets (set a n (i - at)) j (take (16 - (n + 1)) (commasFrom (i + 1 - at) (text (drop (i + 1) s))))) y
+        ∙ ap (λ (j : ℕ). sets a n (take j ((i - at) ∷ commasFrom (i + 1 - at) (text (drop (i + 1) s))))) (sym x) ∙ comma-on (w .0) (w .1))
+        (simp length-set (v .size))
+
+    pub scan-more : c ≡ 2 → 16 ≤ n → Scanned s at a₀ a (i + 1) good (n + 1)
+    scan-more e k =
+        let w = says .comma e in
+        let x : 16 - n ≡ 0 = omega arith in
+        let y : 16 - (n + 1) ≡ 0 = omega arith in
+        one-on (w .0) 1 (rw (w .1)) (omega arith)
+        (ap (λ (j : ℕ). sets a (n + 1) (take j (commasFrom (i + 1 - at) (text (drop (i + 1) s))))) y
+        ∙ ap (λ (j : ℕ). sets a n (take j ((i - at) ∷ commasFrom (i + 1 - at) (text (drop (i + 1) s))))) (sym x) ∙ comma-on (w .0) (w .1))
+        (v .size)
 
     -- x is what is_stop said
-    pub scan-stop : {x : Bool} → c ≡ 0 → x ≡ isStop (getD s i 0) → x ≡ true → ScanOf s at (record { end = i; good = good; commas = n })
+    pub scan-stop : {x : Bool} → c ≡ 0 → x ≡ isStop (getD s i 0) → x ≡ true → ScanOf s at a (record { end = i; good = good; commas = n })
     scan-stop e p t = done (rw now-at (simp (sym p ∙ t)))
 
     -- a byte that begins no character and is no comma
-    bad-on : isOne (getD s i 0) ≡ false → isStop (getD s i 0) ≡ false → charAt s i ≡ Bad → Scanned s at (i + 1) false n
+    bad-on : isOne (getD s i 0) ≡ false → isStop (getD s i 0) ≡ false → charAt s i ≡ Bad → Scanned s at a₀ a (i + 1) false n
     unfolding charAt
     bad-on o t e =
         let f : allChars (text (drop i s)) ≡ false = rw now-at (bad-text (getD s i 0) (drop (i + 1) s) t (ap charOf (sym now-at) ∙ e)) in
@@ -416,12 +505,15 @@ module _ {s : List ℕ} {at i : ℕ} {good : Bool} {n : ℕ} (v : Scanned s at i
           chars = v .chars ∙ ap (λ (b : Bool). good && b) f ∙ and-false good;
           commas = v .commas ∙ ap (λ (k : ℕ). n + k) (w .1 ∙ rw z (zero-add (commaCount (text (drop (i + 1) s)))));
           few = omega (arith, v .few);
+          places = plain-on t z;
+          size = v .size;
+          first = v .first;
         }
       where
         no-one-comma : (a : ℕ) → isOne a ≡ false → eqb a 0x2c ≡ false
         no-one-comma a o = ne-eqb a 0x2c (λ e. true≢false (sym (rw e) ∙ o))
 
-    pub scan-bad : {x : Bool} → c ≡ 0 → x ≡ isStop (getD s i 0) → x ≡ false → Scanned s at (i + 1) false n
+    pub scan-bad : {x : Bool} → c ≡ 0 → x ≡ isStop (getD s i 0) → x ≡ false → Scanned s at a₀ a (i + 1) false n
     unfolding charAt
     scan-bad e p t =
         let w = says .none e in
@@ -431,8 +523,8 @@ module _ {s : List ℕ} {at i : ℕ} {good : Bool} {n : ℕ} (v : Scanned s at i
         no-char a [] o l = rw o
         no-char a (b ∷ r) o l = rw (o, no-pair a b l)
 
-    module _ (a : c ≡ 1 → ⊥) (b : c ≡ 2 → ⊥) (d : c ≡ 0 → ⊥) {x : Bool} (p : PairAt s i x) where
-      pub scan-two : x ≡ true → Scanned s at (i + 2) good n
+    module _ (no1 : c ≡ 1 → ⊥) (no2 : c ≡ 2 → ⊥) (no0 : c ≡ 0 → ⊥) {x : Bool} (p : PairAt s i x) where
+      pub scan-two : x ≡ true → Scanned s at a₀ a (i + 2) good n
       unfolding charAt
       scan-two e =
           let two : i + 1 + 1 ≡ i + 2 = omega arith in
@@ -440,18 +532,22 @@ module _ {s : List ℕ} {at i : ℕ} {good : Bool} {n : ℕ} (v : Scanned s at i
           let r : drop 1 (drop (i + 1) s) ≡ drop (i + 2) s = drop-drop 1 (i + 1) s ∙ ap (λ (k : ℕ). drop k s) two in
           let w = two-text (getD s i 0) (drop (i + 1) s) t in
           let u : Leaves (drop i s) (drop (i + 2) s) 2 = rw (now-at, ← r) (w .0) in
+          let f : suc (suc (i - at)) ≡ i + 2 - at = omega (arith, v .few) in
           let m : commaCount (text (drop i s)) ≡ commaCount (text (drop (i + 2) s)) = rw (now-at, ← r) (w .1) in
           record {
             ends = omega (arith, v .ends, u .size);
             chars = v .chars ∙ ap (λ (b : Bool). good && b) (u .chars);
             commas = omega (arith, v .commas, m);
             few = omega (arith, v .few);
+            places = ap (kept a n) (sym (rw (now-at, ← r) (w .2 (i - at)) ∙ ap (λ (k : ℕ). commasFrom k (text (drop (i + 2) s))) f)) ∙ v .places;
+            size = v .size;
+            first = v .first;
           }
 
-      pub scan-half : x ≡ false → Scanned s at (i + 1) false n
-      scan-half e = bad-on (says .lead a b) (high-go (getD s i 0) (omega (arith, lead-high (getD s i 0) (says .high d a b)))) (p .tells ∙ rw e)
+      pub scan-half : x ≡ false → Scanned s at a₀ a (i + 1) false n
+      scan-half e = bad-on (says .lead no1 no2) (high-go (getD s i 0) (omega (arith, lead-high (getD s i 0) (says .high no0 no1 no2)))) (p .tells ∙ rw e)
 
-pub ruleset scan-laws = (scan-start, scan-one, scan-comma, scan-stop, scan-bad, lead-at, scan-two, scan-half, scan-end)
+pub ruleset scan-laws = (scan-start, scan-one, scan-comma, scan-more, scan-stop, scan-bad, lead-at, scan-two, scan-half, scan-end)
 
 -- what a caller lends is the table
 pub classes-lent : Classes (classesFrom 0 256)

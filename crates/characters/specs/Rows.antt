@@ -7,7 +7,7 @@ use mathlib.Core.List.{List, [], _∷_, _++_}
 use lib.Dec.{eqb}
 use lib.ListN.{length, drop}
 use Rattle.lists.specs.Lists.{same, part}
-use Rattle.characters.specs.Text.{allChars, clean, text, commaCount}
+use Rattle.characters.specs.Text.{allChars, clean, text, commaCount, Stops, Sixteen}
 use Rattle.characters.specs.declared.Line.{Line}
 use Rattle.characters.specs.declared.Line.the-variants.{Whole, Mark, End, Broken}
 
@@ -40,24 +40,26 @@ endMark = 0x1a ∷ []
 -- ---- what stands where a row begins, as the code answers it
 
 -- a line from at to e with n commas, and the rows behind its end
-pub record WholeLine (s : List ℕ) (at e : ℕ) (good : Bool) (n : ℕ) : Type 0 where
+pub record WholeLine (s : List ℕ) (at : ℕ) (stops : List ℕ) (e : ℕ) (good : Bool) (n : ℕ) : Type 0 where
   pub low : at ≤ e
   pub high : e + 2 ≤ length s
   pub cut : rows (drop at s) ≡ (part s at e ++ lineEnd) ∷ rows (drop (e + 2) s)
   pub clear : clean (part s at e) ≡ true
   pub chars : good ≡ allChars (part s at e)
   pub commas : n ≡ commaCount (part s at e)
+  pub places : Stops (part s at e) stops
 
 -- the first row is no line, and no 1Ah at the end
 abbrev pub BrokenRow : List (List ℕ) → Type 0
 BrokenRow [] = ⊥
 BrokenRow (r ∷ rs) = (isLine r ≡ false) × (same r endMark ≡ false)
 
-abbrev pub LineMeans : List ℕ → ℕ → Line → Type 0
-LineMeans s at (Whole e good n) = WholeLine s at e good n
-LineMeans s at Mark = rows (drop at s) ≡ endMark ∷ []
-LineMeans s at End = rows (drop at s) ≡ []
-LineMeans s at Broken = BrokenRow (rows (drop at s))
+abbrev pub LineMeans : List ℕ → ℕ → List ℕ → Line → Type 0
+LineMeans s at stops (Whole e good n) = WholeLine s at stops e good n
+LineMeans s at stops Mark = rows (drop at s) ≡ endMark ∷ []
+LineMeans s at stops End = rows (drop at s) ≡ []
+LineMeans s at stops Broken = BrokenRow (rows (drop at s))
 
-pub record LineOf (s : List ℕ) (at : ℕ) (r : Line) : Type 0 where
-  pub means : LineMeans s at r
+pub record LineOf (s : List ℕ) (at : ℕ) (stops : List ℕ) (r : Line) : Type 0 where
+  pub means : LineMeans s at stops r
+  pub size : Sixteen stops

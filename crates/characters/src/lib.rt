@@ -5,7 +5,7 @@ ghost use mathlib.Core.Path.{_≡_};
 ghost use Prim.Native.Nat.{_≤_, _<_};
 ghost use Rattle.lists.specs.Lists.{within as isWithin};
 ghost use Rattle.characters.specs.Cells.{row2, row3, allowed, leadRow, trailCell, trailRow, isOne, isLead, isTrail, isPair};
-ghost use Rattle.characters.specs.Text.{isStop, ScanOf};
+ghost use Rattle.characters.specs.Text.{isStop, ScanOf, Sixteen};
 ghost use Rattle.characters.specs.Classes.{Classes, classOf, isKana, LeadAt, PairAt};
 ghost use Rattle.characters.specs.Rows.{LineOf};
 
@@ -428,10 +428,12 @@ pub struct Scan {
 }
 
 // Where the first 0Dh, 0Ah or 1Ah from a position stands, or the end; whether all before it is characters; and how many of them are
-// commas. None of the three is a character or a trail, so a step over a character never passes one, behind a bad byte too.
-pub fn scan_text(classes: &[u8; 256], s: &[u8], at: usize) -> Scan
+// commas, the first sixteen with their places from the position on. None of the three is a character or a trail, so a step over a
+// character never passes one, behind a bad byte too.
+pub fn scan_text(classes: &[u8; 256], stops: &mut [usize; 16], s: &[u8], at: usize) -> Scan
     requires { ⌜ Classes (now classes) ⌝ }
-    ensures { λ r. ⌜ ScanOf (now (s .entry)) at r ⌝ }
+    requires { ⌜ Sixteen (now stops) ⌝ }
+    ensures { λ r. ⌜ ScanOf (now (s .entry)) at (now (stops .exit)) r ⌝ }
 {
     let mut i = at;
     let mut good = true;
@@ -441,17 +443,15 @@ pub fn scan_text(classes: &[u8; 256], s: &[u8], at: usize) -> Scan
         let c = class_of(classes, b);
         if c == 1 {
             i += 1;
-            while i < s.len() {
-                let next = s[i];
-                let class = class_of(classes, next);
-                if class != 1 {
-                    break;
-                }
+        } else if c == 2 {
+            if commas < 16 {
+                stops[commas] = i - at;
+                commas += 1;
+                i += 1;
+            } else {
+                commas += 1;
                 i += 1;
             }
-        } else if c == 2 {
-            commas += 1;
-            i += 1;
         } else if c == 0 {
             if is_stop(b) {
                 return Scan {
@@ -488,14 +488,16 @@ pub enum Line {
     Broken,
 }
 
-pub fn line_at(classes: &[u8; 256], s: &[u8], at: usize) -> Line
+// The line that begins at a position; stops: the places of its commas, from its beginning.
+pub fn line_at(classes: &[u8; 256], stops: &mut [usize; 16], s: &[u8], at: usize) -> Line
     requires { ⌜ Classes (now classes) ⌝ }
-    ensures { λ r. ⌜ LineOf (now (s .entry)) at r ⌝ }
+    requires { ⌜ Sixteen (now stops) ⌝ }
+    ensures { λ r. ⌜ LineOf (now (s .entry)) at (now (stops .exit)) r ⌝ }
 {
     if s.len() <= at {
         return Line::End;
     }
-    let r = scan_text(classes, s, at);
+    let r = scan_text(classes, stops, s, at);
     let end = r.end;
     let good = r.good;
     let commas = r.commas;

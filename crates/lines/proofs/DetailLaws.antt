@@ -18,13 +18,12 @@ use Rattle.calendar.specs.declared.DateRead.the-variants.{Date, NotADate}
 use Rattle.calendar.specs.declared.Day.{Day}
 use Rattle.calendar.specs.Era.{readDay}
 use Rattle.records.specs.Items.{dayValue}
-use Rattle.records.specs.Split.{itemsFrom}
+use Rattle.records.specs.Split.{itemsOf}
 use Rattle.lines.specs.declared.Span.{Span}
 use Rattle.lines.specs.declared.Usage.{Usage}
 use Rattle.lines.specs.declared.Details.{Details}
 use Rattle.lines.specs.Facts.{dayOf}
-use Rattle.lines.specs.Codes.{ItemAt, codeRaw, formRaw, pairsRaw, orZero, rpRaw, dayRaw, rpRecords, factsRaw, detailsRaw, bareDetails, otherDetails, usageRaw}
-use Rattle.lines.proofs.SplitLaws.{Behind, behind-start, behind-next, behind-item}
+use Rattle.lines.specs.Codes.{SpanAt, codeRaw, formRaw, pairsRaw, orZero, rpRaw, dayRaw, rpRecords, factsRaw, detailsRaw, bareDetails, otherDetails, usageRaw}
 
 -- ---- values
 
@@ -68,22 +67,12 @@ raw-201 : (ss : List (List ℕ)) (x : Bool) (rp : ℕ) → x ≡ codeRaw (getD s
 unfolding detailsRaw pairsRaw factsRaw
 raw-201 ss x rp p q = rw (p, q)
 
-raw-301 : (ss : List (List ℕ)) (z : Bool) (rp : ℕ) (u : Usage) → u ≡ usageRaw (drop 2 ss) → z ≡ empty (getD ss 1 []) → rp ≡ rpRaw (getD ss 0 [])
+raw-301 : (ss : List (List ℕ)) (z : Bool) (rp : ℕ) (u : Usage) → u ≡ usageRaw ss → z ≡ empty (getD ss 1 []) → rp ≡ rpRaw (getD ss 0 [])
     → _≡_ {A = Details} (record { paired = u .paired; facts = record { number = 301; rp = rp; day = 0; schedule = 0; form = u .form; named = not z } }) (detailsRaw 301 ss)
 unfolding detailsRaw pairsRaw factsRaw usageRaw
-raw-301 ss z rp u p q r = rw (p, q, r) (on ss)
-  where
-    -- two items further on
-    at-2 : (ss : List (List ℕ)) (k : ℕ) → getD (drop 2 ss) k [] ≡ getD ss (suc (suc k)) []
-    at-2 [] k = refl
-    at-2 (a ∷ []) k = refl
-    at-2 (a ∷ b ∷ ss) k = refl
+raw-301 ss z rp u p q r = rw (p, q, r)
 
-    on : (ss : List (List ℕ))
-        → _≡_ {A = Details} (record { paired = (usageRaw (drop 2 ss)) .paired; facts = record { number = 301; rp = rpRaw (getD ss 0 []); day = 0; schedule = 0; form = (usageRaw (drop 2 ss)) .form; named = not (empty (getD ss 1 [])) } }) (detailsRaw 301 ss)
-    on ss = rw (at-2 ss 0, at-2 ss 1, at-2 ss 2, at-2 ss 3, at-2 ss 4)
-
--- ---- the code's ways: each span is the item behind the one before it
+-- ---- the code's ways
 
 -- whether a part is empty, by its ends
 part-empty : (s : List ℕ) (a e : ℕ) → a ≤ e → e ≤ length s → empty (part s a e) ≡ eqb a e
@@ -96,64 +85,43 @@ part-empty s a e h k = empty-is (part s a e) ∙ go (eqb a e) refl
     go true q = eq-eqb (length (part s a e)) 0 (omega (arith, n, eqb-true a e q))
     go false q = ne-eqb (length (part s a e)) 0 (λ z. eqb-false a e q (omega (arith, n, z)))
 
-module _ {s : List ℕ} {at : ℕ} {i1 : Span} (v1 : ItemAt s at i1) where
-  b1 : Behind s at 1 (i1 .next)
-  b1 = behind-next (behind-start s at) v1
+-- an item behind the number, by its number in the line
+on-1 : (xs : List (List ℕ)) (k : ℕ) → getD (drop 1 xs) k [] ≡ getD xs (suc k) []
+on-1 [] k = refl
+on-1 (x ∷ xs) k = refl
 
-  item-1 : part s (i1 .from) (i1 .to) ≡ getD (itemsFrom s at) 0 []
-  item-1 = behind-item (behind-start s at) v1
+item-is : {s : List ℕ} {i : Span} (k : ℕ) → SpanAt s (suc k) i → part s (i .from) (i .to) ≡ getD (drop 1 (itemsOf s)) k []
+item-is {s} k v = v .says ∙ sym (on-1 (itemsOf s) k)
 
-  pub first-is : {r : ℕ} → r ≡ rpRaw (part s (i1 .from) (i1 .to)) → r ≡ rpRaw (getD (itemsFrom s at) 0 [])
-  first-is e = e ∙ ap rpRaw item-1
+module _ {s : List ℕ} where
+  pub first-is : {i1 : Span} {r : ℕ} → SpanAt s 1 i1 → r ≡ rpRaw (part s (i1 .from) (i1 .to)) → r ≡ rpRaw (getD (drop 1 (itemsOf s)) 0 [])
+  first-is v1 e = e ∙ ap rpRaw (item-is 0 v1)
 
-  pub details-5 : {d : ℕ} {r : Details} → d ≡ dayRaw (part s (i1 .from) (i1 .to)) → r ≡ bareDetails 5 0 d 0 → r ≡ detailsRaw 5 (itemsFrom s at)
-  details-5 p q = q ∙ ap (λ (x : ℕ). bareDetails 5 0 x 0) (p ∙ ap dayRaw item-1) ∙ raw-5 (itemsFrom s at)
+  pub details-5 : {i1 : Span} {d : ℕ} {r : Details} → SpanAt s 1 i1 → d ≡ dayRaw (part s (i1 .from) (i1 .to)) → r ≡ bareDetails 5 0 d 0 → r ≡ detailsRaw 5 (drop 1 (itemsOf s))
+  details-5 v1 p q = q ∙ ap (λ (x : ℕ). bareDetails 5 0 x 0) (p ∙ ap dayRaw (item-is 0 v1)) ∙ raw-5 (drop 1 (itemsOf s))
 
-  module _ {i2 i3 : Span} (v2 : ItemAt s (i1 .next) i2) (v3 : ItemAt s (i2 .next) i3) where
-    b2 : Behind s at 2 (i2 .next)
-    b2 = behind-next b1 v2
+  pub details-11 : {i3 : Span} {n : ℕ} {r : Details} → SpanAt s 3 i3 → n ≡ plainNumber (part s (i3 .from) (i3 .to)) → r ≡ bareDetails 11 0 0 n → r ≡ detailsRaw 11 (drop 1 (itemsOf s))
+  details-11 v3 p q = q ∙ ap (λ (x : ℕ). bareDetails 11 0 0 x) (p ∙ ap plainNumber (item-is 2 v3)) ∙ raw-11 (drop 1 (itemsOf s))
 
-    b3 : Behind s at 3 (i3 .next)
-    b3 = behind-next b2 v3
+  pub details-201 : {i1 i5 i6 : Span} {x : Bool} {rp : ℕ} → SpanAt s 1 i1 → SpanAt s 5 i5 → SpanAt s 6 i6 → rp ≡ rpRaw (part s (i1 .from) (i1 .to))
+      → x ≡ codeRaw (part s (i5 .from) (i5 .to)) (part s (i6 .from) (i6 .to))
+      → _≡_ {A = Details} (record { paired = x; facts = record { number = 201; rp = rp; day = 0; schedule = 0; form = 0; named = false } }) (detailsRaw 201 (drop 1 (itemsOf s)))
+  details-201 {x = x} {rp = rp} v1 v5 v6 p q = raw-201 (drop 1 (itemsOf s)) x rp (q ∙ ap₂ codeRaw (item-is 4 v5) (item-is 5 v6)) (p ∙ ap rpRaw (item-is 0 v1))
 
-    pub details-11 : {n : ℕ} {r : Details} → n ≡ plainNumber (part s (i3 .from) (i3 .to)) → r ≡ bareDetails 11 0 0 n → r ≡ detailsRaw 11 (itemsFrom s at)
-    details-11 p q = q ∙ ap (λ (x : ℕ). bareDetails 11 0 0 x) (p ∙ ap plainNumber (behind-item b2 v3)) ∙ raw-11 (itemsFrom s at)
+  pub details-301 : {i1 i2 : Span} {u : Usage} {rp : ℕ} → SpanAt s 1 i1 → SpanAt s 2 i2 → u ≡ usageRaw (drop 1 (itemsOf s)) → rp ≡ rpRaw (part s (i1 .from) (i1 .to))
+      → _≡_ {A = Details} (record { paired = u .paired; facts = record { number = 301; rp = rp; day = 0; schedule = 0; form = u .form; named = not (eqb (i2 .from) (i2 .to)) } }) (detailsRaw 301 (drop 1 (itemsOf s)))
+  details-301 {i2 = i2} {u = u} {rp = rp} v1 v2 p q =
+      raw-301 (drop 1 (itemsOf s)) (eqb (i2 .from) (i2 .to)) rp u p
+      (sym (part-empty s (i2 .from) (i2 .to) (v2 .low) (v2 .high)) ∙ ap empty (item-is 1 v2))
+      (q ∙ ap rpRaw (item-is 0 v1))
 
-    module _ {i4 i5 i6 : Span} (v4 : ItemAt s (i3 .next) i4) (v5 : ItemAt s (i4 .next) i5) (v6 : ItemAt s (i5 .next) i6) where
-      b4 : Behind s at 4 (i4 .next)
-      b4 = behind-next b3 v4
-
-      b5 : Behind s at 5 (i5 .next)
-      b5 = behind-next b4 v5
-
-      b6 : Behind s at 6 (i6 .next)
-      b6 = behind-next b5 v6
-
-      pub details-201 : {x : Bool} {rp : ℕ} → rp ≡ rpRaw (part s (i1 .from) (i1 .to)) → x ≡ codeRaw (part s (i5 .from) (i5 .to)) (part s (i6 .from) (i6 .to))
-          → _≡_ {A = Details} (record { paired = x; facts = record { number = 201; rp = rp; day = 0; schedule = 0; form = 0; named = false } }) (detailsRaw 201 (itemsFrom s at))
-      details-201 {x} {rp} p q = raw-201 (itemsFrom s at) x rp (q ∙ ap₂ codeRaw (behind-item b4 v5) (behind-item b5 v6)) (p ∙ ap rpRaw item-1)
-
-  module _ {i2 : Span} (w2 : ItemAt s (i1 .next) i2) where
-    pub details-301 : {u : Usage} {rp : ℕ} → u ≡ usageRaw (itemsFrom s (i2 .next)) → rp ≡ rpRaw (part s (i1 .from) (i1 .to))
-        → _≡_ {A = Details} (record { paired = u .paired; facts = record { number = 301; rp = rp; day = 0; schedule = 0; form = u .form; named = not (eqb (i2 .from) (i2 .to)) } }) (detailsRaw 301 (itemsFrom s at))
-    details-301 {u} {rp} p q =
-        raw-301 (itemsFrom s at) (eqb (i2 .from) (i2 .to)) rp u
-        (p ∙ ap usageRaw (behind-next b1 w2 .left))
-        (sym (part-empty s (i2 .from) (i2 .to) (w2 .low) (w2 .high)) ∙ ap empty (behind-item b1 w2))
-        (q ∙ ap rpRaw item-1)
-
--- a 301 from its quantity on
-module _ {s : List ℕ} {at : ℕ} {i1 i2 i3 i4 i5 : Span} (v1 : ItemAt s at i1) (v2 : ItemAt s (i1 .next) i2) (v3 : ItemAt s (i2 .next) i3) (v4 : ItemAt s (i3 .next) i4) (v5 : ItemAt s (i4 .next) i5) where
-  pub usage-is : {x y : Bool} {form : ℕ} → x ≡ codeRaw (part s (i4 .from) (i4 .to)) (part s (i5 .from) (i5 .to))
-      → y ≡ formRaw (part s (i3 .from) (i3 .to)) (part s (i1 .from) (i1 .to)) (part s (i2 .from) (i2 .to)) → form ≡ plainNumber (part s (i3 .from) (i3 .to))
-      → _≡_ {A = Usage} (record { paired = x && y; form = form }) (usageRaw (itemsFrom s at))
+  -- a 301 from its quantity on
+  pub usage-is : {i3 i4 i5 i6 i7 : Span} {x y : Bool} {form : ℕ} → SpanAt s 3 i3 → SpanAt s 4 i4 → SpanAt s 5 i5 → SpanAt s 6 i6 → SpanAt s 7 i7
+      → x ≡ codeRaw (part s (i6 .from) (i6 .to)) (part s (i7 .from) (i7 .to))
+      → y ≡ formRaw (part s (i5 .from) (i5 .to)) (part s (i3 .from) (i3 .to)) (part s (i4 .from) (i4 .to)) → form ≡ plainNumber (part s (i5 .from) (i5 .to))
+      → _≡_ {A = Usage} (record { paired = x && y; form = form }) (usageRaw (drop 1 (itemsOf s)))
   unfolding usageRaw
-  usage-is p q r =
-      let c1 = behind-next (behind-start s at) v1 in
-      let c2 = behind-next c1 v2 in
-      let c3 = behind-next c2 v3 in
-      let c4 = behind-next c3 v4 in
-      rw (p, q, r, behind-item (behind-start s at) v1, behind-item c1 v2, behind-item c2 v3, behind-item c3 v4, behind-item c4 v5)
+  usage-is v3 v4 v5 v6 v7 p q r = rw (p, q, r, item-is 2 v3, item-is 3 v4, item-is 4 v5, item-is 5 v6, item-is 6 v7)
 
 -- ---- the records without pairs
 

@@ -9,18 +9,20 @@ use lib.Dec.{leb, eqb}
 use lib.ListN.{length, take, drop}
 use Rattle.lists.specs.Lists.{same, part, findFrom, unless, _orElse_}
 use Rattle.lists.proofs.Tests.{or-stops, not-false′}
+use Rattle.lists.proofs.Loops.{find-high}
 use Rattle.digits.specs.Digits.{spell}
 use Rattle.digits.specs.Short.{plainNumber}
 use Rattle.digits.proofs.Spelling.{same-spell}
+use Rattle.characters.specs.Text.{Stops, Sixteen}
 use Rattle.order.specs.declared.Facts.{Facts}
-use Rattle.records.specs.Split.{itemsOf, itemsFrom, itemEnd}
+use Rattle.records.specs.Split.{itemsOf, itemsFrom}
 use Rattle.records.specs.Table.{Row, table}
 use Rattle.records.specs.Records.{t911, rowOf, recordFrom, recordOf, itemsValue, itemsFault, pairs, faultFrom, faultWhere}
 use Rattle.lines.specs.declared.Details.{Details}
 use Rattle.lines.specs.declared.LineRead.{LineRead}
 use Rattle.lines.specs.declared.LineRead.the-variants.{Fault, Fine}
 use Rattle.lines.specs.Facts.{factsOf, lineRead}
-use Rattle.lines.specs.Codes.{codes, sliceOf, placeOf, placeIn, Lent, Commas, InCodes, pairsRaw, factsRaw, detailsRaw}
+use Rattle.lines.specs.Codes.{codes, sliceOf, placeOf, placeIn, Lent, Commas, InCodes, Spanned, pairsRaw, factsRaw, detailsRaw}
 use Rattle.lines.proofs.SplitLaws.{items-all, item-cut, items-count}
 use Rattle.lines.proofs.TableLaws.{rowBy, RowAt, row-of, row-of-number, slice-length}
 use Rattle.lines.proofs.FactLaws.{pairs-is, facts-is}
@@ -84,14 +86,19 @@ read-fault : (g b : Bool) (s : List ℕ) (k : ℕ) → (k ≡ 0 → ⊥) → fau
 unfolding lineRead
 read-fault g b s k z e = rw (e, ne-eqb k 0 z)
 
+pub first-inside : (s : List ℕ) {e : ℕ} → e ≡ findFrom 0x2c s 0 → e ≤ length s
+first-inside s q = omega (arith, q, find-high 0x2c s 0 (omega arith))
+
 pub read-chars : (s : List ℕ) (b g : Bool) → not g ≡ true → Fault 4 ≡ lineRead g b s
 unfolding faultWhere
 read-chars s b true e = absurd (false≢true e)
 read-chars s b false e = read-fault false b s 4 (λ z. omega arith) refl
 
-module _ (s : List ℕ) (b g : Bool) {e n : ℕ} (t : not g ≡ false) (q : e ≡ itemEnd s 0) (m : n ≡ plainNumber (take (e - 0) (drop 0 s))) where
-  found : {place : ℕ} → place ≡ placeOf n → InCodes place → Found s (take (e - 0) (drop 0 s)) (itemsFrom s (e + 1)) n place
-  found p i = record { cut = items-all s ∙ item-cut s 0 (omega arith) q; number = m; place-is = p; inside = i }
+module _ (s : List ℕ) (b g : Bool) {e n : ℕ} (t : not g ≡ false) (q : e ≡ findFrom 0x2c s 0) (m : n ≡ plainNumber (take (e - 0) (drop 0 s))) where
+  found : {place : ℕ} → place ≡ placeOf n → InCodes place → Found s (take (e - 0) (drop 0 s)) (drop 1 (itemsOf s)) n place
+  found p i =
+      let c : itemsOf s ≡ take (e - 0) (drop 0 s) ∷ itemsFrom s (e + 1) = items-all s ∙ item-cut s 0 (omega arith) q in
+      record { cut = c ∙ ap (λ (x : List (List ℕ)). take (e - 0) (drop 0 s) ∷ x) (sym (ap (λ (x : List (List ℕ)). drop 1 x) c)); number = m; place-is = p; inside = i }
 
   past : (k : ℕ) → faultFrom b (itemsOf s) ≡ k → faultWhere g b s ≡ k
   unfolding faultWhere
@@ -108,7 +115,10 @@ module _ (s : List ℕ) (b g : Bool) {e n : ℕ} (t : not g ≡ false) (q : e �
     read-unlisted z = read-fault g b s 5 (λ z. omega arith) (past 5 (fault-is (found p i) b ∙ rw (ne-eqb n 911 x, lt-leb 1 place (omega arith))))
 
     module _ {commas : ℕ} (z : place ≡ 0 → ⊥) (k : Commas s commas) where
-      counted : commas ≡ length (itemsFrom s (e + 1))
+      pub read-spanned : {stops : List ℕ} → Stops s stops → Sixteen stops → commas ≡ place % 16 → Spanned s stops commas
+      read-spanned v y w = record { places = v; commas = k; few = omega arith; size = y }
+
+      counted : commas ≡ length (drop 1 (itemsOf s))
       counted = omega (arith, k .is, items-count s, ap length (found p i .cut))
 
       pub read-count : (commas ≡ place % 16 → ⊥) → Fault 7 ≡ lineRead g b s
@@ -116,19 +126,19 @@ module _ (s : List ℕ) (b g : Bool) {e n : ℕ} (t : not g ≡ false) (q : e �
           read-fault g b s 7 (λ z. omega arith) (past 7 (fault-is (found p i) b ∙ rw (
             ne-eqb n 911 x,
             le-leb 1 place (omega arith),
-            ne-eqb (length (itemsFrom s (e + 1))) (place % 16) (λ y. w (omega (arith, counted, y))),
+            ne-eqb (length (drop 1 (itemsOf s))) (place % 16) (λ y. w (omega (arith, counted, y))),
           )))
 
-      module _ {f : ℕ} (w : commas ≡ place % 16) (v : f ≡ itemsFault b (sliceOf place) (itemsFrom s (e + 1))) where
-        length-is : length (itemsFrom s (e + 1)) ≡ place % 16
+      module _ {f : ℕ} (w : commas ≡ place % 16) (v : f ≡ itemsFault b (sliceOf place) (drop 1 (itemsOf s))) where
+        length-is : length (drop 1 (itemsOf s)) ≡ place % 16
         length-is = omega (arith, counted, w)
 
-        left : faultFrom b (itemsOf s) ≡ f orElse unless (pairsRaw n (itemsFrom s (e + 1))) 12
+        left : faultFrom b (itemsOf s) ≡ f orElse unless (pairsRaw n (drop 1 (itemsOf s))) 12
         left =
             fault-is (found p i) b ∙ rw (
               ne-eqb n 911 x,
               le-leb 1 place (omega arith),
-              eq-eqb (length (itemsFrom s (e + 1))) (place % 16) length-is,
+              eq-eqb (length (drop 1 (itemsOf s))) (place % 16) length-is,
               pairs-of (found p i) z length-is,
               ← v,
             )
@@ -136,8 +146,8 @@ module _ (s : List ℕ) (b g : Bool) {e n : ℕ} (t : not g ≡ false) (q : e �
         pub read-items : (f ≡ 0 → ⊥) → Fault f ≡ lineRead g b s
         read-items y = read-fault g b s f y (past f (left ∙ or-stops f _ y))
 
-        module _ (o : f ≡ 0) {d : Details} (h : d ≡ detailsRaw n (itemsFrom s (e + 1))) where
-          paired-is : d .paired ≡ pairsRaw n (itemsFrom s (e + 1))
+        module _ (o : f ≡ 0) {d : Details} (h : d ≡ detailsRaw n (drop 1 (itemsOf s))) where
+          paired-is : d .paired ≡ pairsRaw n (drop 1 (itemsOf s))
           unfolding detailsRaw
           paired-is = ap (λ (y : Details). y .paired) h
 
@@ -147,7 +157,7 @@ module _ (s : List ℕ) (b g : Bool) {e n : ℕ} (t : not g ≡ false) (q : e �
 
           by-pairs : (y : Bool) → d .paired ≡ y → faultWhere g b s ≡ unless y 12
           by-pairs y r =
-              past (unless y 12) (left ∙ ap (λ (c : ℕ). c orElse unless (pairsRaw n (itemsFrom s (e + 1))) 12) o ∙ ap (λ (c : Bool). unless c 12) (sym paired-is ∙ r))
+              past (unless y 12) (left ∙ ap (λ (c : ℕ). c orElse unless (pairsRaw n (drop 1 (itemsOf s))) 12) o ∙ ap (λ (c : Bool). unless c 12) (sym paired-is ∙ r))
 
           pub read-fine : d .paired ≡ true → Fine (d .facts) ≡ lineRead g b s
           unfolding lineRead
@@ -156,4 +166,4 @@ module _ (s : List ℕ) (b g : Bool) {e n : ℕ} (t : not g ≡ false) (q : e �
           pub read-pairs : d .paired ≡ false → Fault 12 ≡ lineRead g b s
           read-pairs r = read-fault g b s 12 (λ z. omega arith) (by-pairs false r)
 
-pub ruleset read-laws = (read-chars, read-mark, read-unlisted, read-count, read-items, read-fine, read-pairs)
+pub ruleset read-laws = (read-chars, first-inside, read-mark, read-unlisted, read-count, read-spanned, read-items, read-fine, read-pairs)

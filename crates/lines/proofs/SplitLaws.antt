@@ -1,22 +1,22 @@
 -- A line's items by positions: the item at a position and the items behind it, and how many there are. Assumes nothing.
 use Prim.Native.Nat.{ℕ, zero, suc, _+_, _-_, _≤_, _<_}
 use native.Mathlib.Nat.{add-sub-cancel-left}
-use mathlib.Core.Path.{_≡_, refl, sym, ap, ap₂, _∙_}
+use mathlib.Core.Path.{_≡_, refl, sym, ap, ap₂, _∙_, subst}
 use mathlib.Core.Bool.{Bool, true, false, cond}
-use mathlib.Core.List.{List, [], _∷_}
+use mathlib.Core.List.{List, [], _∷_, map}
 use native.Mathlib.Omega.{arith}
 use native.Mathlib.Decide.{decLt}
-use borrow.Author.Tests.{le-leb, lt-leb, eq-eqb, ne-eqb}
+use borrow.Author.Tests.{le-leb, lt-leb, leb-true, leb-false}
 use lib.Dec.{leb, eqb, leb·zero}
-use lib.ListN.{length, take, drop, getD}
+use lib.ListN.{length, take, drop, getD, length-map}
 use lib.Seq.{drop-drop}
 use Rattle.lists.specs.Lists.{part, upTo, findFrom}
 use Rattle.lists.proofs.Cuts.{drop-step, drop-end, take-upTo}
 use Rattle.lists.proofs.Loops.{find-low, find-high}
-use Rattle.characters.specs.Text.{commaCount}
+use Rattle.characters.specs.Text.{commaCount, commasFrom, Stops, Sixteen}
 use Rattle.records.specs.Split.{isComma, consItem, itemsOf, itemsFrom, itemEnd}
 use Rattle.lines.specs.declared.Span.{Span}
-use Rattle.lines.specs.Codes.{ItemAt}
+use Rattle.lines.specs.Codes.{Commas, Spanned, SpanAt}
 
 -- the items after the first one, from the byte that ends it
 tailItems : List ℕ → List (List ℕ)
@@ -50,56 +50,11 @@ pub items-all : (s : List ℕ) → itemsOf s ≡ itemsFrom s 0
 unfolding itemsFrom
 items-all s = rw (leb·zero (length s))
 
--- ---- the item at a position, by where its comma stands
-
-pub item-none : (s : List ℕ) (at : ℕ) → length s < at → ItemAt s at (record { from = 0; to = 0; next = at })
-unfolding itemsFrom
-item-none s at h =
-    let e : leb at (length s) ≡ false = lt-leb at (length s) h in
-    record { says = rw e; rest = rw e; low = omega arith; high = omega arith }
+-- ---- the first item, by where its comma stands
 
 module _ (s : List ℕ) (at : ℕ) {e : ℕ} (h : at ≤ length s) (q : e ≡ findFrom 0x2c s at) where
   pub item-cut : itemsFrom s at ≡ part s at e ∷ itemsFrom s (e + 1)
   item-cut = items-from s at h ∙ ap (λ (x : ℕ). part s at x ∷ itemsFrom s (x + 1)) (sym q)
-
-  pub item-here : ItemAt s at (record { from = at; to = e; next = e + 1 })
-  item-here = record {
-    says = sym (ap (λ (x : List (List ℕ)). getD x 0 []) item-cut);
-    rest = sym (ap (λ (x : List (List ℕ)). drop 1 x) item-cut);
-    low = omega (arith, q, find-low 0x2c s at);
-    high = omega (arith, q, find-high 0x2c s at h);
-  }
-
-  pub end-inside : e ≤ length s
-  end-inside = omega (arith, q, find-high 0x2c s at h)
-
-  pub end-from : at ≤ e
-  end-from = omega (arith, q, find-low 0x2c s at)
-
-drop-on : (xs : List (List ℕ)) (k : ℕ) → drop 1 (drop k xs) ≡ drop (suc k) xs
-drop-on [] zero = refl
-drop-on [] (suc k) = refl
-drop-on (x ∷ xs) zero = refl
-drop-on (x ∷ xs) (suc k) = drop-on xs k
-
-getD-drop-0 : (xs : List (List ℕ)) (k : ℕ) → getD (drop k xs) 0 [] ≡ getD xs k []
-getD-drop-0 [] zero = refl
-getD-drop-0 [] (suc k) = refl
-getD-drop-0 (x ∷ xs) zero = refl
-getD-drop-0 (x ∷ xs) (suc k) = getD-drop-0 xs k
-
--- the items from p on are those behind the first k
-pub record Behind (s : List ℕ) (at k p : ℕ) : Type 0 where
-  pub left : itemsFrom s p ≡ drop k (itemsFrom s at)
-
-pub behind-start : (s : List ℕ) (at : ℕ) → Behind s at 0 at
-behind-start s at = record { left = refl }
-
-pub behind-next : {s : List ℕ} {at k p : ℕ} {r : Span} → Behind s at k p → ItemAt s p r → Behind s at (suc k) (r .next)
-behind-next {s} {at} {k} b v = record { left = v .rest ∙ ap (λ (x : List (List ℕ)). drop 1 x) (b .left) ∙ drop-on (itemsFrom s at) k }
-
-pub behind-item : {s : List ℕ} {at k p : ℕ} {r : Span} → Behind s at k p → ItemAt s p r → part s (r .from) (r .to) ≡ getD (itemsFrom s at) k []
-behind-item {s} {at} {k} b v = v .says ∙ ap (λ (x : List (List ℕ)). getD x 0 []) (b .left) ∙ getD-drop-0 (itemsFrom s at) k
 
 -- ---- how many
 
@@ -114,3 +69,183 @@ items-count (a ∷ l) = go (isComma a) (items-count l)
     go : (b : Bool) → length (itemsOf l) ≡ suc (commaCount l) → length (cond b ([] ∷ itemsOf l) (consItem a (itemsOf l))) ≡ suc (cond b 1 0 + commaCount l)
     go true e = omega (arith, e)
     go false e = omega (arith, e, length-cons a l)
+
+-- ---- every item, by the places of the commas
+
+startOf : List ℕ → ℕ → ℕ
+startOf ps zero = 0
+startOf ps (suc j) = suc (getD ps j 0)
+
+endOf : List ℕ → ℕ → ℕ → ℕ
+endOf ps n j = cond (leb (suc j) (length ps)) (getD ps j 0) n
+
+comma-shift : (k : ℕ) (l : List ℕ) → commasFrom (suc k) l ≡ map suc (commasFrom k l)
+comma-shift k [] = refl
+comma-shift k (a ∷ l) = go (isComma a) (comma-shift (suc k) l)
+  where
+    go : (b : Bool) → commasFrom (suc (suc k)) l ≡ map suc (commasFrom (suc k) l)
+        → cond b (suc k ∷ commasFrom (suc (suc k)) l) (commasFrom (suc (suc k)) l) ≡ map suc (cond b (k ∷ commasFrom (suc k) l) (commasFrom (suc k) l))
+    go true e = ap (λ (x : List ℕ). suc k ∷ x) e
+    go false e = e
+
+getD-suc : (ps : List ℕ) (j : ℕ) → j < length ps → getD (map suc ps) j 0 ≡ suc (getD ps j 0)
+getD-suc [] j h = absurd (omega arith)
+getD-suc (p ∷ ps) zero h = refl
+getD-suc (p ∷ ps) (suc j) h = getD-suc ps j (omega arith)
+
+end-shift : (ps : List ℕ) (n j : ℕ) → endOf (map suc ps) (suc n) j ≡ suc (endOf ps n j)
+unfolding endOf
+end-shift ps n j = rw (length-map ps suc) (go (leb (suc j) (length ps)) refl)
+  where
+    go : (b : Bool) → leb (suc j) (length ps) ≡ b → cond b (getD (map suc ps) j 0) (suc n) ≡ suc (cond b (getD ps j 0) n)
+    go true e = getD-suc ps j (leb-true (suc j) (length ps) e)
+    go false e = refl
+
+end-behind : (p : ℕ) (ps : List ℕ) (n j : ℕ) → endOf (p ∷ ps) n (suc j) ≡ endOf ps n j
+unfolding endOf
+end-behind p ps n j = go (leb (suc j) (length ps)) refl
+  where
+    go : (b : Bool) → leb (suc j) (length ps) ≡ b → cond (leb (suc (suc j)) (suc (length ps))) (getD ps j 0) n ≡ cond b (getD ps j 0) n
+    go true e = rw (le-leb (suc (suc j)) (suc (length ps)) (omega (arith, leb-true (suc j) (length ps) e)))
+    go false e = rw (lt-leb (suc (suc j)) (suc (length ps)) (omega (arith, leb-false (suc j) (length ps) e)))
+
+part-shift : (a : ℕ) (l : List ℕ) (x e : ℕ) → part (a ∷ l) (suc x) (suc e) ≡ part l x e
+part-shift a l x e = let z : suc e - suc x ≡ e - x = omega arith in ap (λ (k : ℕ). take k (drop x l)) z
+
+count-places : (k : ℕ) (l : List ℕ) → length (commasFrom k l) ≡ commaCount l
+count-places k [] = refl
+count-places k (a ∷ l) = go (isComma a) (count-places (suc k) l)
+  where
+    go : (b : Bool) → length (commasFrom (suc k) l) ≡ commaCount l → length (cond b (k ∷ commasFrom (suc k) l) (commasFrom (suc k) l)) ≡ cond b 1 0 + commaCount l
+    go true e = omega (arith, e)
+    go false e = omega (arith, e)
+
+cons-first : (a : ℕ) (l : List ℕ) → getD (consItem a (itemsOf l)) 0 [] ≡ a ∷ getD (itemsOf l) 0 []
+cons-first a l = rw (items-cut l)
+
+cons-later : (a j : ℕ) (l : List ℕ) → getD (consItem a (itemsOf l)) (suc j) [] ≡ getD (itemsOf l) (suc j) []
+cons-later a j l = rw (items-cut l)
+
+item-by : (l : List ℕ) (j : ℕ) → j ≤ commaCount l → getD (itemsOf l) j [] ≡ part l (startOf (commasFrom 0 l) j) (endOf (commasFrom 0 l) (length l) j)
+unfolding startOf endOf
+item-by [] zero h = refl
+item-by [] (suc j) h = absurd (omega arith)
+item-by (a ∷ l) j h =
+    subst (λ (qs : List ℕ). getD (cond (isComma a) ([] ∷ itemsOf l) (consItem a (itemsOf l))) j [] ≡ part (a ∷ l) (startOf (cond (isComma a) (0 ∷ qs) qs) j) (endOf (cond (isComma a) (0 ∷ qs) qs) (suc (length l)) j))
+    (sym (comma-shift 0 l)) (go (isComma a) (item-by l) j h)
+  where
+    ps : List ℕ
+    ps = commasFrom 0 l
+
+    behind : (j : ℕ) → j < length ps → getD (map suc ps) j 0 ≡ suc (getD ps j 0)
+    behind j k = getD-suc ps j k
+
+    starts : (j : ℕ) → j ≤ commaCount l → getD (0 ∷ map suc ps) j 0 ≡ startOf ps j
+    starts zero k = refl
+    starts (suc j) k = getD-suc ps j (omega (arith, count-places 0 l))
+
+    go : (b : Bool) → ((j : ℕ) → j ≤ commaCount l → getD (itemsOf l) j [] ≡ part l (startOf ps j) (endOf ps (length l) j))
+        → (j : ℕ) → j ≤ cond b 1 0 + commaCount l
+        → getD (cond b ([] ∷ itemsOf l) (consItem a (itemsOf l))) j []
+        ≡ part (a ∷ l) (startOf (cond b (0 ∷ map suc ps) (map suc ps)) j) (endOf (cond b (0 ∷ map suc ps) (map suc ps)) (suc (length l)) j)
+    go true i zero h = rw (le-leb 1 (suc (length (map suc ps))) (omega arith))
+    go true i (suc j) h =
+        i j (omega arith)
+        ∙ sym (part-shift a l (startOf ps j) (endOf ps (length l) j))
+        ∙ ap₂ (λ (x e : ℕ). part (a ∷ l) (suc x) e) (sym (starts j (omega arith))) (sym (end-behind 0 (map suc ps) (suc (length l)) j ∙ end-shift ps (length l) j))
+    go false i zero h =
+        let z : endOf ps (length l) 0 - 0 ≡ endOf ps (length l) 0 = omega arith in
+        let y : suc (endOf ps (length l) 0) - 0 ≡ suc (endOf ps (length l) 0) = omega arith in
+        cons-first a l ∙ ap (λ (x : List ℕ). a ∷ x) (i 0 (omega arith) ∙ ap (λ (k : ℕ). take k l) z)
+        ∙ ap (λ (k : ℕ). take k (a ∷ l)) (sym y) ∙ ap (λ (e : ℕ). part (a ∷ l) 0 e) (sym (end-shift ps (length l) 0))
+    go false i (suc j) h =
+        cons-later a j l ∙ i (suc j) (omega arith)
+        ∙ sym (part-shift a l (startOf ps (suc j)) (endOf ps (length l) (suc j)))
+        ∙ ap₂ (λ (x e : ℕ). part (a ∷ l) (suc x) e) (sym (behind j (omega (arith, count-places 0 l)))) (sym (end-shift ps (length l) (suc j)))
+
+-- a comma stands inside, and those before it earlier
+comma-inside : (l : List ℕ) (j : ℕ) → j < commaCount l → getD (commasFrom 0 l) j 0 < length l
+comma-inside [] j h = absurd (omega arith)
+comma-inside (a ∷ l) j h = go (isComma a) (comma-inside l) j h
+  where
+    go : (b : Bool) → ((j : ℕ) → j < commaCount l → getD (commasFrom 0 l) j 0 < length l) → (j : ℕ) → j < cond b 1 0 + commaCount l
+        → getD (cond b (0 ∷ commasFrom 1 l) (commasFrom 1 l)) j 0 < suc (length l)
+    go true i zero h = omega arith
+    go true i (suc j) h = rw (comma-shift 0 l, getD-suc (commasFrom 0 l) j (omega (arith, count-places 0 l))) (omega (arith, i j (omega arith)))
+    go false i j h = rw (comma-shift 0 l, getD-suc (commasFrom 0 l) j (omega (arith, count-places 0 l))) (omega (arith, i j (omega arith)))
+
+comma-order : (l : List ℕ) (j : ℕ) → suc j < commaCount l → getD (commasFrom 0 l) j 0 < getD (commasFrom 0 l) (suc j) 0
+comma-order [] j h = absurd (omega arith)
+comma-order (a ∷ l) j h = go (isComma a) (comma-order l) j h
+  where
+    go : (b : Bool) → ((j : ℕ) → suc j < commaCount l → getD (commasFrom 0 l) j 0 < getD (commasFrom 0 l) (suc j) 0) → (j : ℕ) → suc j < cond b 1 0 + commaCount l
+        → getD (cond b (0 ∷ commasFrom 1 l) (commasFrom 1 l)) j 0 < getD (cond b (0 ∷ commasFrom 1 l) (commasFrom 1 l)) (suc j) 0
+    go true i zero h = rw (comma-shift 0 l, getD-suc (commasFrom 0 l) 0 (omega (arith, count-places 0 l))) (omega arith)
+    go true i (suc j) h =
+        rw (comma-shift 0 l, getD-suc (commasFrom 0 l) j (omega (arith, count-places 0 l)), getD-suc (commasFrom 0 l) (suc j) (omega (arith, count-places 0 l))) (omega (arith, i j (omega arith)))
+    go false i j h =
+        rw (comma-shift 0 l, getD-suc (commasFrom 0 l) j (omega (arith, count-places 0 l)), getD-suc (commasFrom 0 l) (suc j) (omega (arith, count-places 0 l))) (omega (arith, i j (omega arith)))
+
+-- ---- the ways through item_span
+
+no-item : (xs : List (List ℕ)) (j : ℕ) → length xs ≤ j → getD xs j [] ≡ []
+no-item [] j h = refl
+no-item (x ∷ xs) zero h = absurd (omega arith)
+no-item (x ∷ xs) (suc j) h = no-item xs j (omega arith)
+
+module _ {s stops : List ℕ} {n : ℕ} (v : Spanned s stops n) where
+  pub span-none : (j : ℕ) → n < j → SpanAt s j (record { from = 0; to = 0 })
+  span-none j h = record { says = sym (no-item (itemsOf s) j (omega (arith, items-count s, v .commas .is))); low = omega arith; high = omega arith }
+
+  module _ (j : ℕ) (h : 1 ≤ j) (k : j ≤ n) where
+    in-front : (j - 1 < length (commasFrom 0 s)) × (j - 1 < 16)
+    in-front = (omega (arith, count-places 0 s, v .commas .is), omega (arith, v .few))
+
+    front-is : getD stops (j - 1) 0 ≡ getD (commasFrom 0 s) (j - 1) 0
+    front-is = v .places .here (j - 1) (in-front .0) (in-front .1)
+
+    pub front-inside : getD stops (j - 1) 0 < length s
+    front-inside = omega (arith, front-is, comma-inside s (j - 1) (omega (arith, v .commas .is)))
+
+    pub span-index : j - 1 < length stops
+    span-index = omega (arith, v .few, v .size .is)
+
+    start-is : startOf (commasFrom 0 s) j ≡ getD stops (j - 1) 0 + 1
+    unfolding startOf
+    start-is = go j h front-is
+      where
+        go : (j : ℕ) → 1 ≤ j → getD stops (j - 1) 0 ≡ getD (commasFrom 0 s) (j - 1) 0 → startOf (commasFrom 0 s) j ≡ getD stops (j - 1) 0 + 1
+        go zero h e = absurd (omega arith)
+        go (suc j) h e =
+            let z : suc j - 1 ≡ j = omega arith in
+            let y : getD stops (suc j - 1) 0 ≡ getD (commasFrom 0 s) j 0 = e ∙ ap (λ (k : ℕ). getD (commasFrom 0 s) k 0) z in
+            omega (arith, y)
+
+    item-is : getD (itemsOf s) j [] ≡ part s (getD stops (j - 1) 0 + 1) (endOf (commasFrom 0 s) (length s) j)
+    item-is = item-by s j (omega (arith, v .commas .is)) ∙ ap (λ (x : ℕ). part s x (endOf (commasFrom 0 s) (length s) j)) start-is
+
+    pub span-mid : j < n → SpanAt s j (record { from = getD stops (j - 1) 0 + 1; to = getD stops j 0 })
+    unfolding endOf
+    span-mid m =
+        let q : j < length (commasFrom 0 s) = omega (arith, count-places 0 s, v .commas .is) in
+        let e : getD stops j 0 ≡ getD (commasFrom 0 s) j 0 = v .places .here j q (omega (arith, v .few)) in
+        let z : suc (j - 1) ≡ j = omega arith in
+        let o : getD (commasFrom 0 s) (j - 1) 0 < getD (commasFrom 0 s) j 0 =
+        subst (λ (x : ℕ). getD (commasFrom 0 s) (j - 1) 0 < getD (commasFrom 0 s) x 0) z (comma-order s (j - 1) (omega (arith, v .commas .is))) in
+        record {
+          says = sym (item-is ∙ ap (λ (x : ℕ). part s (getD stops (j - 1) 0 + 1) x) (rw (le-leb (suc j) (length (commasFrom 0 s)) q) (sym e)));
+          low = omega (arith, front-is, e, o);
+          high = omega (arith, e, comma-inside s j (omega (arith, v .commas .is)));
+        }
+
+    pub span-last : n ≤ j → SpanAt s j (record { from = getD stops (j - 1) 0 + 1; to = length s })
+    unfolding endOf
+    span-last m =
+        let q : length (commasFrom 0 s) < suc j = omega (arith, count-places 0 s, v .commas .is) in
+        record {
+          says = sym (item-is ∙ ap (λ (x : ℕ). part s (getD stops (j - 1) 0 + 1) x) (rw (lt-leb (suc j) (length (commasFrom 0 s)) q)));
+          low = omega (arith, front-inside);
+          high = omega arith;
+        }
+
+pub ruleset span-laws = (span-none, span-index, span-mid, span-last)

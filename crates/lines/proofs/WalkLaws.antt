@@ -4,41 +4,46 @@ use mathlib.Core.Path.{_≡_, refl, sym, ap, _∙_}
 use mathlib.Core.Bool.{Bool, true, false}
 use mathlib.Core.List.{List, [], _∷_, map}
 use native.Mathlib.Omega.{arith}
-use borrow.Author.Tests.{lt-leb}
-use lib.Dec.{leb}
 use lib.ListN.{length, getD, take, drop}
-use Rattle.lists.specs.Lists.{part, findFrom, _orElse_}
+use Rattle.lists.specs.Lists.{_orElse_}
 use Rattle.lists.proofs.Tests.{or-stops}
-use Rattle.lists.proofs.Cuts.{drop-step}
+use Rattle.lists.proofs.Cuts.{drop-step, drop-end}
 use Rattle.records.specs.Table.{Item}
-use Rattle.records.specs.Split.{itemsFrom}
+use Rattle.records.specs.Split.{itemsOf}
 use Rattle.records.specs.Records.{itemFault, itemsFault}
 use Rattle.items.specs.Codes.{itemOf}
-use Rattle.lines.specs.Codes.{codes, sliceOf, Lent, InCodes}
-use Rattle.lines.proofs.SplitLaws.{item-cut}
+use Rattle.lines.specs.Codes.{codes, sliceOf, Lent, InCodes, Spanned, SpanAt}
+use Rattle.lines.specs.declared.Span.{Span}
+use Rattle.lines.proofs.SplitLaws.{items-count}
 use Rattle.lines.proofs.TableLaws.{codes-length}
 
 abbrev left : List ℕ → ℕ → ℕ → List Item
 left cs k end = map itemOf (take (end - k) (drop k cs))
 
-pub record Walk (cs : List ℕ) (b : Bool) (place : ℕ) (s : List ℕ) (at end k i : ℕ) : Type 0 where
-  pub same : itemsFault (b) (sliceOf place) (itemsFrom s at) ≡ itemsFault (b) (left cs k end) (itemsFrom s i)
+pub record Walk (cs : List ℕ) (b : Bool) (place : ℕ) (s : List ℕ) (end k j : ℕ) : Type 0 where
+  pub same : itemsFault b (sliceOf place) (drop 1 (itemsOf s)) ≡ itemsFault b (left cs k end) (drop j (itemsOf s))
   pub high : end ≤ 83
   pub lent : cs ≡ codes
+  pub some : 1 ≤ j
 
-pub walk-start : (cs : List ℕ) (b : Bool) (place : ℕ) (s : List ℕ) (at : ℕ) → Lent cs → InCodes place → Walk cs b place s at (place / 16 + place % 16) (place / 16) at
-walk-start cs b place s at l p =
+pub walk-start : (cs : List ℕ) (b : Bool) (place : ℕ) (s : List ℕ) → Lent cs → InCodes place → Walk cs b place s (place / 16 + place % 16) (place / 16) 1
+walk-start cs b place s l p =
     let e : place / 16 + place % 16 - place / 16 ≡ place % 16 = omega arith in
-    record { same = ap (λ (x : List Item). itemsFault (b) x (itemsFrom s at)) (ap (λ (x : ℕ). map itemOf (take x (drop (place / 16) codes))) (sym e) ∙ ap (λ (x : List ℕ). left x (place / 16) (place / 16 + place % 16)) (sym (l .is))); high = p .inside; lent = l .is }
+    record {
+      same = ap (λ (x : List Item). itemsFault b x (drop 1 (itemsOf s))) (ap (λ (x : ℕ). map itemOf (take x (drop (place / 16) codes))) (sym e) ∙ ap (λ (x : List ℕ). left x (place / 16) (place / 16 + place % 16)) (sym (l .is)));
+      high = p .inside;
+      lent = l .is;
+      some = omega arith;
+    }
 
-module _ {cs : List ℕ} {b : Bool} {place : ℕ} {s : List ℕ} {at end k i : ℕ} (w : Walk cs b place s at end k i) where
-  pub walk-over : end ≤ k → 0 ≡ itemsFault (b) (sliceOf place) (itemsFrom s at)
+module _ {cs : List ℕ} {b : Bool} {place : ℕ} {s : List ℕ} {end k j : ℕ} (w : Walk cs b place s end k j) where
+  pub walk-over : end ≤ k → 0 ≡ itemsFault b (sliceOf place) (drop 1 (itemsOf s))
   unfolding itemsFault
   walk-over h =
       let z : end - k ≡ 0 = omega arith in
-      sym (w .same ∙ rw z (none-left (itemsFrom s i)))
+      sym (w .same ∙ rw z (none-left (drop j (itemsOf s))))
     where
-      none-left : (ss : List (List ℕ)) → itemsFault (b) [] ss ≡ 0
+      none-left : (ss : List (List ℕ)) → itemsFault b [] ss ≡ 0
       none-left [] = refl
       none-left (x ∷ xs) = refl
 
@@ -48,21 +53,22 @@ module _ {cs : List ℕ} {b : Bool} {place : ℕ} {s : List ℕ} {at end k i : �
       let m : k < length cs = omega (arith, w .high, ap length (w .lent), codes-length) in
       rw (n, drop-step cs k 0 m)
 
-  pub walk-short : k < end → length s < i → 0 ≡ itemsFault (b) (sliceOf place) (itemsFrom s at)
-  unfolding itemsFault itemsFrom
-  walk-short h o = sym (w .same ∙ rw (first h) (simp (lt-leb i (length s) o)))
+  pub walk-short : {stops : List ℕ} {n : ℕ} → Spanned s stops n → k < end → n < j → 0 ≡ itemsFault b (sliceOf place) (drop 1 (itemsOf s))
+  unfolding itemsFault
+  walk-short v h o = sym (w .same ∙ rw (first h, drop-end (itemsOf s) j (omega (arith, items-count s, v .commas .is))))
 
-  module _ {e f : ℕ} (h : k < end) (o : i ≤ length s) (q : e ≡ findFrom 0x2c s i) (g : f ≡ itemFault (b) (itemOf (getD cs k 0)) (take (e - i) (drop i s))) where
-    turn : itemsFault (b) (sliceOf place) (itemsFrom s at) ≡ f orElse itemsFault (b) (left cs (k + 1) end) (itemsFrom s (e + 1))
+  module _ {stops : List ℕ} {n f : ℕ} {r : Span} (v : Spanned s stops n) (h : k < end) (o : j ≤ n) (q : SpanAt s j r)
+      (g : f ≡ itemFault b (itemOf (getD cs k 0)) (take (r .to - r .from) (drop (r .from) s))) where
+    turn : itemsFault b (sliceOf place) (drop 1 (itemsOf s)) ≡ f orElse itemsFault b (left cs (k + 1) end) (drop (j + 1) (itemsOf s))
     unfolding itemsFault
     turn =
-        let it : itemsFrom s i ≡ take (e - i) (drop i s) ∷ itemsFrom s (e + 1) = item-cut s i o q in
-        w .same ∙ rw (first h, it, ← g)
+        let m : j < length (itemsOf s) = omega (arith, items-count s, v .commas .is) in
+        w .same ∙ rw (first h, drop-step (itemsOf s) j [] m) (ap (λ (x : ℕ). x orElse itemsFault b (left cs (k + 1) end) (drop (j + 1) (itemsOf s))) (ap (itemFault b (itemOf (getD cs k 0))) (sym (q .says)) ∙ sym g))
 
-    pub walk-fault : (f ≡ 0 → ⊥) → f ≡ itemsFault (b) (sliceOf place) (itemsFrom s at)
+    pub walk-fault : (f ≡ 0 → ⊥) → f ≡ itemsFault b (sliceOf place) (drop 1 (itemsOf s))
     walk-fault n = sym (turn ∙ or-stops f _ n)
 
-    pub walk-next : f ≡ 0 → Walk cs b place s at end (k + 1) (e + 1)
-    walk-next z = record { same = turn ∙ ap (λ (x : ℕ). x orElse itemsFault (b) (left cs (k + 1) end) (itemsFrom s (e + 1))) z; high = w .high; lent = w .lent }
+    pub walk-next : f ≡ 0 → Walk cs b place s end (k + 1) (j + 1)
+    walk-next z = record { same = turn ∙ ap (λ (x : ℕ). x orElse itemsFault b (left cs (k + 1) end) (drop (j + 1) (itemsOf s))) z; high = w .high; lent = w .lent; some = omega arith }
 
 pub ruleset walk-laws = (walk-start, walk-over, walk-short, walk-fault, walk-next)

@@ -9,13 +9,13 @@ use lib.ListN.{length, getD, take, drop}
 use Rattle.lists.specs.Lists.{empty, member, part}
 use Rattle.digits.specs.Digits.{number}
 use Rattle.digits.specs.Short.{plainNumber}
-use Rattle.characters.specs.Text.{commaCount}
+use Rattle.characters.specs.Text.{commaCount, Stops, Sixteen}
 use Rattle.calendar.specs.Era.{readDay}
 use Rattle.order.specs.declared.Facts.{Facts}
 use Rattle.records.specs.Table.{Item, Row, R, fromProvider}
 use Rattle.records.specs.Items.{Value, text, dayValue}
 use Rattle.records.specs.Records.{itemValue, codePair, formPair}
-use Rattle.records.specs.Split.{itemsFrom}
+use Rattle.records.specs.Split.{itemsOf}
 use Rattle.items.specs.Codes.{itemOf}
 use Rattle.lines.specs.Facts.{dayOf}
 use Rattle.lines.specs.declared.Span.{Span}
@@ -75,14 +75,20 @@ pub record InCodes (place : ℕ) : Type 0 where
 
 -- ---- items at positions
 
--- r is the first of the items from a position on, and where the others begin; nothing where there is none
-pub record ItemAt (s : List ℕ) (at : ℕ) (r : Span) : Type 0 where
-  pub says : part s (r .from) (r .to) ≡ getD (itemsFrom s at) 0 []
-  pub rest : itemsFrom s (r .next) ≡ drop 1 (itemsFrom s at)
+-- what the code is lent of a line: its commas, at most fifteen, and their places
+pub record Spanned (s : List ℕ) (stops : List ℕ) (n : ℕ) : Type 0 where
+  pub places : Stops s stops
+  pub commas : Commas s n
+  pub few : n ≤ 15
+  pub size : Sixteen stops
+
+-- r is item number j of a line; nothing where there is none
+pub record SpanAt (s : List ℕ) (j : ℕ) (r : Span) : Type 0 where
+  pub says : part s (r .from) (r .to) ≡ getD (itemsOf s) j []
   pub low : r .from ≤ r .to
   pub high : r .to ≤ length s
 
--- ---- pairs and facts by the bytes of the items (0 is the first behind the number)
+-- ---- pairs and facts by the bytes of the items behind the number
 
 -- a quantity is an R
 abbrev pub quantity : List ℕ → Value
@@ -125,9 +131,9 @@ factsRaw n ss = record {
   named = eqb n 301 && not (empty (getD ss 1 []));
 }
 
--- a 301 from its third item on
+-- a 301's pairs and form
 unfoldable pub usageRaw : List (List ℕ) → Usage
-usageRaw ss = record { paired = codeRaw (getD ss 3 []) (getD ss 4 []) && formRaw (getD ss 2 []) (getD ss 0 []) (getD ss 1 []); form = plainNumber (getD ss 2 []) }
+usageRaw ss = record { paired = codeRaw (getD ss 5 []) (getD ss 6 []) && formRaw (getD ss 4 []) (getD ss 2 []) (getD ss 3 []); form = plainNumber (getD ss 4 []) }
 
 abbrev pub bareDetails : ℕ → ℕ → ℕ → ℕ → Details
 bareDetails n rp day schedule = record { paired = true; facts = record { number = n; rp = rp; day = day; schedule = schedule; form = 0; named = false } }

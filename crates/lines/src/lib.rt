@@ -5,48 +5,38 @@
 ghost use mathlib.Core.Path.{_≡_};
 ghost use mathlib.Core.List.{[], _∷_};
 ghost use Prim.Native.Nat.{_≤_};
-ghost use lib.ListN.{length, getD};
+ghost use lib.ListN.{getD, drop};
 ghost use Rattle.lists.specs.Lists.{same};
-ghost use Rattle.records.specs.Split.{itemsFrom, itemEnd};
+ghost use Rattle.records.specs.Split.{itemsOf};
+ghost use Rattle.characters.specs.Text.{Stops, Sixteen};
 ghost use Rattle.records.specs.Records.{orEmpty, isNum, itemsFault};
 ghost use Rattle.lines.specs.Facts.{lineRead};
-ghost use Rattle.lines.specs.Codes.{Lent, Commas, InCodes, ItemAt, placeOf, sliceOf, quantity, codeRaw, formRaw, rpRaw, dayRaw, detailsRaw, bareDetails, otherDetails, usageRaw};
+ghost use Rattle.lines.specs.Codes.{Lent, Commas, InCodes, Spanned, SpanAt, placeOf, sliceOf, quantity, codeRaw, formRaw, rpRaw, dayRaw, detailsRaw, bareDetails, otherDetails, usageRaw};
 
 // ---- items at positions
 
 pub struct Span {
     pub from: usize,
     pub to: usize,
-    pub next: usize,
 }
 
-// Where the item that begins at a position ends.
-fn item_stop(s: &[u8], at: usize) -> usize
-    requires { ⌜ at ≤ length (now s) ⌝ }
-    ensures { λ r. ⌜ r ≡ itemEnd (now (s .entry)) at ⌝ }
-    ensures { λ r. ⌜ at ≤ r ⌝ }
-    ensures { λ r. ⌜ r ≤ length (now (s .entry)) ⌝ }
+// Item number j of a line, from 1 behind the record's number; nothing where there is none. n: the line's commas; stops: their places.
+fn item_span(stops: &[usize; 16], n: usize, s: &[u8], j: usize) -> Span
+    requires { ⌜ Spanned (now s) (now stops) n ⌝ }
+    requires { ⌜ 1 ≤ j ⌝ }
+    ensures { λ r. ⌜ SpanAt (now (s .entry)) j r ⌝ }
 {
-    lists::find_byte(s, at, 0x2c)
-}
-
-// The item that begins at a position, and where the next one begins; nothing past the line's end.
-fn item_at(s: &[u8], at: usize) -> Span
-    ensures { λ r. ⌜ ItemAt (now (s .entry)) at r ⌝ }
-{
-    if s.len() < at {
-        return Span {
-            from: 0,
-            to: 0,
-            next: at,
-        };
+    if n < j {
+        return Span { from: 0, to: 0 };
     }
-    let end = item_stop(s, at);
-    Span {
-        from: at,
-        to: end,
-        next: end + 1,
+    let before = j - 1;
+    let from = stops[before] + 1;
+    if j < n {
+        let to = stops[j];
+        return Span { from, to };
     }
+    let end = s.len();
+    Span { from, to: end }
 }
 
 // ---- the table
@@ -169,26 +159,36 @@ fn place_of(n: u32) -> usize
     }
 }
 
-// The first fault of the items from a position on, item by item from the left.
-fn items_fault(codes: &[usize; 83], place: usize, provider: bool, s: &[u8], at: usize) -> u8
+// The first fault of the items behind the number, item by item from the left.
+fn items_fault(
+    codes: &[usize; 83],
+    place: usize,
+    provider: bool,
+    stops: &[usize; 16],
+    n: usize,
+    s: &[u8],
+) -> u8
     requires { ⌜ Lent (now codes) ⌝ }
     requires { ⌜ InCodes place ⌝ }
-    ensures { λ r. ⌜ r ≡ itemsFault provider (sliceOf place) (itemsFrom (now (s .entry)) at) ⌝ }
+    requires { ⌜ Spanned (now s) (now stops) n ⌝ }
+    ensures { λ r. ⌜ r ≡ itemsFault provider (sliceOf place) (drop 1 (itemsOf (now (s .entry)))) ⌝ }
 {
     let mut k = place / 16;
     let end = k + place % 16;
-    let mut i = at;
+    let mut j = 1;
     while k < end {
-        if s.len() < i {
+        if n < j {
             return 0;
         }
-        let e = item_stop(s, i);
+        let span = item_span(stops, n, s, j);
+        let a = span.from;
+        let e = span.to;
         let c = codes[k];
-        let f = items::item_fault(c, provider, &s[i..e]);
+        let f = items::item_fault(c, provider, &s[a..e]);
         if f != 0 {
             return f;
         }
-        i = e + 1;
+        j += 1;
         k += 1;
     }
     0
@@ -273,15 +273,13 @@ pub struct Details {
     pub facts: order::Facts,
 }
 
-fn details_201(s: &[u8], at: usize) -> Details
-    ensures { λ r. ⌜ r ≡ detailsRaw 201 (itemsFrom (now (s .entry)) at) ⌝ }
+fn details_201(stops: &[usize; 16], n: usize, s: &[u8]) -> Details
+    requires { ⌜ Spanned (now s) (now stops) n ⌝ }
+    ensures { λ r. ⌜ r ≡ detailsRaw 201 (drop 1 (itemsOf (now (s .entry)))) ⌝ }
 {
-    let first = item_at(s, at);
-    let name = item_at(s, first.next);
-    let dose = item_at(s, name.next);
-    let unit = item_at(s, dose.next);
-    let kind = item_at(s, unit.next);
-    let code = item_at(s, kind.next);
+    let first = item_span(stops, n, s, 1);
+    let kind = item_span(stops, n, s, 5);
+    let code = item_span(stops, n, s, 6);
     let a = first.from;
     let b = first.to;
     let rp = rp_value(&s[a..b]);
@@ -302,20 +300,21 @@ fn details_201(s: &[u8], at: usize) -> Details
     }
 }
 
-// A 301 from its quantity on: whether its pairs hold, and its form.
+// A 301: whether its pairs hold, and its form.
 pub struct Usage {
     pub paired: bool,
     pub form: u32,
 }
 
-fn usage_from(s: &[u8], at: usize) -> Usage
-    ensures { λ r. ⌜ r ≡ usageRaw (itemsFrom (now (s .entry)) at) ⌝ }
+fn usage_of(stops: &[usize; 16], n: usize, s: &[u8]) -> Usage
+    requires { ⌜ Spanned (now s) (now stops) n ⌝ }
+    ensures { λ r. ⌜ r ≡ usageRaw (drop 1 (itemsOf (now (s .entry)))) ⌝ }
 {
-    let quantity = item_at(s, at);
-    let unit = item_at(s, quantity.next);
-    let form = item_at(s, unit.next);
-    let kind = item_at(s, form.next);
-    let code = item_at(s, kind.next);
+    let quantity = item_span(stops, n, s, 3);
+    let unit = item_span(stops, n, s, 4);
+    let form = item_span(stops, n, s, 5);
+    let kind = item_span(stops, n, s, 6);
+    let code = item_span(stops, n, s, 7);
     let a = kind.from;
     let b = kind.to;
     let c = code.from;
@@ -334,12 +333,13 @@ fn usage_from(s: &[u8], at: usize) -> Usage
     }
 }
 
-fn details_301(s: &[u8], at: usize) -> Details
-    ensures { λ r. ⌜ r ≡ detailsRaw 301 (itemsFrom (now (s .entry)) at) ⌝ }
+fn details_301(stops: &[usize; 16], n: usize, s: &[u8]) -> Details
+    requires { ⌜ Spanned (now s) (now stops) n ⌝ }
+    ensures { λ r. ⌜ r ≡ detailsRaw 301 (drop 1 (itemsOf (now (s .entry)))) ⌝ }
 {
-    let first = item_at(s, at);
-    let name = item_at(s, first.next);
-    let usage = usage_from(s, name.next);
+    let first = item_span(stops, n, s, 1);
+    let name = item_span(stops, n, s, 2);
+    let usage = usage_of(stops, n, s);
     let a = first.from;
     let b = first.to;
     let rp = rp_value(&s[a..b]);
@@ -373,55 +373,58 @@ fn bare(number: u32, rp: u32, day: u32, schedule: u32) -> Details
     }
 }
 
-fn details_5(s: &[u8], at: usize) -> Details
-    ensures { λ r. ⌜ r ≡ detailsRaw 5 (itemsFrom (now (s .entry)) at) ⌝ }
+fn details_5(stops: &[usize; 16], n: usize, s: &[u8]) -> Details
+    requires { ⌜ Spanned (now s) (now stops) n ⌝ }
+    ensures { λ r. ⌜ r ≡ detailsRaw 5 (drop 1 (itemsOf (now (s .entry)))) ⌝ }
 {
-    let first = item_at(s, at);
+    let first = item_span(stops, n, s, 1);
     let a = first.from;
     let b = first.to;
     bare(5, 0, day_value(&s[a..b]), 0)
 }
 
-fn details_11(s: &[u8], at: usize) -> Details
-    ensures { λ r. ⌜ r ≡ detailsRaw 11 (itemsFrom (now (s .entry)) at) ⌝ }
+fn details_11(stops: &[usize; 16], n: usize, s: &[u8]) -> Details
+    requires { ⌜ Spanned (now s) (now stops) n ⌝ }
+    ensures { λ r. ⌜ r ≡ detailsRaw 11 (drop 1 (itemsOf (now (s .entry)))) ⌝ }
 {
-    let name = item_at(s, at);
-    let prefecture = item_at(s, name.next);
-    let schedule = item_at(s, prefecture.next);
+    let schedule = item_span(stops, n, s, 3);
     let a = schedule.from;
     let b = schedule.to;
     bare(11, 0, 0, digits::plain_number(&s[a..b]))
 }
 
 // The value of the first item, for the records of an RP that have no pairs.
-fn first_rp(s: &[u8], at: usize) -> u32
-    ensures { λ r. ⌜ r ≡ rpRaw (getD (itemsFrom (now (s .entry)) at) 0 []) ⌝ }
+fn first_rp(stops: &[usize; 16], n: usize, s: &[u8]) -> u32
+    requires { ⌜ Spanned (now s) (now stops) n ⌝ }
+    ensures { λ r. ⌜ r ≡ rpRaw (getD (drop 1 (itemsOf (now (s .entry)))) 0 []) ⌝ }
 {
-    let first = item_at(s, at);
+    let first = item_span(stops, n, s, 1);
     let a = first.from;
     let b = first.to;
     rp_value(&s[a..b])
 }
 
 // The records that have no pairs, but for 5 and 11.
-fn other_details(n: u32, s: &[u8], at: usize) -> Details
-    ensures { λ r. ⌜ r ≡ otherDetails n (itemsFrom (now (s .entry)) at) ⌝ }
+fn other_details(number: u32, stops: &[usize; 16], n: usize, s: &[u8]) -> Details
+    requires { ⌜ Spanned (now s) (now stops) n ⌝ }
+    ensures { λ r. ⌜ r ≡ otherDetails number (drop 1 (itemsOf (now (s .entry)))) ⌝ }
 {
-    if (n == 281) | (n == 291) | (n == 311) | (n == 391) {
-        return bare(n, first_rp(s, at), 0, 0);
+    if (number == 281) | (number == 291) | (number == 311) | (number == 391) {
+        return bare(number, first_rp(stops, n, s), 0, 0);
     }
-    bare(n, 0, 0, 0)
+    bare(number, 0, 0, 0)
 }
 
-fn record_details(n: u32, s: &[u8], at: usize) -> Details
-    ensures { λ r. ⌜ r ≡ detailsRaw n (itemsFrom (now (s .entry)) at) ⌝ }
+fn record_details(number: u32, stops: &[usize; 16], n: usize, s: &[u8]) -> Details
+    requires { ⌜ Spanned (now s) (now stops) n ⌝ }
+    ensures { λ r. ⌜ r ≡ detailsRaw number (drop 1 (itemsOf (now (s .entry)))) ⌝ }
 {
-    match n {
-        5 => details_5(s, at),
-        11 => details_11(s, at),
-        201 => details_201(s, at),
-        301 => details_301(s, at),
-        _ => other_details(n, s, at),
+    match number {
+        5 => details_5(stops, n, s),
+        11 => details_11(stops, n, s),
+        201 => details_201(stops, n, s),
+        301 => details_301(stops, n, s),
+        _ => other_details(number, stops, n, s),
     }
 }
 
@@ -433,24 +436,27 @@ pub enum LineRead {
     Fine(order::Facts),
 }
 
-// Reads a record line; good: it is characters; commas: how many it has. In the order of document 01's table: 4, 6 or 5, 7, then the
+// Reads a record line; good: it is characters; commas: how many it has; stops: their places. In the order of document 01's table: 4, 6 or 5, 7, then the
 // items from the left, then the pairs.
 pub fn read_line(
     codes: &[usize; 83],
     provider: bool,
     good: bool,
     commas: usize,
+    stops: &[usize; 16],
     s: &[u8],
 ) -> LineRead
     requires { ⌜ Lent (now codes) ⌝ }
     requires { ⌜ Commas (now s) commas ⌝ }
+    requires { ⌜ Stops (now s) (now stops) ⌝ }
+    requires { ⌜ Sixteen (now stops) ⌝ }
     ensures { λ r. ⌜ r ≡ lineRead good provider (now (s .entry)) ⌝ }
 {
     if !good {
         return LineRead::Fault(4);
     }
     let start = 0;
-    let end = item_stop(s, start);
+    let end = lists::find_byte(s, start, 0x2c);
     let n = digits::plain_number(&s[start..end]);
     if n == 911 {
         return LineRead::Fault(6);
@@ -462,12 +468,11 @@ pub fn read_line(
     if commas != place % 16 {
         return LineRead::Fault(7);
     }
-    let next = end + 1;
-    let f = items_fault(codes, place, provider, s, next);
+    let f = items_fault(codes, place, provider, stops, commas, s);
     if f != 0 {
         return LineRead::Fault(f);
     }
-    let d = record_details(n, s, next);
+    let d = record_details(n, stops, commas, s);
     let paired = d.paired;
     let facts = d.facts;
     if paired {

@@ -14,7 +14,7 @@ use lib.ListN.{length, take, drop}
 use Rattle.lists.specs.Lists.{bytes, same, part, Res, ok, refused}
 use Rattle.characters.specs.declared.Line.{Line}
 use Rattle.characters.specs.declared.Line.the-variants.{Whole, Mark, End, Broken}
-use Rattle.characters.specs.Text.{allChars, text}
+use Rattle.characters.specs.Text.{allChars, text, Stops, Sixteen}
 use Rattle.characters.specs.Rows.{rows, isLine, lineEnd, endMark, WholeLine, BrokenRow, LineMeans, LineOf}
 use Rattle.characters.proofs.RowLaws.{line-is, line-text, line-no-mark}
 use Rattle.records.specs.Records.{Record, faultWhere, lineFault, recordOf, header}
@@ -132,9 +132,9 @@ module _ {provider : Bool} {s : List ℕ} {from : ℕ} {st : State} {at : ℕ} (
   pub reading-fits : Fits w32 (st .line + 1)
   reading-fits = omega (arith, v .line, v .high, v .small)
 
-  module _ {k : Line} (w : LineOf s at k) where
-    means : {j : Line} → k ≡ j → LineMeans s at j
-    means e = subst (LineMeans s at) e (w .means)
+  module _ {stops : List ℕ} {k : Line} (w : LineOf s at stops k) where
+    means : {j : Line} → k ≡ j → LineMeans s at stops j
+    means e = subst (LineMeans s at stops) e (w .means)
 
     pub reading-end : {r : Checked} → k ≡ End → r ≡ tally st (closed st) → r ≡ tally (start provider) (recordsFrom (start provider) (rows (drop from s)))
     unfolding recordsFrom
@@ -153,7 +153,7 @@ module _ {provider : Bool} {s : List ℕ} {from : ℕ} {st : State} {at : ℕ} (
         go (r ∷ rs) b = rw (b .1, b .0)
 
     module _ {e : ℕ} {good : Bool} {n : ℕ} (q : k ≡ Whole e good n) where
-      whole : WholeLine s at e good n
+      whole : WholeLine s at stops e good n
       whole = means q
 
       pub whole-low : at ≤ e
@@ -170,6 +170,9 @@ module _ {provider : Bool} {s : List ℕ} {from : ℕ} {st : State} {at : ℕ} (
 
       pub whole-commas : Commas (take (e - at) (drop at s)) n
       whole-commas = record { is = whole .commas }
+
+      pub whole-places : Stops (take (e - at) (drop at s)) stops
+      whole-places = whole .places
 
       line-row : recordsFrom st (rows (drop at s)) ≡ onward (st .line + 1) (recordOf (part s at e)) (λ t. recordsFrom t (rows (drop (e + 2) s))) (stepLine st (part s at e))
       unfolding recordsFrom
@@ -221,7 +224,11 @@ module _ {provider : Bool} {s : List ℕ} {from : ℕ} {st : State} {at : ℕ} (
                 small = v .small;
               }
 
-pub ruleset reading-laws = (reading-start, reading-closing, reading-fits, reading-end, reading-mark, reading-broken, whole-low, whole-high, whole-fits, whole-less, whole-commas, reading-fault, reading-refused, reading-on)
+-- the places stay sixteen
+pub line-size : {s : List ℕ} {at : ℕ} {stops : List ℕ} {k : Line} → LineOf s at stops k → Sixteen stops
+line-size w = w .size
+
+pub ruleset reading-laws = (line-size, reading-start, reading-closing, reading-fits, reading-end, reading-mark, reading-broken, whole-low, whole-high, whole-fits, whole-less, whole-commas, whole-places, reading-fault, reading-refused, reading-on)
 
 -- ---- the file
 
@@ -240,9 +247,9 @@ module _ (s : List ℕ) where
     unfolding checkOf readFile
     by-rows = rw (le-leb (length s) 65536 h)
 
-    module _ {k : Line} (w : LineOf s 0 k) where
-      first : {j : Line} → k ≡ j → LineMeans s 0 j
-      first e = subst (LineMeans s 0) e (w .means)
+    module _ {stops : List ℕ} {k : Line} (w : LineOf s 0 stops k) where
+      first : {j : Line} → k ≡ j → LineMeans s 0 stops j
+      first e = subst (LineMeans s 0 stops) e (w .means)
 
       pub check-end : k ≡ End → Refused 2 1 ≡ checkOf s
       unfolding readRows
@@ -261,7 +268,7 @@ module _ (s : List ℕ) where
           go (r ∷ rs) b = rw (b .0)
 
       module _ {e : ℕ} {good : Bool} {n : ℕ} (q : k ≡ Whole e good n) where
-        line-1 : WholeLine s 0 e good n
+        line-1 : WholeLine s 0 stops e good n
         line-1 = first q
 
         pub line-1-high : e ≤ length s
@@ -310,4 +317,7 @@ module _ (s : List ℕ) where
               go false true a c = absurd (z (tells false true a c .0))
               go false false a c = sym (by-rows ∙ ap checked (tells false false a c .1))
 
-pub ruleset check-laws = (check-large, check-end, check-mark, check-broken, line-1-high, line-1-fits, line-1-behind, check-provider, check-patient, check-version)
+pub zeros-size : Sixteen (0 ∷ 0 ∷ 0 ∷ 0 ∷ 0 ∷ 0 ∷ 0 ∷ 0 ∷ 0 ∷ 0 ∷ 0 ∷ 0 ∷ 0 ∷ 0 ∷ 0 ∷ 0 ∷ [])
+zeros-size = record { is = refl }
+
+pub ruleset check-laws = (line-size, zeros-size, check-large, check-end, check-mark, check-broken, line-1-high, line-1-fits, line-1-behind, check-provider, check-patient, check-version)

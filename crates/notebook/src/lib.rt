@@ -5,6 +5,7 @@ ghost use mathlib.Core.Path.{_≡_};
 ghost use lib.ListN.{length, drop};
 ghost use Rattle.characters.specs.Rows.{rows};
 ghost use Rattle.characters.specs.Classes.{Classes};
+ghost use Rattle.characters.specs.Text.{Sixteen};
 ghost use Rattle.order.specs.State.{start};
 ghost use Rattle.lines.specs.Codes.{Lent};
 ghost use Rattle.notebook.specs.Notebook.{closed as closedOf, recordsFrom};
@@ -47,24 +48,26 @@ fn close(st: order::State) -> Checked
 fn check_records(
     classes: &[u8; 256],
     codes: &[usize; 83],
+    stops: &mut [usize; 16],
     provider: bool,
     s: &[u8],
     from: usize,
 ) -> Checked
     requires { ⌜ Classes (now classes) ⌝ }
     requires { ⌜ Lent (now codes) ⌝ }
+    requires { ⌜ Sixteen (now stops) ⌝ }
     requires { ⌜ Behind (now s) from ⌝ }
     ensures { λ r. ⌜ r ≡ tally (start provider) (recordsFrom (start provider) (rows (drop from (now (s .entry))))) ⌝ }
 {
     let mut st = order::State::new(provider);
     let mut at = from;
     loop {
-        match characters::line_at(classes, s, at) {
+        match characters::line_at(classes, stops, s, at) {
             characters::Line::End => return close(st),
             characters::Line::Mark => return close(st),
             characters::Line::Broken => return Checked::Refused(2, st.line + 1),
             characters::Line::Whole(end, good, commas) => {
-                match lines::read_line(codes, provider, good, commas, &s[at..end]) {
+                match lines::read_line(codes, provider, good, commas, stops, &s[at..end]) {
                     lines::LineRead::Fault(n) => {
                         return Checked::Refused(digits::wide(n), st.line + 1);
                     }
@@ -91,8 +94,9 @@ pub fn check(s: &[u8]) -> Checked
     }
     let classes = characters::CLASSES;
     let codes = lines::CODES;
+    let mut stops = [0usize; 16];
     let start = 0;
-    match characters::line_at(&classes, s, start) {
+    match characters::line_at(&classes, &mut stops, s, start) {
         characters::Line::End => return Checked::Refused(2, 1),
         characters::Line::Mark => return Checked::Refused(2, 1),
         characters::Line::Broken => return Checked::Refused(2, 1),
@@ -100,10 +104,10 @@ pub fn check(s: &[u8]) -> Checked
             let d = direction(&s[start..end]);
             let from = end + 2;
             if d == 1 {
-                return check_records(&classes, &codes, true, s, from);
+                return check_records(&classes, &codes, &mut stops, true, s, from);
             }
             if d == 2 {
-                return check_records(&classes, &codes, false, s, from);
+                return check_records(&classes, &codes, &mut stops, false, s, from);
             }
             Checked::Refused(3, 1)
         }

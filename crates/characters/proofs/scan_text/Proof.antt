@@ -2,8 +2,7 @@ use native.Mathlib.Omega.{arith}
 use borrow.Author.Needs.{needs}
 use Prim.Native.Nat.{_-_}
 use lib.ListN.{length}
-use Rattle.characters.proofs.TextLaws.{Scanned, scan-laws, scan-one}
-use Prim.Native.Nat.{_≤_}
+use Rattle.characters.proofs.TextLaws.{Scanned, scan-laws, scan-start, scan-half}
 use Rattle.characters.proofs.scan_text.Statement.{statement}
 use Rattle.characters.proofs.scan_text.Tie as tie
 use Rattle.characters.proofs.scan_text.Reads as reads
@@ -12,134 +11,122 @@ use Rattle.characters.proofs.class_of.Reads as class-of-reads
 use Rattle.characters.proofs.is_stop.Reads as is-stop-reads
 use Rattle.characters.proofs.pair_at.Reads as pair-at-reads
 
-abbrev Inv-loop2 : tie.InvT-loop2
-Inv-loop2 classes s at i₀ good commas b c i = Scanned s at i good commas × (i₀ ≤ i)
-
-abbrev μ-loop2 : tie.MeasureT-loop2
-μ-loop2 classes s at i₀ good commas b c i = length s - i
-
 abbrev Inv-loop : tie.InvT-loop
-Inv-loop classes s at i₀ good₀ commas₀ i good commas = Scanned s at i good commas
+Inv-loop classes stops₀ s at i₀ good₀ commas₀ stops i good commas = Scanned s at stops₀ stops i good commas
 
 abbrev μ-loop : tie.MeasureT-loop
-μ-loop classes s at i₀ good₀ commas₀ i good commas = length s - i
+μ-loop classes stops₀ s at i₀ good₀ commas₀ stops i good commas = length s - i
 
-loop-holds : tie.Need-loop-holds Inv-loop2 μ-loop2 Inv-loop μ-loop
-loop-holds c = search (needs, scan-laws)
+loop-holds : tie.Need-loop-holds Inv-loop μ-loop
+loop-holds c = search (needs, scan-start)
 
-shared-slice-read-b : tie.Need-shared-slice-read-b Inv-loop2 μ-loop2 Inv-loop μ-loop
+shared-slice-read-b : tie.Need-shared-slice-read-b Inv-loop μ-loop
 shared-slice-read-b c = search (needs, scan-laws)
 
-class-of-requires : tie.Need-class-of-requires Inv-loop2 μ-loop2 Inv-loop μ-loop
+class-of-requires : tie.Need-class-of-requires Inv-loop μ-loop
 class-of-requires c κs = search (needs, scan-laws)
 
-add-i : tie.Need-add-i Inv-loop2 μ-loop2 Inv-loop μ-loop
+add-i : tie.Need-add-i Inv-loop μ-loop
 add-i c = search (needs, scan-laws)
 
-loop2-holds : tie.Need-loop2-holds Inv-loop2 μ-loop2 Inv-loop μ-loop
-loop2-holds c = search (needs, scan-laws)
-
-loop-less : tie.Need-loop-less Inv-loop2 μ-loop2 Inv-loop μ-loop
+loop-less : tie.Need-loop-less Inv-loop μ-loop
 loop-less c = search (needs, scan-laws)
 
-loop-again : tie.Need-loop-again Inv-loop2 μ-loop2 Inv-loop μ-loop
+loop-again : tie.Need-loop-again Inv-loop μ-loop
 loop-again c = search (needs, scan-laws)
 
-shared-slice-read-next : tie.Need-shared-slice-read-next Inv-loop2 μ-loop2 Inv-loop μ-loop
-shared-slice-read-next c = search (needs, scan-laws)
+sub-stops : tie.Need-sub-stops Inv-loop μ-loop
+sub-stops c = search (needs, scan-laws)
 
-class-of-requires-2 : tie.Need-class-of-requires-2 Inv-loop2 μ-loop2 Inv-loop μ-loop
-class-of-requires-2 c κs = search (needs, scan-laws)
+mul-stops : tie.Need-mul-stops Inv-loop μ-loop
+mul-stops c = search (needs, scan-laws)
 
-loop-less-2 : tie.Need-loop-less-2 Inv-loop2 μ-loop2 Inv-loop μ-loop
-loop-less-2 c = search (needs, scan-laws)
+element-write-stops : tie.Need-element-write-stops Inv-loop μ-loop
+element-write-stops c = search (needs, scan-laws)
 
-loop-again-2 : tie.Need-loop-again-2 Inv-loop2 μ-loop2 Inv-loop μ-loop
-loop-again-2 c = search (needs, scan-laws)
-
-add-i-2 : tie.Need-add-i-2 Inv-loop2 μ-loop2 Inv-loop μ-loop
-add-i-2 c = search (needs, scan-laws)
-
-loop2-less : tie.Need-loop2-less Inv-loop2 μ-loop2 Inv-loop μ-loop
-loop2-less c = search (needs, scan-laws)
-
-loop2-again : tie.Need-loop2-again Inv-loop2 μ-loop2 Inv-loop μ-loop
-loop2-again c = (scan-one (c .before .before .before .before .loop2 .inv .0) (omega arith) (c .before .class-of2 .ensures) (c .if2 .left), omega arith)
-
-add-commas : tie.Need-add-commas Inv-loop2 μ-loop2 Inv-loop μ-loop
+add-commas : tie.Need-add-commas Inv-loop μ-loop
 add-commas c = search (needs, scan-laws)
 
-add-i-3 : tie.Need-add-i-3 Inv-loop2 μ-loop2 Inv-loop μ-loop
+add-i-2 : tie.Need-add-i-2 Inv-loop μ-loop
+add-i-2 c = search (needs, scan-laws)
+
+loop-less-2 : tie.Need-loop-less-2 Inv-loop μ-loop
+loop-less-2 c = search (needs, scan-laws)
+
+loop-again-2 : tie.Need-loop-again-2 Inv-loop μ-loop
+loop-again-2 c = search (needs, scan-laws)
+
+add-commas-2 : tie.Need-add-commas-2 Inv-loop μ-loop
+add-commas-2 c = search (needs, scan-laws)
+
+add-i-3 : tie.Need-add-i-3 Inv-loop μ-loop
 add-i-3 c = search (needs, scan-laws)
 
-loop-less-3 : tie.Need-loop-less-3 Inv-loop2 μ-loop2 Inv-loop μ-loop
+loop-less-3 : tie.Need-loop-less-3 Inv-loop μ-loop
 loop-less-3 c = search (needs, scan-laws)
 
-loop-again-3 : tie.Need-loop-again-3 Inv-loop2 μ-loop2 Inv-loop μ-loop
+loop-again-3 : tie.Need-loop-again-3 Inv-loop μ-loop
 loop-again-3 c = search (needs, scan-laws)
 
-is-stop-requires : tie.Need-is-stop-requires Inv-loop2 μ-loop2 Inv-loop μ-loop
+is-stop-requires : tie.Need-is-stop-requires Inv-loop μ-loop
 is-stop-requires c κs = search (needs, scan-laws)
 
-returns : tie.Need-returns Inv-loop2 μ-loop2 Inv-loop μ-loop
+returns : tie.Need-returns Inv-loop μ-loop
 returns c = search (needs, scan-laws)
 
-add-i-4 : tie.Need-add-i-4 Inv-loop2 μ-loop2 Inv-loop μ-loop
+add-i-4 : tie.Need-add-i-4 Inv-loop μ-loop
 add-i-4 c = search (needs, scan-laws)
 
-loop-less-4 : tie.Need-loop-less-4 Inv-loop2 μ-loop2 Inv-loop μ-loop
+loop-less-4 : tie.Need-loop-less-4 Inv-loop μ-loop
 loop-less-4 c = search (needs, scan-laws)
 
-loop-again-4 : tie.Need-loop-again-4 Inv-loop2 μ-loop2 Inv-loop μ-loop
+loop-again-4 : tie.Need-loop-again-4 Inv-loop μ-loop
 loop-again-4 c = search (needs, scan-laws)
 
-pair-at-requires : tie.Need-pair-at-requires Inv-loop2 μ-loop2 Inv-loop μ-loop
+pair-at-requires : tie.Need-pair-at-requires Inv-loop μ-loop
 pair-at-requires c κs = search (needs, scan-laws)
 
-add-i-5 : tie.Need-add-i-5 Inv-loop2 μ-loop2 Inv-loop μ-loop
+add-i-5 : tie.Need-add-i-5 Inv-loop μ-loop
 add-i-5 c = search (needs, scan-laws)
 
-loop-less-5 : tie.Need-loop-less-5 Inv-loop2 μ-loop2 Inv-loop μ-loop
+loop-less-5 : tie.Need-loop-less-5 Inv-loop μ-loop
 loop-less-5 c = search (needs, scan-laws)
 
-loop-again-5 : tie.Need-loop-again-5 Inv-loop2 μ-loop2 Inv-loop μ-loop
+loop-again-5 : tie.Need-loop-again-5 Inv-loop μ-loop
 loop-again-5 c = search (needs, scan-laws)
 
-add-i-6 : tie.Need-add-i-6 Inv-loop2 μ-loop2 Inv-loop μ-loop
+add-i-6 : tie.Need-add-i-6 Inv-loop μ-loop
 add-i-6 c = search (needs, scan-laws)
 
-loop-less-6 : tie.Need-loop-less-6 Inv-loop2 μ-loop2 Inv-loop μ-loop
+loop-less-6 : tie.Need-loop-less-6 Inv-loop μ-loop
 loop-less-6 c = search (needs, scan-laws)
 
-loop-again-6 : tie.Need-loop-again-6 Inv-loop2 μ-loop2 Inv-loop μ-loop
-loop-again-6 c = search (needs, scan-laws)
+loop-again-6 : tie.Need-loop-again-6 Inv-loop μ-loop
+loop-again-6 c = scan-half (c .before .before .before .before .before .before .before .before .loop .inv) (omega arith) (c .before .before .before .before .before .class-of .ensures) (c .before .before .before .before .if1 .left) (c .before .before .before .if2 .left) (c .before .before .if4 .left) (c .before .pair-at .ensures) (c .if6 .left)
 
-returns-2 : tie.Need-returns-2 Inv-loop2 μ-loop2 Inv-loop μ-loop
+returns-2 : tie.Need-returns-2 Inv-loop μ-loop
 returns-2 c = search (needs, scan-laws)
 
 pub scan-text-spec : {M : Type 1} → statement M
 scan-text-spec =
     tie.close
     (tie.spec
-    Inv-loop2
-    μ-loop2
     Inv-loop
     μ-loop
     loop-holds
     shared-slice-read-b
     class-of-requires
     add-i
-    loop2-holds
     loop-less
     loop-again
-    shared-slice-read-next
-    class-of-requires-2
+    sub-stops
+    mul-stops
+    element-write-stops
+    add-commas
+    add-i-2
     loop-less-2
     loop-again-2
-    add-i-2
-    loop2-less
-    loop2-again
-    add-commas
+    add-commas-2
     add-i-3
     loop-less-3
     loop-again-3

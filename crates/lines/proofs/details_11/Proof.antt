@@ -8,16 +8,10 @@ use Rattle.lines.proofs.details_11.Reads as reads
 use Rattle.lines.proofs.details_11.Lts as lts
 use Rattle.digits.proofs.plain_number.Reads as plain-number-reads
 use Rattle.lines.proofs.bare.Reads as bare-reads
-use Rattle.lines.proofs.item_at.Reads as item-at-reads
+use Rattle.lines.proofs.item_span.Reads as item-span-reads
 
-item-at-requires : tie.Need-item-at-requires
-item-at-requires c κs = search needs
-
-item-at-requires-2 : tie.Need-item-at-requires-2
-item-at-requires-2 c κs = search needs
-
-item-at-requires-3 : tie.Need-item-at-requires-3
-item-at-requires-3 c κs = search needs
+item-span-requires : tie.Need-item-span-requires
+item-span-requires c κs = search needs
 
 sub-plain-number : tie.Need-sub-plain-number
 sub-plain-number c = search needs
@@ -41,9 +35,7 @@ pub details-11-spec : {M : Type 1} → statement M
 details-11-spec =
     tie.close
     (tie.spec
-    item-at-requires
-    item-at-requires-2
-    item-at-requires-3
+    item-span-requires
     sub-plain-number
     part-plain-number-start
     part-plain-number-end

@@ -7,26 +7,17 @@ use Rattle.lines.proofs.details_201.Tie as tie
 use Rattle.lines.proofs.details_201.Reads as reads
 use Rattle.lines.proofs.details_201.Lts as lts
 use Rattle.lines.proofs.code_pair.Reads as code-pair-reads
-use Rattle.lines.proofs.item_at.Reads as item-at-reads
+use Rattle.lines.proofs.item_span.Reads as item-span-reads
 use Rattle.lines.proofs.rp_value.Reads as rp-value-reads
 
-item-at-requires : tie.Need-item-at-requires
-item-at-requires c κs = search needs
+item-span-requires : tie.Need-item-span-requires
+item-span-requires c κs = search needs
 
-item-at-requires-2 : tie.Need-item-at-requires-2
-item-at-requires-2 c κs = search needs
+item-span-requires-2 : tie.Need-item-span-requires-2
+item-span-requires-2 c κs = search needs
 
-item-at-requires-3 : tie.Need-item-at-requires-3
-item-at-requires-3 c κs = search needs
-
-item-at-requires-4 : tie.Need-item-at-requires-4
-item-at-requires-4 c κs = search needs
-
-item-at-requires-5 : tie.Need-item-at-requires-5
-item-at-requires-5 c κs = search needs
-
-item-at-requires-6 : tie.Need-item-at-requires-6
-item-at-requires-6 c κs = search needs
+item-span-requires-3 : tie.Need-item-span-requires-3
+item-span-requires-3 c κs = search needs
 
 sub-rp-value : tie.Need-sub-rp-value
 sub-rp-value c = search needs
@@ -68,12 +59,9 @@ pub details-201-spec : {M : Type 1} → statement M
 details-201-spec =
     tie.close
     (tie.spec
-    item-at-requires
-    item-at-requires-2
-    item-at-requires-3
-    item-at-requires-4
-    item-at-requires-5
-    item-at-requires-6
+    item-span-requires
+    item-span-requires-2
+    item-span-requires-3
     sub-rp-value
     part-rp-value-start
     part-rp-value-end

@@ -6,18 +6,18 @@ use Rattle.lines.proofs.details_301.Statement.{statement}
 use Rattle.lines.proofs.details_301.Tie as tie
 use Rattle.lines.proofs.details_301.Reads as reads
 use Rattle.lines.proofs.details_301.Lts as lts
-use Rattle.lines.proofs.item_at.Reads as item-at-reads
+use Rattle.lines.proofs.item_span.Reads as item-span-reads
 use Rattle.lines.proofs.rp_value.Reads as rp-value-reads
-use Rattle.lines.proofs.usage_from.Reads as usage-from-reads
+use Rattle.lines.proofs.usage_of.Reads as usage-of-reads
 
-item-at-requires : tie.Need-item-at-requires
-item-at-requires c κs = search needs
+item-span-requires : tie.Need-item-span-requires
+item-span-requires c κs = search needs
 
-item-at-requires-2 : tie.Need-item-at-requires-2
-item-at-requires-2 c κs = search needs
+item-span-requires-2 : tie.Need-item-span-requires-2
+item-span-requires-2 c κs = search needs
 
-usage-from-requires : tie.Need-usage-from-requires
-usage-from-requires c κs = search needs
+usage-of-requires : tie.Need-usage-of-requires
+usage-of-requires c κs = search needs
 
 sub-rp-value : tie.Need-sub-rp-value
 sub-rp-value c = search needs
@@ -38,9 +38,9 @@ pub details-301-spec : {M : Type 1} → statement M
 details-301-spec =
     tie.close
     (tie.spec
-    item-at-requires
-    item-at-requires-2
-    usage-from-requires
+    item-span-requires
+    item-span-requires-2
+    usage-of-requires
     sub-rp-value
     part-rp-value-start
     part-rp-value-end

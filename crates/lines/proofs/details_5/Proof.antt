@@ -8,10 +8,10 @@ use Rattle.lines.proofs.details_5.Reads as reads
 use Rattle.lines.proofs.details_5.Lts as lts
 use Rattle.lines.proofs.bare.Reads as bare-reads
 use Rattle.lines.proofs.day_value.Reads as day-value-reads
-use Rattle.lines.proofs.item_at.Reads as item-at-reads
+use Rattle.lines.proofs.item_span.Reads as item-span-reads
 
-item-at-requires : tie.Need-item-at-requires
-item-at-requires c κs = search needs
+item-span-requires : tie.Need-item-span-requires
+item-span-requires c κs = search needs
 
 sub-day-value : tie.Need-sub-day-value
 sub-day-value c = search needs
@@ -35,7 +35,7 @@ pub details-5-spec : {M : Type 1} → statement M
 details-5-spec =
     tie.close
     (tie.spec
-    item-at-requires
+    item-span-requires
     sub-day-value
     part-day-value-start
     part-day-value-end

@@ -6,11 +6,11 @@ use Rattle.lines.proofs.first_rp.Statement.{statement}
 use Rattle.lines.proofs.first_rp.Tie as tie
 use Rattle.lines.proofs.first_rp.Reads as reads
 use Rattle.lines.proofs.first_rp.Lts as lts
-use Rattle.lines.proofs.item_at.Reads as item-at-reads
+use Rattle.lines.proofs.item_span.Reads as item-span-reads
 use Rattle.lines.proofs.rp_value.Reads as rp-value-reads
 
-item-at-requires : tie.Need-item-at-requires
-item-at-requires c κs = search needs
+item-span-requires : tie.Need-item-span-requires
+item-span-requires c κs = search needs
 
 sub-rp-value : tie.Need-sub-rp-value
 sub-rp-value c = search needs
@@ -31,7 +31,7 @@ pub first-rp-spec : {M : Type 1} → statement M
 first-rp-spec =
     tie.close
     (tie.spec
-    item-at-requires
+    item-span-requires
     sub-rp-value
     part-rp-value-start
     part-rp-value-end

@@ -7,13 +7,13 @@ use Rattle.lines.proofs.items_fault.Tie as tie
 use Rattle.lines.proofs.items_fault.Reads as reads
 use Rattle.lines.proofs.items_fault.Lts as lts
 use Rattle.items.proofs.item_fault.Reads as item-fault-reads
-use Rattle.lines.proofs.item_stop.Reads as item-stop-reads
+use Rattle.lines.proofs.item_span.Reads as item-span-reads
 
 abbrev Inv-loop : tie.InvT-loop
-Inv-loop codes place provider s at k₀ end i₀ k i = Walk codes provider place s at end k i
+Inv-loop codes place provider stops n s k₀ end j₀ k j = Walk codes provider place s end k j
 
 abbrev μ-loop : tie.MeasureT-loop
-μ-loop codes place provider s at k₀ end i₀ k i = end - k
+μ-loop codes place provider stops n s k₀ end j₀ k j = end - k
 
 add-end : tie.Need-add-end Inv-loop μ-loop
 add-end c = search (needs, walk-laws)
@@ -24,8 +24,8 @@ loop-holds c = search (needs, walk-laws)
 returns : tie.Need-returns Inv-loop μ-loop
 returns c = search (needs, walk-laws)
 
-item-stop-requires : tie.Need-item-stop-requires Inv-loop μ-loop
-item-stop-requires c κs = search (needs, walk-laws)
+item-span-requires : tie.Need-item-span-requires Inv-loop μ-loop
+item-span-requires c κs = search (needs, walk-laws)
 
 mul-c : tie.Need-mul-c Inv-loop μ-loop
 mul-c c = search (needs, walk-laws)
@@ -48,8 +48,8 @@ item-fault-requires c κs = search (needs, walk-laws)
 returns-2 : tie.Need-returns-2 Inv-loop μ-loop
 returns-2 c = search (needs, walk-laws)
 
-add-i : tie.Need-add-i Inv-loop μ-loop
-add-i c = search (needs, walk-laws)
+add-j : tie.Need-add-j Inv-loop μ-loop
+add-j c = search (needs, walk-laws)
 
 add-k : tie.Need-add-k Inv-loop μ-loop
 add-k c = search (needs, walk-laws)
@@ -72,7 +72,7 @@ items-fault-spec =
     add-end
     loop-holds
     returns
-    item-stop-requires
+    item-span-requires
     mul-c
     element-copy-out-c
     sub-item-fault
@@ -80,7 +80,7 @@ items-fault-spec =
     part-item-fault-end
     item-fault-requires
     returns-2
-    add-i
+    add-j
     add-k
     loop-less
     loop-again

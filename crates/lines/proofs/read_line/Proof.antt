@@ -7,16 +7,16 @@ use Rattle.lines.proofs.read_line.Tie as tie
 use Rattle.lines.proofs.read_line.Reads as reads
 use Rattle.lines.proofs.read_line.Lts as lts
 use Rattle.digits.proofs.plain_number.Reads as plain-number-reads
-use Rattle.lines.proofs.item_stop.Reads as item-stop-reads
 use Rattle.lines.proofs.items_fault.Reads as items-fault-reads
 use Rattle.lines.proofs.place_of.Reads as place-of-reads
 use Rattle.lines.proofs.record_details.Reads as record-details-reads
+use Rattle.lists.proofs.find_byte.Reads as find-byte-reads
 
 returns : tie.Need-returns
 returns c = search (needs, read-laws)
 
-item-stop-requires : tie.Need-item-stop-requires
-item-stop-requires c κs = search needs
+find-byte-requires : tie.Need-find-byte-requires
+find-byte-requires c κs = search needs
 
 sub-plain-number : tie.Need-sub-plain-number
 sub-plain-number c = search needs
@@ -25,7 +25,7 @@ part-plain-number-start : tie.Need-part-plain-number-start
 part-plain-number-start c = search needs
 
 part-plain-number-end : tie.Need-part-plain-number-end
-part-plain-number-end c = search needs
+part-plain-number-end c = search (needs, read-laws)
 
 plain-number-requires : tie.Need-plain-number-requires
 plain-number-requires c κs = search needs
@@ -42,11 +42,8 @@ returns-3 c = search (needs, read-laws)
 returns-4 : tie.Need-returns-4
 returns-4 c = search (needs, read-laws)
 
-add-next : tie.Need-add-next
-add-next c = search needs
-
 items-fault-requires : tie.Need-items-fault-requires
-items-fault-requires c κs = search needs
+items-fault-requires c κs = search (needs, read-laws)
 
 returns-5 : tie.Need-returns-5
 returns-5 c = search (needs, read-laws)
@@ -65,7 +62,7 @@ read-line-spec =
     tie.close
     (tie.spec
     returns
-    item-stop-requires
+    find-byte-requires
     sub-plain-number
     part-plain-number-start
     part-plain-number-end
@@ -74,7 +71,6 @@ read-line-spec =
     place-of-requires
     returns-3
     returns-4
-    add-next
     items-fault-requires
     returns-5
     record-details-requires

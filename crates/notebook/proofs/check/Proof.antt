@@ -1,7 +1,7 @@
 use borrow.Author.Needs.{needs}
 use Prim.Native.Nat.{_-_}
 use lib.ListN.{length}
-use Rattle.notebook.proofs.CheckLaws.{check-laws}
+use Rattle.notebook.proofs.CheckLaws.{check-laws, line-size, line-1-behind}
 use Rattle.lines.specs.Codes.{codes}
 use Rattle.lines.proofs.LineLaws.{lent}
 use Rattle.characters.specs.Classes.{classOf}
@@ -59,14 +59,14 @@ add-from c = search (needs, check-laws, lent, classes-lent)
 
 check-records-requires : tie.Need-check-records-requires
 unfolding codes classOf
-check-records-requires c κs = search (needs, check-laws, lent, classes-lent)
+check-records-requires c κs = (search (needs, classes-lent), (search (needs, lent), (search (needs, line-size), search (needs, line-1-behind))))
 
 returns-5 : tie.Need-returns-5
 returns-5 c = search (needs, check-laws, lent, classes-lent)
 
 check-records-requires-2 : tie.Need-check-records-requires-2
 unfolding codes classOf
-check-records-requires-2 c κs = search (needs, check-laws, lent, classes-lent)
+check-records-requires-2 c κs = (search (needs, classes-lent), (search (needs, lent), (search (needs, line-size), search (needs, line-1-behind))))
 
 returns-6 : tie.Need-returns-6
 returns-6 c = search (needs, check-laws, lent, classes-lent)

@@ -1,7 +1,8 @@
 use borrow.Author.Needs.{needs}
 use Prim.Native.Nat.{_-_}
 use lib.ListN.{length}
-use Rattle.notebook.proofs.CheckLaws.{Reading, reading-laws}
+use Rattle.notebook.proofs.CheckLaws.{Reading, reading-laws, reading-fits, reading-refused, reading-on, whole-commas, whole-places, whole-fits, whole-less, line-size}
+use Rattle.characters.specs.Text.{Sixteen}
 use Rattle.notebook.proofs.check_records.Statement.{statement}
 use Rattle.notebook.proofs.check_records.Tie as tie
 use Rattle.notebook.proofs.check_records.Reads as reads
@@ -14,10 +15,10 @@ use Rattle.order.proofs.State.new.Reads as new-reads
 use Rattle.order.proofs.State.step.Reads as step-reads
 
 abbrev Inv-loop : tie.InvT-loop
-Inv-loop classes codes provider s from st₀ at₀ st at = Reading provider s from st at
+Inv-loop classes codes stops₀ provider s from st₀ at₀ stops st at = Reading provider s from st at × Sixteen stops
 
 abbrev μ-loop : tie.MeasureT-loop
-μ-loop classes codes provider s from st₀ at₀ st at = length s - at
+μ-loop classes codes stops₀ provider s from st₀ at₀ stops st at = length s - at
 
 new-requires : tie.Need-new-requires Inv-loop μ-loop
 new-requires c κs = search (needs, reading-laws)
@@ -49,8 +50,8 @@ returns-2 c = search (needs, reading-laws)
 enum-told-3 : tie.Need-enum-told-3 Inv-loop μ-loop
 enum-told-3 c = search (needs, reading-laws)
 
-add-t16 : tie.Need-add-t16 Inv-loop μ-loop
-add-t16 c = search (needs, reading-laws)
+add-t18 : tie.Need-add-t18 Inv-loop μ-loop
+add-t18 c = search (needs, reading-laws)
 
 returns-3 : tie.Need-returns-3 Inv-loop μ-loop
 returns-3 c = search (needs, reading-laws)
@@ -68,7 +69,7 @@ part-read-line-end : tie.Need-part-read-line-end Inv-loop μ-loop
 part-read-line-end c = search (needs, reading-laws)
 
 read-line-requires : tie.Need-read-line-requires Inv-loop μ-loop
-read-line-requires c κs = search (needs, reading-laws)
+read-line-requires c κs = (search needs, (whole-commas (c .before .before .before .before .before .before .before .loop .inv .0) (c .before .before .before .before .before .line-at .ensures) (c .before .before .before .end .given .1), (whole-places (c .before .before .before .before .before .before .before .loop .inv .0) (c .before .before .before .before .before .line-at .ensures) (c .before .before .before .end .given .1), line-size (c .before .before .before .before .before .line-at .ensures))))
 
 enum-known-n : tie.Need-enum-known-n Inv-loop μ-loop
 enum-known-n c = search (needs, reading-laws)
@@ -76,8 +77,8 @@ enum-known-n c = search (needs, reading-laws)
 wide-requires : tie.Need-wide-requires Inv-loop μ-loop
 wide-requires c κs = search (needs, reading-laws)
 
-add-t23 : tie.Need-add-t23 Inv-loop μ-loop
-add-t23 c = search (needs, reading-laws)
+add-t26 : tie.Need-add-t26 Inv-loop μ-loop
+add-t26 c = search (needs, reading-laws)
 
 returns-4 : tie.Need-returns-4 Inv-loop μ-loop
 returns-4 c = search (needs, reading-laws)
@@ -91,23 +92,23 @@ step-requires c κs = search (needs, reading-laws)
 enum-known-n-2 : tie.Need-enum-known-n-2 Inv-loop μ-loop
 enum-known-n-2 c = search (needs, reading-laws)
 
-add-t25 : tie.Need-add-t25 Inv-loop μ-loop
-add-t25 c = search (needs, reading-laws)
+add-t28 : tie.Need-add-t28 Inv-loop μ-loop
+add-t28 c = reading-fits (c .before .before .before .before .before .before .before .before .before .before .before .before .before .before .before .before .loop .inv .0)
 
 returns-5 : tie.Need-returns-5 Inv-loop μ-loop
-returns-5 c = search (needs, reading-laws)
+returns-5 c = reading-refused (c .before .before .before .before .before .before .before .before .before .before .before .before .before .before .before .before .loop .inv .0) (c .before .before .before .before .before .before .before .before .before .before .before .before .before .before .line-at .ensures) (c .before .before .before .before .before .before .before .before .before .before .before .before .end .given .1) (c .before .before .before .before .before .before .before .before .read-line .ensures) (c .before .before .before .before .before .before .facts .given .1) (c .before .before .before .before .step .ensures) (c .before .before .n2 .given .1)
 
 enum-known-next : tie.Need-enum-known-next Inv-loop μ-loop
 enum-known-next c = search (needs, reading-laws)
 
 add-at : tie.Need-add-at Inv-loop μ-loop
-add-at c = search (needs, reading-laws)
+add-at c = whole-fits (c .before .before .before .before .before .before .before .before .before .before .before .before .before .before .before .loop .inv .0) (c .before .before .before .before .before .before .before .before .before .before .before .before .before .line-at .ensures) (c .before .before .before .before .before .before .before .before .before .before .before .end .given .1)
 
 loop-less : tie.Need-loop-less Inv-loop μ-loop
-loop-less c = search (needs, reading-laws)
+loop-less c = whole-less (c .before .before .before .before .before .before .before .before .before .before .before .before .before .before .before .loop .inv .0) (c .before .before .before .before .before .before .before .before .before .before .before .before .before .line-at .ensures) (c .before .before .before .before .before .before .before .before .before .before .before .end .given .1)
 
 loop-again : tie.Need-loop-again Inv-loop μ-loop
-loop-again c = search (needs, reading-laws)
+loop-again c = (reading-on (c .before .before .before .before .before .before .before .before .before .before .before .before .before .before .before .loop .inv .0) (c .before .before .before .before .before .before .before .before .before .before .before .before .before .line-at .ensures) (c .before .before .before .before .before .before .before .before .before .before .before .end .given .1) (c .before .before .before .before .before .before .before .read-line .ensures) (c .before .before .before .before .before .facts .given .1) (c .before .before .before .step .ensures) (c .before .next .given .1), line-size (c .before .before .before .before .before .before .before .before .before .before .before .before .before .line-at .ensures))
 
 pub check-records-spec : {M : Type 1} → statement M
 check-records-spec =
@@ -125,7 +126,7 @@ check-records-spec =
     close-requires-2
     returns-2
     enum-told-3
-    add-t16
+    add-t18
     returns-3
     enum-known-end
     sub-read-line
@@ -134,12 +135,12 @@ check-records-spec =
     read-line-requires
     enum-known-n
     wide-requires
-    add-t23
+    add-t26
     returns-4
     enum-known-facts
     step-requires
     enum-known-n-2
-    add-t25
+    add-t28
     returns-5
     enum-known-next
     add-at

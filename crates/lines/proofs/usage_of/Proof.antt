@@ -2,29 +2,29 @@ use borrow.Author.Needs.{needs}
 use Prim.Native.Nat.{_-_}
 use lib.ListN.{length}
 use Rattle.lines.proofs.DetailLaws.{usage-is}
-use Rattle.lines.proofs.usage_from.Statement.{statement}
-use Rattle.lines.proofs.usage_from.Tie as tie
-use Rattle.lines.proofs.usage_from.Reads as reads
-use Rattle.lines.proofs.usage_from.Lts as lts
+use Rattle.lines.proofs.usage_of.Statement.{statement}
+use Rattle.lines.proofs.usage_of.Tie as tie
+use Rattle.lines.proofs.usage_of.Reads as reads
+use Rattle.lines.proofs.usage_of.Lts as lts
 use Rattle.digits.proofs.plain_number.Reads as plain-number-reads
 use Rattle.lines.proofs.code_pair.Reads as code-pair-reads
 use Rattle.lines.proofs.form_pair.Reads as form-pair-reads
-use Rattle.lines.proofs.item_at.Reads as item-at-reads
+use Rattle.lines.proofs.item_span.Reads as item-span-reads
 
-item-at-requires : tie.Need-item-at-requires
-item-at-requires c κs = search needs
+item-span-requires : tie.Need-item-span-requires
+item-span-requires c κs = search needs
 
-item-at-requires-2 : tie.Need-item-at-requires-2
-item-at-requires-2 c κs = search needs
+item-span-requires-2 : tie.Need-item-span-requires-2
+item-span-requires-2 c κs = search needs
 
-item-at-requires-3 : tie.Need-item-at-requires-3
-item-at-requires-3 c κs = search needs
+item-span-requires-3 : tie.Need-item-span-requires-3
+item-span-requires-3 c κs = search needs
 
-item-at-requires-4 : tie.Need-item-at-requires-4
-item-at-requires-4 c κs = search needs
+item-span-requires-4 : tie.Need-item-span-requires-4
+item-span-requires-4 c κs = search needs
 
-item-at-requires-5 : tie.Need-item-at-requires-5
-item-at-requires-5 c κs = search needs
+item-span-requires-5 : tie.Need-item-span-requires-5
+item-span-requires-5 c κs = search needs
 
 sub-code-pair : tie.Need-sub-code-pair
 sub-code-pair c = search needs
@@ -92,15 +92,15 @@ plain-number-requires c κs = search needs
 returns : tie.Need-returns
 returns c = search (needs, usage-is)
 
-pub usage-from-spec : {M : Type 1} → statement M
-usage-from-spec =
+pub usage-of-spec : {M : Type 1} → statement M
+usage-of-spec =
     tie.close
     (tie.spec
-    item-at-requires
-    item-at-requires-2
-    item-at-requires-3
-    item-at-requires-4
-    item-at-requires-5
+    item-span-requires
+    item-span-requires-2
+    item-span-requires-3
+    item-span-requires-4
+    item-span-requires-5
     sub-code-pair
     part-code-pair-start
     part-code-pair-end
