@@ -16,7 +16,7 @@ use Rattle.lists.proofs.Tests.{both, either, or-first, within-in, within-above,
 use Rattle.lists.proofs.Cuts.{drop-step, drop-end, two-on}
 use Rattle.characters.specs.Cells.{isOne, isPair, isTrail, isLead, allowed, fullRow, partRow}
 use Rattle.characters.specs.Text.{Char, One, Two, Bad, charOf, charAt, allChars, isStop, clean, commaCount, commasFrom, Stops, Sixteen, text, ScanOf}
-use Rattle.characters.specs.Classes.{wholeLead, classOf, classesFrom, Classes, isKana, LeadAt, PairAt}
+use Rattle.characters.specs.Classes.{wholeLead, classOf, classesFrom, Classes, signTrail, wideTrail, kataTrail, isFrequent, LeadAt, PairAt}
 
 -- ---- no character has a 0Dh, 0Ah or 1Ah in it
 
@@ -142,12 +142,12 @@ class-at b {i} v e h = ap (λ (x : List ℕ). getD x i 0) (v .is) ∙ class-from
 
 -- what a class says of its byte
 record Told (a : ℕ) (c : ℕ) : Type 0 where
-  one : c ≡ 1 → (isOne a ≡ true) × (eqb a 0x2c ≡ false)
+  one : c ≡ 0 → (isOne a ≡ true) × (eqb a 0x2c ≡ false)
   comma : c ≡ 2 → (isOne a ≡ true) × (eqb a 0x2c ≡ true)
-  none : c ≡ 0 → (isOne a ≡ false) × (isLead a ≡ false)
-  lead : (c ≡ 1 → ⊥) → (c ≡ 2 → ⊥) → isOne a ≡ false
+  none : c ≡ 1 → (isOne a ≡ false) × (isLead a ≡ false)
+  lead : (c ≡ 0 → ⊥) → (c ≡ 2 → ⊥) → isOne a ≡ false
   whole : c ≡ 3 → wholeLead a ≡ true
-  high : (c ≡ 0 → ⊥) → (c ≡ 1 → ⊥) → (c ≡ 2 → ⊥) → isLead a ≡ true
+  high : (c ≡ 1 → ⊥) → (c ≡ 0 → ⊥) → (c ≡ 2 → ⊥) → isLead a ≡ true
 
 whole-lead : (a : ℕ) → wholeLead a ≡ true → isLead a ≡ true
 whole-lead a e =
@@ -179,7 +179,7 @@ told a = go (eqb a 0x2c) refl (isOne a) refl (wholeLead a) refl (isLead a) refl
     comma-one : eqb a 0x2c ≡ true → isOne a ≡ true
     comma-one e = rw (eqb-true a 0x2c e)
 
-    go : (x : Bool) → eqb a 0x2c ≡ x → (y : Bool) → isOne a ≡ y → (z : Bool) → wholeLead a ≡ z → (w : Bool) → isLead a ≡ w → Told a (cond x 2 (cond y 1 (cond z 3 (cond w 4 0))))
+    go : (x : Bool) → eqb a 0x2c ≡ x → (y : Bool) → isOne a ≡ y → (z : Bool) → wholeLead a ≡ z → (w : Bool) → isLead a ≡ w → Told a (cond x 2 (cond y 0 (cond z 3 (cond w 4 1))))
     go true p y q z r w t = record {
       one = λ e. absurd (omega arith);
       comma = λ e. (comma-one p, p);
@@ -221,7 +221,7 @@ told a = go (eqb a 0x2c) refl (isOne a) refl (wholeLead a) refl (isLead a) refl
       high = λ e f g. absurd (e refl);
     }
 
--- every trail makes a character with a lead of whole rows; rows 4 and 5 are whole where is_kana says so: computed over the bytes
+-- every trail makes a character with a lead of whole rows; rows 1, 3, 4 and 5 have what is_frequent says: computed over the bytes
 abbrev onlyIf : Bool → Bool → Bool
 onlyIf x y = not x || y
 
@@ -236,12 +236,12 @@ whole-trails : below wholeTrails 256 ≡ true
 unfolding below wholeTrails isPair allowed fullRow partRow
 whole-trails = refl
 
-kanaTrails : ℕ → Bool
-kanaTrails b = onlyIf (isKana 0x82 b) (isPair 0x82 b) && onlyIf (isKana 0x83 b) (isPair 0x83 b)
+frequentTrails : ℕ → Bool
+frequentTrails b = onlyIf (signTrail b) (isPair 0x81 b) && (onlyIf (wideTrail b) (isPair 0x82 b) && onlyIf (kataTrail b) (isPair 0x83 b))
 
-kana-trails : below kanaTrails 256 ≡ true
-unfolding below kanaTrails isKana isPair allowed fullRow partRow
-kana-trails = refl
+frequent-trails : below frequentTrails 256 ≡ true
+unfolding below frequentTrails isPair allowed fullRow partRow
+frequent-trails = refl
 
 lead-byte : (a : ℕ) → isLead a ≡ true → a < 256
 lead-byte a e =
@@ -270,54 +270,62 @@ whole-pair a b e = go (isTrail b) refl (isPair a b) refl
     go false p true q = absurd (false≢true (sym p ∙ pair-parts a b q .1))
     go false p false q = refl
 
-kana-byte : (a b : ℕ) → isKana a b ≡ true → b < 256
-unfolding isKana
-kana-byte a b e = go (eqb a 0x82) (eqb a 0x83) e
-  where
-    go : (x y : Bool) → cond x (within 0x9f 0xf1 b) (cond y (within 0x40 0x7e b || within 0x80 0x96 b) false) ≡ true → b < 256
-    go true y e = omega (arith, leb-true b 0xf1 (both (leb 0x9f b) (leb b 0xf1) e .1))
-    go false true e =
-        ⊎-elim
-        (λ h. omega (arith, leb-true b 0x7e (both (leb 0x40 b) (leb b 0x7e) h .1)))
-        (λ h. omega (arith, leb-true b 0x96 (both (leb 0x80 b) (leb b 0x96) h .1)))
-        (either (within 0x40 0x7e b) (within 0x80 0x96 b) e)
-    go false false e = absurd (false≢true e)
+-- a trail of one of these rows is a byte
+inside-256 : (lo hi b : ℕ) → hi ≤ 0xff → within lo hi b ≡ true → b < 256
+inside-256 lo hi b h e = omega (arith, leb-true b hi (both (leb lo b) (leb b hi) e .1))
 
-kana-lead : (a b : ℕ) → isKana a b ≡ true → (a ≡ 0x82) ⊎ (a ≡ 0x83)
-unfolding isKana
-kana-lead a b e = go (eqb a 0x82) refl (eqb a 0x83) refl e
-  where
-    go : (x : Bool) → eqb a 0x82 ≡ x → (y : Bool) → eqb a 0x83 ≡ y → cond x (within 0x9f 0xf1 b) (cond y (within 0x40 0x7e b || within 0x80 0x96 b) false) ≡ true → (a ≡ 0x82) ⊎ (a ≡ 0x83)
-    go true p y q e = inl (eqb-true a 0x82 p)
-    go false p true q e = inr (eqb-true a 0x83 q)
-    go false p false q e = absurd (false≢true e)
+two-ranges : (l h l′ h′ b : ℕ) → h ≤ 0xff → h′ ≤ 0xff → (within l h b || within l′ h′ b) ≡ true → b < 256
+two-ranges l h l′ h′ b p q e = ⊎-elim (inside-256 l h b p) (inside-256 l′ h′ b q) (either (within l h b) (within l′ h′ b) e)
 
-kana-pair : (a b : ℕ) → isKana a b ≡ true → isPair a b ≡ true
-unfolding kanaTrails
-kana-pair a b e =
-    let t = both (onlyIf (isKana 0x82 b) (isPair 0x82 b)) (onlyIf (isKana 0x83 b) (isPair 0x83 b)) (below-at kanaTrails 256 kana-trails b (kana-byte a b e)) in
+wide-byte : (b : ℕ) → wideTrail b ≡ true → b < 256
+wide-byte b e =
     ⊎-elim
-    (λ h. rw h (onlyIf-at (isKana 0x82 b) (isPair 0x82 b) (t .0) (rw h at e)))
-    (λ h. rw h (onlyIf-at (isKana 0x83 b) (isPair 0x83 b) (t .1) (rw h at e)))
-    (kana-lead a b e)
+    (λ x. ⊎-elim (two-ranges 0x4f 0x58 0x60 0x79 b (omega arith) (omega arith)) (inside-256 0x81 0x9a b (omega arith)) (either (within 0x4f 0x58 b || within 0x60 0x79 b) (within 0x81 0x9a b) x))
+    (inside-256 0x9f 0xf1 b (omega arith))
+    (either (within 0x4f 0x58 b || within 0x60 0x79 b || within 0x81 0x9a b) (within 0x9f 0xf1 b) e)
 
--- the ways through is_kana
+frequent-pair : (a b : ℕ) → isFrequent a b ≡ true → isPair a b ≡ true
+unfolding isFrequent frequentTrails
+frequent-pair a b e = go (eqb a 0x81) refl (eqb a 0x82) refl (eqb a 0x83) refl e
+  where
+    Tested : Type 0
+    Tested = (onlyIf (signTrail b) (isPair 0x81 b) ≡ true) × (onlyIf (wideTrail b) (isPair 0x82 b) ≡ true) × (onlyIf (kataTrail b) (isPair 0x83 b) ≡ true)
+
+    tested : b < 256 → Tested
+    tested h =
+        let p = both (onlyIf (signTrail b) (isPair 0x81 b)) (onlyIf (wideTrail b) (isPair 0x82 b) && onlyIf (kataTrail b) (isPair 0x83 b)) (below-at frequentTrails 256 frequent-trails b h) in
+        let q = both (onlyIf (wideTrail b) (isPair 0x82 b)) (onlyIf (kataTrail b) (isPair 0x83 b)) (p .1) in
+        (p .0, q .0, q .1)
+
+    go : (x : Bool) → eqb a 0x81 ≡ x → (y : Bool) → eqb a 0x82 ≡ y → (z : Bool) → eqb a 0x83 ≡ z
+        → cond x (signTrail b) (cond y (wideTrail b) (cond z (kataTrail b) false)) ≡ true → isPair a b ≡ true
+    go true p y q z r e = rw (eqb-true a 0x81 p) (onlyIf-at (signTrail b) (isPair 0x81 b) (tested (two-ranges 0x40 0x7e 0x80 0x9e b (omega arith) (omega arith) e) .0) e)
+    go false p true q z r e = rw (eqb-true a 0x82 q) (onlyIf-at (wideTrail b) (isPair 0x82 b) (tested (wide-byte b e) .1) e)
+    go false p false q true r e = rw (eqb-true a 0x83 r) (onlyIf-at (kataTrail b) (isPair 0x83 b) (tested (two-ranges 0x40 0x7e 0x80 0x96 b (omega arith) (omega arith) e) .2) e)
+    go false p false q false r e = absurd (false≢true e)
+
+-- the ways through is_frequent
 module _ (a b : ℕ) where
-  pub kana-82 : {x : Bool} → a ≡ 0x82 → x ≡ within 0x9f 0xf1 b → x ≡ isKana a b
-  unfolding isKana
-  kana-82 h e = e ∙ simp (eq-eqb a 0x82 h)
+  pub frequent-81 : {x y : Bool} → a ≡ 0x81 → x ≡ within 0x40 0x7e b → y ≡ within 0x80 0x9e b → (x || y) ≡ isFrequent a b
+  unfolding isFrequent
+  frequent-81 h e f = rw (e, f) (simp (eq-eqb a 0x81 h))
 
-  pub kana-83 : {x y : Bool} → (a ≡ 0x82 → ⊥) → a ≡ 0x83 → x ≡ within 0x40 0x7e b → y ≡ within 0x80 0x96 b → (x || y) ≡ isKana a b
-  unfolding isKana
-  kana-83 h k e f = rw (e, f) (simp (ne-eqb a 0x82 h, eq-eqb a 0x83 k))
+  module _ (n81 : a ≡ 0x81 → ⊥) where
+    pub frequent-82 : {x y z w : Bool} → a ≡ 0x82 → x ≡ within 0x4f 0x58 b → y ≡ within 0x60 0x79 b → z ≡ within 0x81 0x9a b → w ≡ within 0x9f 0xf1 b → (x || y || z || w) ≡ isFrequent a b
+    unfolding isFrequent
+    frequent-82 h e f g i = rw (e, f, g, i) (simp (ne-eqb a 0x81 n81, eq-eqb a 0x82 h))
 
-  pub kana-none : (a ≡ 0x82 → ⊥) → (a ≡ 0x83 → ⊥) → false ≡ isKana a b
-  unfolding isKana
-  kana-none h k = simp (ne-eqb a 0x82 h, ne-eqb a 0x83 k)
+    pub frequent-83 : {x y : Bool} → (a ≡ 0x82 → ⊥) → a ≡ 0x83 → x ≡ within 0x40 0x7e b → y ≡ within 0x80 0x96 b → (x || y) ≡ isFrequent a b
+    unfolding isFrequent
+    frequent-83 n h e f = rw (e, f) (simp (ne-eqb a 0x81 n81, ne-eqb a 0x82 n, eq-eqb a 0x83 h))
+
+    pub frequent-none : (a ≡ 0x82 → ⊥) → (a ≡ 0x83 → ⊥) → false ≡ isFrequent a b
+    unfolding isFrequent
+    frequent-none n m = simp (ne-eqb a 0x81 n81, ne-eqb a 0x82 n, ne-eqb a 0x83 m)
 
 -- ---- a lead at a position, and the ways through pair_at
 
-pub lead-at : (s : List ℕ) (i : ℕ) {c : ℕ} → i < length s → c ≡ classOf (getD s i 0) → (c ≡ 1 → ⊥) → (c ≡ 2 → ⊥) → (c ≡ 0 → ⊥) → LeadAt s i c
+pub lead-at : (s : List ℕ) (i : ℕ) {c : ℕ} → i < length s → c ≡ classOf (getD s i 0) → (c ≡ 0 → ⊥) → (c ≡ 2 → ⊥) → (c ≡ 1 → ⊥) → LeadAt s i c
 lead-at s i h q a b d = record { inside = h; class = q; one = a; comma = b; none = d }
 
 module _ (s : List ℕ) (i : ℕ) {c : ℕ} (v : LeadAt s i c) where
@@ -339,13 +347,13 @@ module _ (s : List ℕ) (i : ℕ) {c : ℕ} (v : LeadAt s i c) where
     pub pair-whole : {x : Bool} → c ≡ 3 → x ≡ isTrail (getD s (i + 1) 0) → PairAt s i x
     pair-whole e q = record { tells = by-pair ∙ ap (λ (y : Bool). cond y Two Bad) (sym (whole-pair (getD s i 0) (getD s (i + 1) 0) (byte-told .whole e)) ∙ sym q) }
 
-    pub pair-kana : {x : Bool} → x ≡ isKana (getD s i 0) (getD s (i + 1) 0) → x ≡ true → PairAt s i true
-    pair-kana p q = record { tells = by-pair ∙ ap (λ (y : Bool). cond y Two Bad) (kana-pair (getD s i 0) (getD s (i + 1) 0) (sym p ∙ q)) }
+    pub pair-frequent : {x : Bool} → x ≡ isFrequent (getD s i 0) (getD s (i + 1) 0) → x ≡ true → PairAt s i true
+    pair-frequent p q = record { tells = by-pair ∙ ap (λ (y : Bool). cond y Two Bad) (frequent-pair (getD s i 0) (getD s (i + 1) 0) (sym p ∙ q)) }
 
     pub pair-other : {x : Bool} → x ≡ isPair (getD s i 0) (getD s (i + 1) 0) → PairAt s i x
     pair-other q = record { tells = by-pair ∙ ap (λ (y : Bool). cond y Two Bad) (sym q) }
 
-pub ruleset pair-laws = (pair-short, pair-whole, pair-kana, pair-other)
+pub ruleset pair-laws = (pair-short, pair-whole, pair-frequent, pair-other)
 
 no-pair : (a b : ℕ) → isLead a ≡ false → isPair a b ≡ false
 unfolding isPair
@@ -458,7 +466,7 @@ module _ {s : List ℕ} {at : ℕ} {a₀ a : List ℕ} {i : ℕ} {good : Bool} {
     plain-on : isStop (getD s i 0) ≡ false → eqb (getD s i 0) 0x2c ≡ false → kept a n (commasFrom (i + 1 - at) (text (drop (i + 1) s))) ≡ kept a₀ 0 (commasFrom 0 (text (drop at s)))
     plain-on e z = ap (kept a n) (sym (places-on e ∙ rw z)) ∙ v .places
 
-    pub scan-one : c ≡ 1 → Scanned s at a₀ a (i + 1) good n
+    pub scan-one : c ≡ 0 → Scanned s at a₀ a (i + 1) good n
     scan-one e =
         let w = says .one e in
         let z : n + 0 ≡ n = add-zero n in
@@ -490,7 +498,7 @@ module _ {s : List ℕ} {at : ℕ} {a₀ a : List ℕ} {i : ℕ} {good : Bool} {
         (v .size)
 
     -- x is what is_stop said
-    pub scan-stop : {x : Bool} → c ≡ 0 → x ≡ isStop (getD s i 0) → x ≡ true → ScanOf s at a (record { end = i; good = good; commas = n })
+    pub scan-stop : {x : Bool} → c ≡ 1 → x ≡ isStop (getD s i 0) → x ≡ true → ScanOf s at a (record { end = i; good = good; commas = n })
     scan-stop e p t = done (rw now-at (simp (sym p ∙ t)))
 
     -- a byte that begins no character and is no comma
@@ -513,7 +521,7 @@ module _ {s : List ℕ} {at : ℕ} {a₀ a : List ℕ} {i : ℕ} {good : Bool} {
         no-one-comma : (a : ℕ) → isOne a ≡ false → eqb a 0x2c ≡ false
         no-one-comma a o = ne-eqb a 0x2c (λ e. true≢false (sym (rw e) ∙ o))
 
-    pub scan-bad : {x : Bool} → c ≡ 0 → x ≡ isStop (getD s i 0) → x ≡ false → Scanned s at a₀ a (i + 1) false n
+    pub scan-bad : {x : Bool} → c ≡ 1 → x ≡ isStop (getD s i 0) → x ≡ false → Scanned s at a₀ a (i + 1) false n
     unfolding charAt
     scan-bad e p t =
         let w = says .none e in
@@ -523,7 +531,7 @@ module _ {s : List ℕ} {at : ℕ} {a₀ a : List ℕ} {i : ℕ} {good : Bool} {
         no-char a [] o l = rw o
         no-char a (b ∷ r) o l = rw (o, no-pair a b l)
 
-    module _ (no1 : c ≡ 1 → ⊥) (no2 : c ≡ 2 → ⊥) (no0 : c ≡ 0 → ⊥) {x : Bool} (p : PairAt s i x) where
+    module _ (no1 : c ≡ 0 → ⊥) (no2 : c ≡ 2 → ⊥) (no0 : c ≡ 1 → ⊥) {x : Bool} (p : PairAt s i x) where
       pub scan-two : x ≡ true → Scanned s at a₀ a (i + 2) good n
       unfolding charAt
       scan-two e =

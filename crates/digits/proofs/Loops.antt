@@ -99,7 +99,23 @@ pub num-out : {s : List ℕ} {n i : ℕ} → NumLeft s n i → length s ≤ i �
 unfolding numFrom
 num-out {s} {n} {i} v h = sym (v .left ∙ rw (drop-end s i h))
 
-pub ruleset num-laws = (num-none, num-long, num-start, num-low, num-high, num-next, num-mul, num-add, num-out)
+-- one digit
+module _ (s : List ℕ) (h : length s ≡ 1) where
+  start-one : NumLeft s 0 0
+  start-one = num-start s (λ e. omega arith) (omega arith)
+
+  pub one-low : getD s 0 0 < 48 → 1000 ≡ shortValue s
+  one-low t = num-low start-one (omega arith) t
+
+  pub one-high : 57 < getD s 0 0 → 1000 ≡ shortValue s
+  one-high t = num-high start-one (omega arith) t
+
+  pub one-value : {w : ℕ} → 48 ≤ getD s 0 0 → getD s 0 0 ≤ 57 → w ≡ getD s 0 0 - 48 → w ≡ shortValue s
+  one-value {w} a b e =
+      let z : w ≡ 10 * 0 + w = omega arith in
+      z ∙ num-out (num-next start-one (omega arith) a b e) (omega arith)
+
+pub ruleset num-laws = (one-low, one-high, one-value, num-none, num-long, num-start, num-low, num-high, num-next, num-mul, num-add, num-out)
 
 module _ (s : List ℕ) {a : ℕ} (e : a ≡ getD s 0 0) where
   pub plain-zero : a ≡ 48 → 0 ≡ plainNumber s

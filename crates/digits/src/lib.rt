@@ -35,7 +35,7 @@ pub fn wide(b: u8) -> u32
     b as u32
 }
 
-// One to three digits: their value; else 1000.
+// One to three digits: their value; else 1000. Most numbers of a notebook have one digit.
 pub fn short_value(s: &[u8]) -> u32
     ensures { λ r. ⌜ r ≡ shortValue (now (s .entry)) ⌝ }
 {
@@ -45,6 +45,16 @@ pub fn short_value(s: &[u8]) -> u32
     }
     if 3 < len {
         return 1000;
+    }
+    if len == 1 {
+        let only = s[0];
+        if only < 48 {
+            return 1000;
+        }
+        if 57 < only {
+            return 1000;
+        }
+        return wide(only - 48);
     }
     let mut n: u32 = 0;
     let mut i = 0;

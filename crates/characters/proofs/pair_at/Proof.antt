@@ -6,7 +6,7 @@ use Rattle.characters.proofs.pair_at.Statement.{statement}
 use Rattle.characters.proofs.pair_at.Tie as tie
 use Rattle.characters.proofs.pair_at.Reads as reads
 use Rattle.characters.proofs.pair_at.Lts as lts
-use Rattle.characters.proofs.is_kana.Reads as is-kana-reads
+use Rattle.characters.proofs.is_frequent.Reads as is-frequent-reads
 use Rattle.characters.proofs.is_pair.Reads as is-pair-reads
 use Rattle.characters.proofs.is_trail.Reads as is-trail-reads
 
@@ -28,8 +28,8 @@ is-trail-requires c κs = search needs
 returns-2 : tie.Need-returns-2
 returns-2 c = search (needs, pair-laws)
 
-is-kana-requires : tie.Need-is-kana-requires
-is-kana-requires c κs = search needs
+is-frequent-requires : tie.Need-is-frequent-requires
+is-frequent-requires c κs = search needs
 
 returns-3 : tie.Need-returns-3
 returns-3 c = search (needs, pair-laws)
@@ -50,7 +50,7 @@ pair-at-spec =
     shared-slice-read-b
     is-trail-requires
     returns-2
-    is-kana-requires
+    is-frequent-requires
     returns-3
     is-pair-requires
     returns-4)
