@@ -70,7 +70,7 @@ module _ (st : State) {n : ℕ} (e : n ≡ finishOf st) where
 
 -- ---- what a line was read to
 
-read-fault : (g b : Bool) (l : List ℕ) (n : ℕ) → lineRead g b l ≡ Fault n → (faultWhere g b l ≡ n) × (n ≡ 0 → ⊥)
+pub read-fault : (g b : Bool) (l : List ℕ) (n : ℕ) → lineRead g b l ≡ Fault n → (faultWhere g b l ≡ n) × (n ≡ 0 → ⊥)
 unfolding lineRead
 read-fault g b l n e = go (eqb (faultWhere g b l) 0) refl e
   where
@@ -78,7 +78,7 @@ read-fault g b l n e = go (eqb (faultWhere g b l) 0) refl e
     go true q e = let z : _≡_ {A = ℕ} 0 1 = cc in absurd (omega arith)
     go false q e = let w : faultWhere g b l ≡ n = cc in (w, λ z. eqb-false _ _ q (w ∙ z))
 
-read-fine : (g b : Bool) (l : List ℕ) (f : Facts) → lineRead g b l ≡ Fine f → (faultWhere g b l ≡ 0) × (f ≡ factsOf (recordOf l))
+pub read-fine : (g b : Bool) (l : List ℕ) (f : Facts) → lineRead g b l ≡ Fine f → (faultWhere g b l ≡ 0) × (f ≡ factsOf (recordOf l))
 unfolding lineRead
 read-fine g b l f e = go (eqb (faultWhere g b l) 0) refl e
   where

@@ -18,7 +18,7 @@ pub enum Checked {
 }
 
 // 1 for provider to patient, 2 for patient to provider, 0 for a line that is no line 1.
-fn direction(line: &[u8]) -> u32
+pub fn direction(line: &[u8]) -> u32
     ensures { λ r. ⌜ r ≡ directionOf (now (line .entry)) ⌝ }
 {
     let provider = b"JAHISTC04,1";

@@ -1,0 +1,224 @@
+-- The walk that writes the entries: what is left from a line on, written behind what is written, gives the whole index. One law for
+-- each way through the code. Assumes nothing.
+use Prim.Native.Nat.{ℕ, zero, suc, _+_, _*_, _-_, _≤_, _<_}
+use native.Mathlib.Omega.{arith}
+use mathlib.Core.Path.{_≡_, refl, sym, ap, _∙_, subst}
+use mathlib.Core.Bool.{Bool, true, false, cond}
+use mathlib.Core.List.{List, [], _∷_, _++_}
+use borrow.Author.Tests.{ne-eqb, eqb-true}
+use mir.Val.{Fits}
+use mir.Syntax.{w64}
+use lib.Dec.{eqb}
+use lib.ListN.{length, take, drop, length-append, length-drop}
+use lib.Seq.{sets, length-take-le}
+use Rattle.lists.specs.Lists.{same, part}
+use Rattle.characters.specs.declared.Line.{Line}
+use Rattle.characters.specs.declared.Line.the-variants.{Whole, Mark, End, Broken}
+use Rattle.characters.specs.Text.{text}
+use Rattle.characters.specs.Rows.{rows, isLine, lineEnd, WholeLine, BrokenRow, LineMeans, LineOf}
+use Rattle.characters.proofs.RowLaws.{line-is, line-text}
+use Rattle.records.specs.Records.{faultWhere, lineFault, recordOf, header}
+use Rattle.order.specs.declared.State.{State}
+use Rattle.order.specs.declared.Facts.{Facts}
+use Rattle.order.specs.declared.Moved.{Moved}
+use Rattle.order.specs.declared.Moved.the-variants.{Refused, On}
+use Rattle.order.specs.State.{start, advance, stepOf, groupOf, drugOf, Room as Countable}
+use Rattle.order.proofs.Laws.{taken, next-line, room, room-start, line-start}
+use Rattle.lines.specs.declared.LineRead.{LineRead}
+use Rattle.lines.specs.declared.LineRead.the-variants.{Fault, Fine}
+use Rattle.lines.specs.Facts.{factsOf, lineRead}
+use Rattle.buffers.specs.Buffers.{Room, Wrote, six}
+use Rattle.buffers.proofs.Runs.{carry}
+use Rattle.notebook.specs.Notebook.{stepLine}
+use Rattle.notebook.specs.Check.{Behind}
+use Rattle.notebook.proofs.CheckLaws.{read-fault, read-fine}
+use Rattle.index.specs.Index.{Entry, entryOf, entered, entriesFrom, numbers, Judged, Spanned}
+
+-- ---- a line read and put in its place
+
+module _ (st : State) (l : List ℕ) {good : Bool} (g : Judged good l) {a : LineRead} (p : a ≡ lineRead good (st .provider) l) where
+  own-fault : lineFault (st .provider) l ≡ faultWhere good (st .provider) l
+  unfolding lineFault
+  own-fault = rw (g .chars)
+
+  pub step-fault : {n m : ℕ} → a ≡ Fault n → m ≡ n → Refused m ≡ stepLine st l
+  unfolding stepLine
+  step-fault {n} {m} t u =
+      let f : (faultWhere good (st .provider) l ≡ n) × (n ≡ 0 → ⊥) = read-fault good (st .provider) l n (sym p ∙ t) in
+      rw (own-fault ∙ f .0, ne-eqb n 0 (f .1), u)
+
+  pub step-fine : {facts : Facts} {m : Moved} → a ≡ Fine facts → m ≡ stepOf st facts → m ≡ stepLine st l
+  unfolding stepLine
+  step-fine {facts} {m} t o =
+      let f : (faultWhere good (st .provider) l ≡ 0) × (facts ≡ factsOf (recordOf l)) = read-fine good (st .provider) l facts (sym p ∙ t) in
+      rw (own-fault ∙ f .0, o, f .1)
+
+pub ruleset step-laws = (step-fault, step-fine)
+
+-- what a line that was taken says
+pub record Placed (st : State) (l : List ℕ) (after : State) (rp doctor : ℕ) : Type 0 where
+  pub sound : lineFault (st .provider) l ≡ 0
+  pub step : stepOf st (factsOf (recordOf l)) ≡ On after rp doctor
+  pub state : after ≡ advance st (factsOf (recordOf l))
+
+pub placed : (st : State) (l : List ℕ) (after : State) (rp doctor : ℕ) → stepLine st l ≡ On after rp doctor → Placed st l after rp doctor
+unfolding stepLine
+placed st l after rp doctor e = go (eqb (lineFault (st .provider) l) 0) refl e
+  where
+    go : (x : Bool) → eqb (lineFault (st .provider) l) 0 ≡ x → cond x (stepOf st (factsOf (recordOf l))) (Refused (lineFault (st .provider) l)) ≡ On after rp doctor
+        → Placed st l after rp doctor
+    go true q e = record { sound = eqb-true _ _ q; step = e; state = taken st (factsOf (recordOf l)) after rp doctor e .state }
+    go false q e = let z : _≡_ {A = ℕ} 0 1 = cc in absurd (omega arith)
+
+pub place-number : {st : State} {l : List ℕ} {after : State} {rp doctor : ℕ} → Placed st l after rp doctor → after .place ≡ (recordOf l) .number
+unfolding advance factsOf
+place-number p = ap (λ (t : State). t .place) (p .state)
+
+-- ---- one entry
+
+module _ (st : State) (a b doctor : ℕ) {group drug : ℕ} (g : group ≡ groupOf st) (h : drug ≡ drugOf st) where
+  pub entry-room : (d : List ℕ) (next : ℕ) → Room d next (six (st .place) a b (groupOf st) doctor (drugOf st)) → Room d next (six (st .place) a b group doctor drug)
+  entry-room d next r = rw (g, h) r
+
+  pub entry-written : {d d′ : List ℕ} {next behind : ℕ} → Wrote d d′ next behind (six (st .place) a b group doctor drug)
+      → Wrote d d′ next behind (six (st .place) a b (groupOf st) doctor (drugOf st))
+  entry-written w = rw (g, h) at w
+
+-- ---- the walk
+
+-- the numbers of the entries from a line on
+abbrev pub rest : List ℕ → State → ℕ → List ℕ
+rest s st at = numbers (entriesFrom st at (rows (drop at s)))
+
+pub record Filling (provider : Bool) (s : List ℕ) (from : ℕ) (d : List ℕ) (st : State) (at : ℕ) (d′ : List ℕ) (next : ℕ) : Type 0 where
+  pub left : sets d′ next (rest s st at) ≡ sets d 0 (rest s (start provider) from)
+  pub count : next + length (rest s st at) ≡ length (rest s (start provider) from)
+  pub hold : length (rest s (start provider) from) ≤ length d
+  pub size : length d′ ≡ length d
+  pub room : Countable st
+  pub line : st .line ≤ at
+  pub high : at ≤ length s
+  pub small : length s ≤ 65536
+
+pub filling-start : (provider : Bool) (s : List ℕ) (from : ℕ) (d : List ℕ) {st : State} → Behind s from → Room d 0 (rest s (start provider) from)
+    → st ≡ start provider → Filling provider s from d st from d 0
+filling-start provider s from d b r e =
+    subst (λ (x : State). Filling provider s from d x from d 0) (sym e) (record {
+      left = refl;
+      count = omega arith;
+      hold = omega (arith, r);
+      size = refl;
+      room = room-start provider;
+      line = omega (arith, line-start provider, b .low);
+      high = b .high;
+      small = b .small;
+    })
+
+module _ {provider : Bool} {s : List ℕ} {from : ℕ} {d : List ℕ} {st : State} {at : ℕ} {d′ : List ℕ} {next : ℕ} (v : Filling provider s from d st at d′ next) where
+  -- nothing is left: all is written
+  all-written : entriesFrom st at (rows (drop at s)) ≡ [] → Wrote d d′ 0 next (rest s (start provider) from)
+  unfolding numbers
+  all-written e = record {
+    next = omega (arith, v .count, ap (λ (es : List Entry). length (numbers es)) e);
+    list = rw e at (v .left);
+    size = v .size;
+    high = omega (arith, v .count, v .hold);
+  }
+
+  module _ {k : Line} (w : LineOf s at k) where
+    means : {j : Line} → k ≡ j → LineMeans s at j
+    means e = subst (LineMeans s at) e (w .means)
+
+    pub filling-end : k ≡ End → Wrote d d′ 0 next (rest s (start provider) from)
+    unfolding entriesFrom
+    filling-end e = all-written (ap (entriesFrom st at) (means e))
+
+    pub filling-mark : k ≡ Mark → Wrote d d′ 0 next (rest s (start provider) from)
+    unfolding entriesFrom isLine
+    filling-mark e = all-written (ap (entriesFrom st at) (means e))
+
+    pub filling-broken : k ≡ Broken → Wrote d d′ 0 next (rest s (start provider) from)
+    unfolding entriesFrom
+    filling-broken e = all-written (go (rows (drop at s)) (means e))
+      where
+        go : (rs : List (List ℕ)) → BrokenRow rs → entriesFrom st at rs ≡ []
+        go [] b = absurd b
+        go (r ∷ rs) b = rw (b .0)
+
+    module _ {e : ℕ} {good : Bool} (q : k ≡ Whole e good) where
+      whole : WholeLine s at e good
+      whole = means q
+
+      pub filling-low : at ≤ e
+      filling-low = whole .low
+
+      pub filling-high : e ≤ length s
+      filling-high = omega (arith, whole .high)
+
+      pub filling-fits : Fits w64 (e + 2)
+      filling-fits = omega (arith, whole .high, v .small)
+
+      pub filling-less : length s - (e + 2) < length s - at
+      filling-less = omega (arith, whole .high, whole .low)
+
+      pub filling-span : Spanned at e
+      filling-span = record { low = whole .low; small = omega (arith, whole .high, v .small) }
+
+      pub filling-judged : Judged good (take (e - at) (drop at s))
+      filling-judged = record { chars = whole .chars }
+
+      part-length : length (part s at e) ≡ e - at
+      part-length = length-take-le (e - at) (drop at s) (omega (arith, whole .low, whole .high, length-drop at s))
+
+      -- the entries of the line here and of those behind it
+      here : Moved → List Entry
+      here = entered at (part s at e) (λ t. entriesFrom t (e + 2) (rows (drop (e + 2) s)))
+
+      line-entries : entriesFrom st at (rows (drop at s)) ≡ here (stepLine st (part s at e))
+      unfolding entriesFrom here
+      line-entries =
+          let n : at + length (part s at e ++ lineEnd) ≡ e + 2 = rw (length-append, part-length) (omega (arith, whole .low)) in
+          rw (whole .cut, line-is (part s at e) (whole .clear), line-text (part s at e) (whole .clear), n)
+
+      module _ {m : Moved} (o : m ≡ stepLine st (take (e - at) (drop at s))) where
+        pub filling-refused : {n : ℕ} → m ≡ Refused n → Wrote d d′ 0 next (rest s (start provider) from)
+        unfolding here entered
+        filling-refused u = all-written (line-entries ∙ ap here (sym o ∙ u))
+
+        module _ {after : State} {rp doctor : ℕ} (u : m ≡ On after rp doctor) where
+          taken-here : Placed st (part s at e) after rp doctor
+          taken-here = placed st (part s at e) after rp doctor (sym o ∙ u)
+
+          own : List ℕ
+          own = six (after .place) at (e - at) (groupOf after) doctor (drugOf after)
+
+          -- the record's own numbers, and those behind it
+          written : rest s st at ≡ own ++ rest s after (e + 2)
+          unfolding numbers here entered entryOf own
+          written = ap numbers (line-entries ∙ ap here (sym o ∙ u)) ∙ rw (place-number taken-here, part-length)
+
+          count-on : length (rest s st at) ≡ length own + length (rest s after (e + 2))
+          count-on = ap length written ∙ length-append own (rest s after (e + 2))
+
+          pub filling-room : Room d′ next (six (after .place) at (e - at) (groupOf after) doctor (drugOf after))
+          unfolding own
+          filling-room = omega (arith, v .count, v .hold, v .size, count-on)
+
+          pub filling-on : {behind : ℕ} {d″ : List ℕ} → Wrote d′ d″ next behind (six (after .place) at (e - at) (groupOf after) doctor (drugOf after))
+              → Filling provider s from d after (e + 2) d″ behind
+          unfolding own
+          filling-on x =
+              let y : stepOf st (factsOf (recordOf (part s at e))) ≡ On after rp doctor = taken-here .step in
+              let l : after .line ≡ st .line + 1 = next-line st (factsOf (recordOf (part s at e))) after rp doctor y in
+              record {
+                left = carry (rest s after (e + 2)) x (rw written at (v .left));
+                count = omega (arith, x .next, v .count, count-on);
+                hold = v .hold;
+                size = x .size ∙ v .size;
+                room = room st (factsOf (recordOf (part s at e))) after rp doctor y (v .room) (omega (arith, l, v .line, v .high, v .small));
+                line = omega (arith, l, v .line, whole .low);
+                high = whole .high;
+                small = v .small;
+              }
+
+pub ruleset filling-laws = (filling-start, filling-end, filling-mark, filling-broken, filling-low, filling-high, filling-fits, filling-less, filling-span, filling-judged, filling-refused, filling-room, filling-on)

@@ -1,0 +1,124 @@
+// The index of a file. The check comes first and gives the count, so that nothing is written where the answer is a refusal; then the
+// lines are walked again and each record's six numbers written. Definitions: specs/Index.antt. A further number of an entry moves
+// together: `Entry`, `entryOf`, `numbers`, and the writer of crate buffers.
+ghost use mathlib.Core.Path.{_≡_};
+ghost use lib.ListN.{length, drop};
+ghost use Prim.Native.Nat.{_-_};
+ghost use Rattle.characters.specs.Rows.{rows};
+ghost use Rattle.order.specs.State.{start, groupOf, drugOf, Room as Countable};
+ghost use Rattle.lines.specs.Codes.{Lent};
+ghost use Rattle.buffers.specs.Buffers.{Room, Wrote, six};
+ghost use Rattle.notebook.specs.Notebook.{stepLine};
+ghost use Rattle.notebook.specs.Check.{Behind};
+ghost use Rattle.index.specs.Index.{entriesFrom, numbers, numbersOf, indexOf, bufferAfter, Judged, Spanned, Fillable};
+
+// How many records have their six numbers in the buffer's front; or a refusal's number and line, and the buffer as it was.
+pub enum Indexed {
+    Written(u32),
+    Refused(u32, u32),
+}
+
+// Reads a record line, and puts its record in its place; good: the line is characters.
+fn step_line(codes: &[usize; 83], st: order::State, good: bool, line: &[u8]) -> order::Moved
+    requires { ⌜ Lent (now codes) ⌝ }
+    requires { ⌜ Countable st ⌝ }
+    requires { ⌜ Judged good (now line) ⌝ }
+    ensures { λ m. ⌜ m ≡ stepLine st (now (line .entry)) ⌝ }
+{
+    match lines::read_line(codes, st.provider, good, line) {
+        lines::LineRead::Fault(n) => order::Moved::Refused(digits::wide(n)),
+        lines::LineRead::Fine(facts) => st.step(facts),
+    }
+}
+
+// The entry of a record whose line stands from at to end and moved the reader to the state.
+fn put_entry(
+    out: &mut [u32],
+    next: usize,
+    at: usize,
+    end: usize,
+    st: order::State,
+    doctor: u32,
+) -> usize
+    requires { ⌜ Spanned at end ⌝ }
+    requires { ⌜ Room (now out) next (six (st .place) at (end - at) (groupOf st) doctor (drugOf st)) ⌝ }
+    ensures { λ r. ⌜ Wrote (now (out .entry)) (now (out .exit)) next r (six (st .place) at (end - at) (groupOf st) doctor (drugOf st)) ⌝ }
+{
+    let offset = at as u32;
+    let bytes = (end - at) as u32;
+    let group = st.group();
+    let drug = st.drug();
+    buffers::put_six(out, next, st.place, offset, bytes, group, doctor, drug)
+}
+
+// The entries of the records from behind line 1 on.
+fn fill_records(
+    codes: &[usize; 83],
+    provider: bool,
+    s: &[u8],
+    from: usize,
+    out: &mut [u32],
+) -> usize
+    requires { ⌜ Lent (now codes) ⌝ }
+    requires { ⌜ Behind (now s) from ⌝ }
+    requires { ⌜ Room (now out) 0 (numbers (entriesFrom (start provider) from (rows (drop from (now s))))) ⌝ }
+    ensures { λ r. ⌜ Wrote (now (out .entry)) (now (out .exit)) 0 r (numbers (entriesFrom (start provider) from (rows (drop from (now (s .entry)))))) ⌝ }
+{
+    let mut st = order::State::new(provider);
+    let mut at = from;
+    let mut next = 0;
+    loop {
+        match characters::line_at(s, at) {
+            characters::Line::End => return next,
+            characters::Line::Mark => return next,
+            characters::Line::Broken => return next,
+            characters::Line::Whole(end, good) => {
+                match step_line(codes, st, good, &s[at..end]) {
+                    order::Moved::Refused(_) => return next,
+                    order::Moved::On(after, _, doctor) => {
+                        next = put_entry(out, next, at, end, after, doctor);
+                        st = after;
+                        at = end + 2;
+                    }
+                }
+            }
+        }
+    }
+}
+
+// The entries of a file, from the buffer's start on.
+fn fill(s: &[u8], out: &mut [u32]) -> usize
+    requires { ⌜ Fillable (now s) (now out) ⌝ }
+    ensures { λ r. ⌜ Wrote (now (out .entry)) (now (out .exit)) 0 r (numbersOf (now (s .entry))) ⌝ }
+{
+    let codes = lines::CODES;
+    let start = 0;
+    match characters::line_at(s, start) {
+        characters::Line::End => 0,
+        characters::Line::Mark => 0,
+        characters::Line::Broken => 0,
+        characters::Line::Whole(end, _) => {
+            let direction = notebook::direction(&s[start..end]);
+            let from = end + 2;
+            fill_records(&codes, direction == 1, s, from, out)
+        }
+    }
+}
+
+// The index of an accepted file, or the one refusal.
+pub fn index(s: &[u8], out: &mut [u32]) -> Indexed
+    ensures answer { λ r. ⌜ r ≡ indexOf (now (s .entry)) (length (now (out .entry))) ⌝ }
+    ensures buffer { λ _. ⌜ now (out .exit) ≡ bufferAfter (indexOf (now (s .entry)) (length (now (out .entry)))) (numbersOf (now (s .entry))) (now (out .entry)) ⌝ }
+{
+    match notebook::check(s) {
+        notebook::Checked::Refused(number, line) => Indexed::Refused(number, line),
+        notebook::Checked::Accepted(records, _, _) => {
+            let needed = (records as usize) * 6;
+            if out.len() < needed {
+                return Indexed::Refused(20, 0);
+            }
+            fill(s, out);
+            Indexed::Written(records)
+        }
+    }
+}
