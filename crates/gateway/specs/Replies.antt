@@ -3,6 +3,8 @@
 use Prim.Native.Nat.{ℕ}
 use Rattle.notebook.specs.declared.Checked.{Checked}
 use Rattle.notebook.specs.declared.Checked.the-variants.{Accepted, Refused}
+use Rattle.index.specs.declared.Indexed.{Indexed}
+use Rattle.index.specs.declared.Indexed.the-variants.{Written, Refused as IndexRefused}
 use Rattle.gateway.specs.declared.Reply.{Reply}
 
 abbrev pub refusal : ℕ → ℕ → Reply
@@ -12,3 +14,8 @@ refusal n line = record { refusal = n; line = line; a = 0; b = 0; c = 0 }
 abbrev pub checkReply : Checked → Reply
 checkReply (Accepted records groups drugs) = record { refusal = 0; line = 0; a = records; b = groups; c = drugs }
 checkReply (Refused n line) = refusal n line
+
+-- "index the count of records": a records
+abbrev pub indexReply : Indexed → Reply
+indexReply (Written records) = record { refusal = 0; line = 0; a = records; b = 0; c = 0 }
+indexReply (IndexRefused n line) = refusal n line

@@ -27,7 +27,7 @@ use Rattle.notebook.specs.Notebook.{Notebook, stepLine, prepend, closed, onward
 use Rattle.notebook.specs.Check.{checked, checkOf, directionOf, count}
 use Rattle.index.specs.declared.Indexed.{Indexed}
 use Rattle.index.specs.declared.Indexed.the-variants.{Written, Refused}
-use Rattle.index.specs.Index.{Entry, entriesFrom, entriesBehind, entriesOf, numbers, numbersOf, indexed, indexOf, bufferAfter, Fillable}
+use Rattle.index.specs.Index.{Entry, entriesFrom, entriesBehind, entriesOf, numbers, numbersOf, indexed, indexOf, bufferAfter, indexBuffer, Fillable}
 use Rattle.index.proofs.Walk.{Accepted as AcceptedFile, accepted, walk-length, numbers-length}
 
 -- ---- line 1
@@ -114,14 +114,15 @@ counted s n g x e = go (readFile s) refl e
 
 module _ (s d : List ℕ) {c : Checked} (p : c ≡ checkOf s) where
   -- a refusal leaves the buffer as it was
-  kept : {n line : ℕ} → Refused n line ≡ indexOf s (length d) → d ≡ bufferAfter (indexOf s (length d)) (numbersOf s) d
+  kept : {n line : ℕ} → Refused n line ≡ indexOf s (length d) → d ≡ indexBuffer s d
+  unfolding indexBuffer
   kept e = ap (λ (a : Indexed). bufferAfter a (numbersOf s) d) e
 
   pub index-refused : {n line : ℕ} → c ≡ CheckRefused n line → Refused n line ≡ indexOf s (length d)
   unfolding indexOf
   index-refused {n} {line} e = sym (ap (λ (r : Res Notebook). indexed r (length d)) (refused-as s n line (sym p ∙ e)))
 
-  pub index-refused-kept : {n line : ℕ} → c ≡ CheckRefused n line → d ≡ bufferAfter (indexOf s (length d)) (numbersOf s) d
+  pub index-refused-kept : {n line : ℕ} → c ≡ CheckRefused n line → d ≡ indexBuffer s d
   index-refused-kept e = kept (index-refused e)
 
   module _ {n g x : ℕ} (e : c ≡ Accepted n g x) where
@@ -135,7 +136,7 @@ module _ (s d : List ℕ) {c : Checked} (p : c ≡ checkOf s) where
     pub index-short : length d < n * 6 → Refused 20 0 ≡ indexOf s (length d)
     index-short h = sym (by-room ∙ rw (lt-leb (6 * n) (length d) (omega arith)))
 
-    pub index-short-kept : length d < n * 6 → d ≡ bufferAfter (indexOf s (length d)) (numbersOf s) d
+    pub index-short-kept : length d < n * 6 → d ≡ indexBuffer s d
     index-short-kept h = kept (index-short h)
 
     module _ (h : n * 6 ≤ length d) where
@@ -149,7 +150,8 @@ module _ (s d : List ℕ) {c : Checked} (p : c ≡ checkOf s) where
       pub index-written : Written n ≡ indexOf s (length d)
       index-written = sym (by-room ∙ rw (le-leb (6 * n) (length d) (omega arith)))
 
-      pub index-buffer : {d′ : List ℕ} {r : ℕ} → Wrote d d′ 0 r (numbersOf s) → d′ ≡ bufferAfter (indexOf s (length d)) (numbersOf s) d
+      pub index-buffer : {d′ : List ℕ} {r : ℕ} → Wrote d d′ 0 r (numbersOf s) → d′ ≡ indexBuffer s d
+      unfolding indexBuffer
       index-buffer w =
           w .list ∙ sets-all (numbersOf s) d (index-fillable .room) ∙ ap (λ (a : Indexed). bufferAfter a (numbersOf s) d) index-written
 

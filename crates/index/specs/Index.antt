@@ -88,6 +88,9 @@ abbrev pub bufferAfter : Indexed → List ℕ → List ℕ → List ℕ
 bufferAfter (Written n) w d = w ++ drop (length w) d
 bufferAfter (Refused n line) w d = d
 
+unfoldable pub indexBuffer : List ℕ → List ℕ → List ℕ
+indexBuffer s d = bufferAfter (indexOf s (length d)) (numbersOf s) d
+
 -- ---- what the writing asks
 
 -- it was found whether a line is characters

@@ -10,7 +10,7 @@ ghost use Rattle.lines.specs.Codes.{Lent};
 ghost use Rattle.buffers.specs.Buffers.{Room, Wrote, six};
 ghost use Rattle.notebook.specs.Notebook.{stepLine};
 ghost use Rattle.notebook.specs.Check.{Behind};
-ghost use Rattle.index.specs.Index.{entriesFrom, numbers, numbersOf, indexOf, bufferAfter, Judged, Spanned, Fillable};
+ghost use Rattle.index.specs.Index.{entriesFrom, numbers, numbersOf, indexOf, indexBuffer, Judged, Spanned, Fillable};
 
 // How many records have their six numbers in the buffer's front; or a refusal's number and line, and the buffer as it was.
 pub enum Indexed {
@@ -108,7 +108,7 @@ fn fill(s: &[u8], out: &mut [u32]) -> usize
 // The index of an accepted file, or the one refusal.
 pub fn index(s: &[u8], out: &mut [u32]) -> Indexed
     ensures answer { λ r. ⌜ r ≡ indexOf (now (s .entry)) (length (now (out .entry))) ⌝ }
-    ensures buffer { λ _. ⌜ now (out .exit) ≡ bufferAfter (indexOf (now (s .entry)) (length (now (out .entry)))) (numbersOf (now (s .entry))) (now (out .entry)) ⌝ }
+    ensures buffer { λ _. ⌜ now (out .exit) ≡ indexBuffer (now (s .entry)) (now (out .entry)) ⌝ }
 {
     match notebook::check(s) {
         notebook::Checked::Refused(number, line) => Indexed::Refused(number, line),

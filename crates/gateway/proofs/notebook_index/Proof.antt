@@ -1,0 +1,24 @@
+use borrow.Author.Needs.{needs}
+use Prim.Native.Nat.{_-_}
+use lib.ListN.{length}
+use Rattle.gateway.proofs.notebook_index.Statement.{statement}
+use Rattle.gateway.proofs.notebook_index.Tie as tie
+use Rattle.gateway.proofs.notebook_index.Reads as reads
+use Rattle.gateway.proofs.notebook_index.Lts as lts
+use Rattle.gateway.proofs.index_answer.Reads as index-answer-reads
+use Rattle.index.proofs.index.Reads as index-reads
+
+index-requires : tie.Need-index-requires
+index-requires c κs = search needs
+
+index-answer-requires : tie.Need-index-answer-requires
+index-answer-requires c κs = search needs
+
+same-length : tie.Need-same-length
+same-length c = search needs
+
+returns : tie.Need-returns
+returns c = (cc, search needs)
+
+pub notebook-index-spec : {M : Type 1} → statement M
+notebook-index-spec = tie.close (tie.spec index-requires index-answer-requires same-length returns)
