@@ -1,30 +1,26 @@
 -- The whole call: line 1, the room for the index, the answer and the buffer. One law for each way through the code. Assumes nothing.
-use Prim.Native.Nat.{ℕ, zero, suc, _+_, _*_, _-_, _≤_, _<_}
+use Prim.Native.Nat.{ℕ, _+_, _*_, _-_, _≤_, _<_}
 use native.Mathlib.Omega.{arith}
 use mathlib.Core.Path.{_≡_, refl, sym, ap, _∙_, subst}
 use mathlib.Core.Bool.{Bool, true, false, cond}
 use mathlib.Core.List.{List, [], _∷_, _++_}
 use borrow.Author.Tests.{le-leb, lt-leb}
 use lib.Dec.{leb, eqb}
-use lib.ListN.{length, take, drop, length-append, length-drop}
+use lib.ListN.{length, take, drop, length-append}
 use lib.Seq.{length-take-le}
 use Rattle.lists.specs.Lists.{same, part, Res, ok, refused}
 use Rattle.characters.specs.declared.Line.{Line}
 use Rattle.characters.specs.declared.Line.the-variants.{Whole, Mark, End, Broken}
-use Rattle.characters.specs.Text.{text}
-use Rattle.characters.specs.Rows.{rows, isLine, lineEnd, endMark, WholeLine, BrokenRow, LineMeans, LineOf}
+use Rattle.characters.specs.Rows.{rows, isLine, lineEnd, WholeLine, BrokenRow, LineMeans, LineOf}
 use Rattle.characters.proofs.RowLaws.{line-is, line-text}
-use Rattle.records.specs.Records.{Record, recordOf, header}
-use Rattle.order.specs.declared.State.{State}
-use Rattle.order.specs.declared.Moved.{Moved}
-use Rattle.order.specs.declared.Moved.the-variants.{Refused as StepRefused, On}
+use Rattle.records.specs.Records.{header}
 use Rattle.order.specs.State.{start}
-use Rattle.buffers.specs.Buffers.{Room, Wrote, six}
-use Rattle.buffers.proofs.Runs.{sets-all, six-length}
+use Rattle.buffers.specs.Buffers.{Room, Wrote}
+use Rattle.buffers.proofs.Runs.{sets-all}
 use Rattle.notebook.specs.declared.Checked.{Checked}
 use Rattle.notebook.specs.declared.Checked.the-variants.{Accepted, Refused as CheckRefused}
-use Rattle.notebook.specs.Notebook.{Notebook, stepLine, prepend, closed, onward, recordsFrom, notebookOf, readRows, readFile}
-use Rattle.notebook.specs.Check.{checked, checkOf, directionOf, count}
+use Rattle.notebook.specs.Notebook.{Notebook, readFile}
+use Rattle.notebook.specs.Check.{checked, checkOf, directionOf}
 use Rattle.index.specs.declared.Indexed.{Indexed}
 use Rattle.index.specs.declared.Indexed.the-variants.{Written, Refused}
 use Rattle.index.specs.Index.{Entry, entriesFrom, entriesBehind, entriesOf, numbers, numbersOf, indexed, indexOf, bufferAfter, indexBuffer, Fillable}

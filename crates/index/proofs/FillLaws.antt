@@ -1,6 +1,6 @@
 -- The walk that writes the entries: what is left from a line on, written behind what is written, gives the whole index. One law for
 -- each way through the code. Assumes nothing.
-use Prim.Native.Nat.{ℕ, zero, suc, _+_, _*_, _-_, _≤_, _<_}
+use Prim.Native.Nat.{ℕ, _+_, _-_, _≤_, _<_}
 use native.Mathlib.Omega.{arith}
 use mathlib.Core.Path.{_≡_, refl, sym, ap, _∙_, subst}
 use mathlib.Core.Bool.{Bool, true, false, cond}
@@ -11,13 +11,12 @@ use mir.Syntax.{w64}
 use lib.Dec.{eqb}
 use lib.ListN.{length, take, drop, length-append, length-drop}
 use lib.Seq.{sets, length-take-le}
-use Rattle.lists.specs.Lists.{same, part}
+use Rattle.lists.specs.Lists.{part}
 use Rattle.characters.specs.declared.Line.{Line}
 use Rattle.characters.specs.declared.Line.the-variants.{Whole, Mark, End, Broken}
-use Rattle.characters.specs.Text.{text}
 use Rattle.characters.specs.Rows.{rows, isLine, lineEnd, WholeLine, BrokenRow, LineMeans, LineOf}
 use Rattle.characters.proofs.RowLaws.{line-is, line-text}
-use Rattle.records.specs.Records.{faultWhere, lineFault, recordOf, header}
+use Rattle.records.specs.Records.{faultWhere, lineFault, recordOf}
 use Rattle.order.specs.declared.State.{State}
 use Rattle.order.specs.declared.Facts.{Facts}
 use Rattle.order.specs.declared.Moved.{Moved}
@@ -76,13 +75,14 @@ place-number p = ap (λ (t : State). t .place) (p .state)
 
 -- ---- one entry
 
-module _ (st : State) (a b doctor : ℕ) {group drug : ℕ} (g : group ≡ groupOf st) (h : drug ≡ drugOf st) where
-  pub entry-room : (d : List ℕ) (next : ℕ) → Room d next (six (st .place) a b (groupOf st) doctor (drugOf st)) → Room d next (six (st .place) a b group doctor drug)
-  entry-room d next r = rw (g, h) r
+-- room for six numbers is room for any six
+pub entry-room : (d : List ℕ) (next a b c x y z a′ b′ c′ x′ y′ z′ : ℕ) → Room d next (six a′ b′ c′ x′ y′ z′) → Room d next (six a b c x y z)
+unfolding six
+entry-room d next a b c x y z a′ b′ c′ x′ y′ z′ r = r
 
-  pub entry-written : {d d′ : List ℕ} {next behind : ℕ} → Wrote d d′ next behind (six (st .place) a b group doctor drug)
-      → Wrote d d′ next behind (six (st .place) a b (groupOf st) doctor (drugOf st))
-  entry-written w = rw (g, h) at w
+pub entry-written : (st : State) (a b doctor : ℕ) {group drug : ℕ} → group ≡ groupOf st → drug ≡ drugOf st → {d d′ : List ℕ} {next behind : ℕ}
+    → Wrote d d′ next behind (six (st .place) a b group doctor drug) → Wrote d d′ next behind (six (st .place) a b (groupOf st) doctor (drugOf st))
+entry-written st a b doctor g h w = rw (g, h) at w
 
 -- ---- the walk
 
