@@ -19,7 +19,7 @@ use Rattle.characters.specs.declared.Scan.{Scan}
 use Rattle.characters.specs.declared.Line.{Line}
 use Rattle.characters.specs.declared.Line.the-variants.{Whole, Mark, End, Broken}
 use Rattle.characters.specs.Text.{allChars, isStop, clean, text, commaCount, Stops, Sixteen, ScanOf}
-use Rattle.characters.specs.Rows.{consRow, rows, flat, lineEnd, isLine, endMark, WholeLine, BrokenRow, LineMeans, LineOf}
+use Rattle.characters.specs.Rows.{consRow, rows, flat, lineEnd, isLine, endMark, WholeLine, ScannedLine, BrokenRow, LineMeans, LineOf}
 
 -- ---- rows are the file
 
@@ -153,14 +153,33 @@ broken (a ∷ s) h f g =
     go {x} {rs} false p true q e = absurd (g (mark-alone (a ∷ s) rs (e ∙ ap (λ (y : List ℕ). y ∷ rs) (same-true x endMark q))))
     go false p false q e = (p, q)
 
+-- the text ends at e, and 0Dh 0Ah follow: a whole line
+module _ (s : List ℕ) (at : ℕ) {e : ℕ} {good : Bool} (ends : e ≡ at + length (text (drop at s))) (chars : good ≡ allChars (text (drop at s))) where
+  pub text-part : text (drop at s) ≡ part s at e
+  text-part =
+      let l : length (text (drop at s)) ≡ e - at = omega (arith, ends) in
+      sym (take-upTo isStop (drop at s)) ∙ ap (λ (j : ℕ). take j (drop at s)) l
+
+  pub whole-at : e + 1 < length s → getD s e 0 ≡ 0x0d → getD s (e + 1) 0 ≡ 0x0a → WholeLine s at e good
+  whole-at n a b =
+      let m : at + length (text (drop at s)) ≡ e = omega (arith, ends) in
+      let f : drop (length (text (drop at s))) (drop at s) ≡ 0x0d ∷ 0x0a ∷ drop (e + 2) s =
+      drop-drop (length (text (drop at s))) at s ∙ ap (λ (j : ℕ). drop j s) m ∙ two-on s e 0 n ∙ ap₂ (λ (x y : ℕ). x ∷ y ∷ drop (e + 2) s) a b in
+      let w : drop at s ≡ part s at e ++ 0x0d ∷ 0x0a ∷ drop (e + 2) s = sym (upTo-split isStop (drop at s)) ∙ ap₂ _++_ text-part f in
+      let c : clean (part s at e) ≡ true = ap clean (sym text-part) ∙ text-clean (drop at s) in
+      record {
+        low = omega (arith, ends);
+        high = omega arith;
+        cut = ap rows w ∙ rows-line (part s at e) (drop (e + 2) s) c;
+        clear = c;
+        chars = chars ∙ ap allChars text-part;
+      }
+
 module _ (s : List ℕ) (at : ℕ) (stops : List ℕ) where
   pub line-over : Sixteen stops → length s ≤ at → LineOf s at stops End
   line-over z h = record { means = rw (drop-end s at h); size = z }
 
   module _ {r : Scan} (k : at < length s) (v : ScanOf s at stops r) where
-    text-length : length (text (drop at s)) ≡ (r .end) - at
-    text-length = omega (arith, v .ends)
-
     e-low : at ≤ (r .end)
     e-low = omega (arith, v .ends)
 
@@ -204,21 +223,12 @@ module _ (s : List ℕ) (at : ℕ) (stops : List ℕ) where
       pub line-no-feed : (getD s ((r .end) + 1) 0 ≡ 0x0a → ⊥) → LineOf s at stops Broken
       line-no-feed f = broken-at (λ _ _ b. f b) (λ a b _. absurd (omega arith))
 
-      pub line-whole : getD s (r .end) 0 ≡ 0x0d → getD s ((r .end) + 1) 0 ≡ 0x0a → LineOf s at stops (Whole (r .end) (r .good) (r .commas))
+      pub line-whole : getD s (r .end) 0 ≡ 0x0d → getD s (r .end + 1) 0 ≡ 0x0a → LineOf s at stops (Whole (r .end) (r .good) (r .commas))
       line-whole a b =
-          let t : text (drop at s) ≡ part s at (r .end) = sym (take-upTo isStop (drop at s)) ∙ ap (λ (j : ℕ). take j (drop at s)) text-length in
-          let m : at + length (text (drop at s)) ≡ (r .end) = omega (arith, v .ends) in
-          let f : drop (length (text (drop at s))) (drop at s) ≡ 0x0d ∷ 0x0a ∷ drop ((r .end) + 2) s =
-          drop-drop (length (text (drop at s))) at s ∙ ap (λ (j : ℕ). drop j s) m ∙ two-on s (r .end) 0 n ∙ ap₂ (λ (x y : ℕ). x ∷ y ∷ drop ((r .end) + 2) s) a b in
-          let w : drop at s ≡ part s at (r .end) ++ 0x0d ∷ 0x0a ∷ drop ((r .end) + 2) s = sym (upTo-split isStop (drop at s)) ∙ ap₂ _++_ t f in
-          let c : clean (part s at (r .end)) ≡ true = ap clean (sym t) ∙ text-clean (drop at s) in
+          let t : text (drop at s) ≡ part s at (r .end) = text-part s at (v .ends) (v .chars) in
           record {
             means = record {
-              low = e-low;
-              high = omega arith;
-              cut = ap rows w ∙ rows-line (part s at (r .end)) (drop ((r .end) + 2) s) c;
-              clear = c;
-              chars = v .chars ∙ ap allChars t;
+              line = whole-at s at (v .ends) (v .chars) n a b;
               commas = v .commas ∙ ap commaCount t;
               places = subst (λ (l : List ℕ). Stops l stops) t (v .places);
             };

@@ -39,13 +39,17 @@ endMark = 0x1a ∷ []
 
 -- ---- what stands where a row begins, as the code answers it
 
--- a line from at to e with n commas, and the rows behind its end
-pub record WholeLine (s : List ℕ) (at : ℕ) (stops : List ℕ) (e : ℕ) (good : Bool) (n : ℕ) : Type 0 where
+-- a line from at to e, and the rows behind its end
+pub record WholeLine (s : List ℕ) (at e : ℕ) (good : Bool) : Type 0 where
   pub low : at ≤ e
   pub high : e + 2 ≤ length s
   pub cut : rows (drop at s) ≡ (part s at e ++ lineEnd) ∷ rows (drop (e + 2) s)
   pub clear : clean (part s at e) ≡ true
   pub chars : good ≡ allChars (part s at e)
+
+-- the same with its n commas and their places
+pub record ScannedLine (s : List ℕ) (at : ℕ) (stops : List ℕ) (e : ℕ) (good : Bool) (n : ℕ) : Type 0 where
+  pub line : WholeLine s at e good
   pub commas : n ≡ commaCount (part s at e)
   pub places : Stops (part s at e) stops
 
@@ -55,7 +59,7 @@ BrokenRow [] = ⊥
 BrokenRow (r ∷ rs) = (isLine r ≡ false) × (same r endMark ≡ false)
 
 abbrev pub LineMeans : List ℕ → ℕ → List ℕ → Line → Type 0
-LineMeans s at stops (Whole e good n) = WholeLine s at stops e good n
+LineMeans s at stops (Whole e good n) = ScannedLine s at stops e good n
 LineMeans s at stops Mark = rows (drop at s) ≡ endMark ∷ []
 LineMeans s at stops End = rows (drop at s) ≡ []
 LineMeans s at stops Broken = BrokenRow (rows (drop at s))

@@ -43,9 +43,9 @@ module _ (s d : List ℕ) (f : Fillable s d) where
   unfolding numbersOf numbers
   none-written e = rw e (record { next = refl; list = refl; size = refl; high = omega arith })
 
-  module _ {k : Line} (w : LineOf s 0 k) where
-    means : {j : Line} → k ≡ j → LineMeans s 0 j
-    means e = subst (LineMeans s 0) e (w .means)
+  module _ {stops : List ℕ} {k : Line} (w : LineOf s 0 stops k) where
+    means : {j : Line} → k ≡ j → LineMeans s 0 stops j
+    means e = subst (LineMeans s 0 stops) e (w .means)
 
     pub fill-end : k ≡ End → Wrote d d 0 0 (numbersOf s)
     unfolding entriesOf entriesBehind
@@ -63,9 +63,9 @@ module _ (s d : List ℕ) (f : Fillable s d) where
         go [] b = absurd b
         go (r ∷ rs) b = rw (b .0)
 
-    module _ {e : ℕ} {good : Bool} (q : k ≡ Whole e good) {direction : ℕ} (p : direction ≡ directionOf (take (e - 0) (drop 0 s))) where
+    module _ {e : ℕ} {good : Bool} {commas : ℕ} (q : k ≡ Whole e good commas) {direction : ℕ} (p : direction ≡ directionOf (take (e - 0) (drop 0 s))) where
       line : WholeLine s 0 e good
-      line = means q
+      line = means q .line
 
       file-entries : entriesOf s ≡ entriesFrom (start (eqb direction 1)) (e + 2) (rows (drop (e + 2) s))
       unfolding entriesOf entriesBehind

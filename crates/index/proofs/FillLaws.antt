@@ -14,7 +14,8 @@ use lib.Seq.{sets, length-take-le}
 use Rattle.lists.specs.Lists.{part}
 use Rattle.characters.specs.declared.Line.{Line}
 use Rattle.characters.specs.declared.Line.the-variants.{Whole, Mark, End, Broken}
-use Rattle.characters.specs.Rows.{rows, isLine, lineEnd, WholeLine, BrokenRow, LineMeans, LineOf}
+use Rattle.characters.specs.Text.{Stops, Sixteen}
+use Rattle.characters.specs.Rows.{rows, isLine, lineEnd, WholeLine, ScannedLine, BrokenRow, LineMeans, LineOf}
 use Rattle.characters.proofs.RowLaws.{line-is, line-text}
 use Rattle.records.specs.Records.{faultWhere, lineFault, recordOf}
 use Rattle.order.specs.declared.State.{State}
@@ -26,11 +27,12 @@ use Rattle.order.proofs.Laws.{taken, next-line, room, room-start, line-start}
 use Rattle.lines.specs.declared.LineRead.{LineRead}
 use Rattle.lines.specs.declared.LineRead.the-variants.{Fault, Fine}
 use Rattle.lines.specs.Facts.{factsOf, lineRead}
+use Rattle.lines.specs.Codes.{Commas}
 use Rattle.buffers.specs.Buffers.{Room, Wrote, six}
 use Rattle.buffers.proofs.Runs.{carry}
 use Rattle.notebook.specs.Notebook.{stepLine}
 use Rattle.notebook.specs.Check.{Behind}
-use Rattle.notebook.proofs.CheckLaws.{read-fault, read-fine}
+use Rattle.notebook.proofs.CheckLaws.{read-fault, read-fine, line-size}
 use Rattle.index.specs.Index.{Entry, entryOf, entered, entriesFrom, numbers, Judged, Spanned}
 
 -- ---- a line read and put in its place
@@ -125,9 +127,9 @@ module _ {provider : Bool} {s : List ℕ} {from : ℕ} {d : List ℕ} {st : Stat
     high = omega (arith, v .count, v .hold);
   }
 
-  module _ {k : Line} (w : LineOf s at k) where
-    means : {j : Line} → k ≡ j → LineMeans s at j
-    means e = subst (LineMeans s at) e (w .means)
+  module _ {stops : List ℕ} {k : Line} (w : LineOf s at stops k) where
+    means : {j : Line} → k ≡ j → LineMeans s at stops j
+    means e = subst (LineMeans s at stops) e (w .means)
 
     pub filling-end : k ≡ End → Wrote d d′ 0 next (rest s (start provider) from)
     unfolding entriesFrom
@@ -145,9 +147,18 @@ module _ {provider : Bool} {s : List ℕ} {from : ℕ} {d : List ℕ} {st : Stat
         go [] b = absurd b
         go (r ∷ rs) b = rw (b .0)
 
-    module _ {e : ℕ} {good : Bool} (q : k ≡ Whole e good) where
+    module _ {e : ℕ} {good : Bool} {commas : ℕ} (q : k ≡ Whole e good commas) where
+      scanned : ScannedLine s at stops e good commas
+      scanned = means q
+
       whole : WholeLine s at e good
-      whole = means q
+      whole = scanned .line
+
+      pub filling-commas : Commas (take (e - at) (drop at s)) commas
+      filling-commas = record { is = scanned .commas }
+
+      pub filling-places : Stops (take (e - at) (drop at s)) stops
+      filling-places = scanned .places
 
       pub filling-low : at ≤ e
       filling-low = whole .low
@@ -221,4 +232,4 @@ module _ {provider : Bool} {s : List ℕ} {from : ℕ} {d : List ℕ} {st : Stat
                 small = v .small;
               }
 
-pub ruleset filling-laws = (filling-start, filling-end, filling-mark, filling-broken, filling-low, filling-high, filling-fits, filling-less, filling-span, filling-judged, filling-refused, filling-room, filling-on)
+pub ruleset filling-laws = (line-size, filling-commas, filling-places, filling-start, filling-end, filling-mark, filling-broken, filling-low, filling-high, filling-fits, filling-less, filling-span, filling-judged, filling-refused, filling-room, filling-on)

@@ -8,9 +8,9 @@ use lib.ListN.{length, getD, take, drop, length-append, length-drop}
 use lib.Seq.{getD-drop, take-append-seam, getD-append-seam, getD-append-add}
 use Rattle.lists.specs.Lists.{part, unless}
 use Rattle.lists.proofs.Tests.{same-true, or-zero, unless-zero}
-use Rattle.characters.specs.Text.{allChars, text, ScanOf}
+use Rattle.characters.specs.Text.{allChars, text}
 use Rattle.characters.specs.Rows.{rows, flat, isLine, lineEnd, WholeLine}
-use Rattle.characters.proofs.RowLaws.{flat-rows, text-clean, text-of, line-whole}
+use Rattle.characters.proofs.RowLaws.{flat-rows, text-clean, text-of, whole-at}
 use Rattle.records.specs.Records.{Record, recordOf, faultFrom, faultWhere, lineFault, readLine}
 use Rattle.records.specs.Split.{itemsOf}
 use Rattle.records.proofs.LineLaws.{reads}
@@ -37,13 +37,12 @@ at-row s at r rs e h =
     let d : drop at s ≡ t ++ u = sym (flat-rows (drop at s)) ∙ ap flat e ∙ ap (λ (x : List ℕ). x ++ flat rs) f ∙ append-assoc t lineEnd (flat rs) in
     let x : text (drop at s) ≡ t = ap text d ∙ text-of t (0x0a ∷ flat rs) (text-clean r) in
     let n : at + length t + 2 ≤ length s = omega (arith, ap length d, length-append t u, length-drop at s) in
-    let v : ScanOf s at (record { end = at + length t; good = allChars t }) = record { ends = ap (λ (l : List ℕ). at + length l) (sym x); chars = ap allChars (sym x) } in
     let m : at + length t + 1 ≡ at + (length t + 1) = omega arith in
     let a : getD s (at + length t) 0 ≡ 0x0d =
     sym (getD-drop at s (length t) 0) ∙ ap (λ (l : List ℕ). getD l (length t) 0) d ∙ getD-append-seam t 0x0d (0x0a ∷ flat rs) 0 in
     let b : getD s (at + length t + 1) 0 ≡ 0x0a =
     ap (λ (k : ℕ). getD s k 0) m ∙ sym (getD-drop at s (length t + 1) 0) ∙ ap (λ (l : List ℕ). getD l (length t + 1) 0) d ∙ getD-append-add t u 1 0 in
-    let w : WholeLine s at (at + length t) (allChars t) = line-whole s at (omega (arith, n)) v (omega (arith, n)) a b .means in
+    let w : WholeLine s at (at + length t) (allChars t) = whole-at s at (ap (λ (l : List ℕ). at + length l) (sym x)) (ap allChars (sym x)) (omega (arith, n)) a b in
     let k : at + length t - at ≡ length t = omega arith in
     let j : at + length r ≡ at + length t + 2 = omega (arith, ap length f, length-append t lineEnd) in
     record {

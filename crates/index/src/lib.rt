@@ -6,7 +6,9 @@ ghost use lib.ListN.{length, drop};
 ghost use Prim.Native.Nat.{_-_};
 ghost use Rattle.characters.specs.Rows.{rows};
 ghost use Rattle.order.specs.State.{start, groupOf, drugOf, Room as Countable};
-ghost use Rattle.lines.specs.Codes.{Lent};
+ghost use Rattle.characters.specs.Classes.{Classes};
+ghost use Rattle.characters.specs.Text.{Stops, Sixteen};
+ghost use Rattle.lines.specs.Codes.{Lent, Commas};
 ghost use Rattle.buffers.specs.Buffers.{Room, Wrote, six};
 ghost use Rattle.notebook.specs.Notebook.{stepLine};
 ghost use Rattle.notebook.specs.Check.{Behind};
@@ -18,14 +20,24 @@ pub enum Indexed {
     Refused(u32, u32),
 }
 
-// Reads a record line, and puts its record in its place; good: the line is characters.
-fn step_line(codes: &[usize; 83], st: order::State, good: bool, line: &[u8]) -> order::Moved
+// Reads a record line, and puts its record in its place; good: the line is characters; commas and stops: its commas and their places.
+fn step_line(
+    codes: &[usize; 83],
+    st: order::State,
+    good: bool,
+    commas: usize,
+    stops: &[usize; 16],
+    line: &[u8],
+) -> order::Moved
     requires { ⌜ Lent (now codes) ⌝ }
+    requires { ⌜ Commas (now line) commas ⌝ }
+    requires { ⌜ Stops (now line) (now stops) ⌝ }
+    requires { ⌜ Sixteen (now stops) ⌝ }
     requires { ⌜ Countable st ⌝ }
     requires { ⌜ Judged good (now line) ⌝ }
     ensures { λ m. ⌜ m ≡ stepLine st (now (line .entry)) ⌝ }
 {
-    match lines::read_line(codes, st.provider, good, line) {
+    match lines::read_line(codes, st.provider, good, commas, stops, line) {
         lines::LineRead::Fault(n) => order::Moved::Refused(digits::wide(n)),
         lines::LineRead::Fine(facts) => st.step(facts),
     }
@@ -53,13 +65,17 @@ fn put_entry(
 
 // The entries of the records from behind line 1 on.
 fn fill_records(
+    classes: &[u8; 256],
     codes: &[usize; 83],
+    stops: &mut [usize; 16],
     provider: bool,
     s: &[u8],
     from: usize,
     out: &mut [u32],
 ) -> usize
+    requires { ⌜ Classes (now classes) ⌝ }
     requires { ⌜ Lent (now codes) ⌝ }
+    requires { ⌜ Sixteen (now stops) ⌝ }
     requires { ⌜ Behind (now s) from ⌝ }
     requires { ⌜ Room (now out) 0 (numbers (entriesFrom (start provider) from (rows (drop from (now s))))) ⌝ }
     ensures { λ r. ⌜ Wrote (now (out .entry)) (now (out .exit)) 0 r (numbers (entriesFrom (start provider) from (rows (drop from (now (s .entry)))))) ⌝ }
@@ -68,12 +84,12 @@ fn fill_records(
     let mut at = from;
     let mut next = 0;
     loop {
-        match characters::line_at(s, at) {
+        match characters::line_at(classes, stops, s, at) {
             characters::Line::End => return next,
             characters::Line::Mark => return next,
             characters::Line::Broken => return next,
-            characters::Line::Whole(end, good) => {
-                match step_line(codes, st, good, &s[at..end]) {
+            characters::Line::Whole(end, good, commas) => {
+                match step_line(codes, st, good, commas, stops, &s[at..end]) {
                     order::Moved::Refused(_) => return next,
                     order::Moved::On(after, _, doctor) => {
                         next = put_entry(out, next, at, end, after, doctor);
@@ -91,16 +107,18 @@ fn fill(s: &[u8], out: &mut [u32]) -> usize
     requires { ⌜ Fillable (now s) (now out) ⌝ }
     ensures { λ r. ⌜ Wrote (now (out .entry)) (now (out .exit)) 0 r (numbersOf (now (s .entry))) ⌝ }
 {
+    let classes = characters::CLASSES;
     let codes = lines::CODES;
+    let mut stops = [0usize; 16];
     let start = 0;
-    match characters::line_at(s, start) {
+    match characters::line_at(&classes, &mut stops, s, start) {
         characters::Line::End => 0,
         characters::Line::Mark => 0,
         characters::Line::Broken => 0,
-        characters::Line::Whole(end, _) => {
+        characters::Line::Whole(end, _, _) => {
             let direction = notebook::direction(&s[start..end]);
             let from = end + 2;
-            fill_records(&codes, direction == 1, s, from, out)
+            fill_records(&classes, &codes, &mut stops, direction == 1, s, from, out)
         }
     }
 }

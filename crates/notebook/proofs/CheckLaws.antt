@@ -15,7 +15,7 @@ use Rattle.lists.specs.Lists.{bytes, same, part, Res, ok, refused}
 use Rattle.characters.specs.declared.Line.{Line}
 use Rattle.characters.specs.declared.Line.the-variants.{Whole, Mark, End, Broken}
 use Rattle.characters.specs.Text.{allChars, text, Stops, Sixteen}
-use Rattle.characters.specs.Rows.{rows, isLine, lineEnd, endMark, WholeLine, BrokenRow, LineMeans, LineOf}
+use Rattle.characters.specs.Rows.{rows, isLine, lineEnd, endMark, WholeLine, ScannedLine, BrokenRow, LineMeans, LineOf}
 use Rattle.characters.proofs.RowLaws.{line-is, line-text, line-no-mark}
 use Rattle.records.specs.Records.{Record, faultWhere, lineFault, recordOf, header}
 use Rattle.order.specs.declared.State.{State}
@@ -153,8 +153,11 @@ module _ {provider : Bool} {s : List ℕ} {from : ℕ} {st : State} {at : ℕ} (
         go (r ∷ rs) b = rw (b .1, b .0)
 
     module _ {e : ℕ} {good : Bool} {n : ℕ} (q : k ≡ Whole e good n) where
-      whole : WholeLine s at stops e good n
-      whole = means q
+      scanned : ScannedLine s at stops e good n
+      scanned = means q
+
+      whole : WholeLine s at e good
+      whole = scanned .line
 
       pub whole-low : at ≤ e
       whole-low = whole .low
@@ -169,10 +172,10 @@ module _ {provider : Bool} {s : List ℕ} {from : ℕ} {st : State} {at : ℕ} (
       whole-less = omega (arith, whole .high, whole .low)
 
       pub whole-commas : Commas (take (e - at) (drop at s)) n
-      whole-commas = record { is = whole .commas }
+      whole-commas = record { is = scanned .commas }
 
       pub whole-places : Stops (take (e - at) (drop at s)) stops
-      whole-places = whole .places
+      whole-places = scanned .places
 
       line-row : recordsFrom st (rows (drop at s)) ≡ onward (st .line + 1) (recordOf (part s at e)) (λ t. recordsFrom t (rows (drop (e + 2) s))) (stepLine st (part s at e))
       unfolding recordsFrom
@@ -268,8 +271,8 @@ module _ (s : List ℕ) where
           go (r ∷ rs) b = rw (b .0)
 
       module _ {e : ℕ} {good : Bool} {n : ℕ} (q : k ≡ Whole e good n) where
-        line-1 : WholeLine s 0 stops e good n
-        line-1 = first q
+        line-1 : WholeLine s 0 e good
+        line-1 = first q .line
 
         pub line-1-high : e ≤ length s
         line-1-high = omega (arith, line-1 .high)

@@ -1,10 +1,12 @@
 use borrow.Author.Needs.{needs}
 use Prim.Native.Nat.{_-_}
 use lib.ListN.{length}
-use Rattle.notebook.proofs.CheckLaws.{check-laws}
+use Rattle.notebook.proofs.CheckLaws.{check-laws, line-size, line-1-behind}
 use Rattle.lines.specs.Codes.{codes}
 use Rattle.lines.proofs.LineLaws.{lent}
-use Rattle.index.proofs.FileLaws.{fill-laws}
+use Rattle.characters.specs.Classes.{classOf}
+use Rattle.characters.proofs.TextLaws.{classes-lent}
+use Rattle.index.proofs.FileLaws.{fill-laws, fill-room}
 use Rattle.index.proofs.fill.Statement.{statement}
 use Rattle.index.proofs.fill.Tie as tie
 use Rattle.index.proofs.fill.Reads as reads
@@ -14,7 +16,8 @@ use Rattle.index.proofs.fill_records.Reads as fill-records-reads
 use Rattle.notebook.proofs.direction.Reads as direction-reads
 
 line-at-requires : tie.Need-line-at-requires
-line-at-requires c κs = search needs
+unfolding classOf
+line-at-requires c κs = search (needs, check-laws, fill-laws, lent, classes-lent)
 
 enum-told : tie.Need-enum-told
 enum-told c = search needs
@@ -35,32 +38,32 @@ part-direction-start : tie.Need-part-direction-start
 part-direction-start c = search needs
 
 part-direction-end : tie.Need-part-direction-end
-part-direction-end c = search (needs, check-laws, fill-laws, lent)
+part-direction-end c = search (needs, check-laws, fill-laws, lent, classes-lent)
 
 direction-requires : tie.Need-direction-requires
 direction-requires c κs = search needs
 
 add-from : tie.Need-add-from
-add-from c = search (needs, check-laws, fill-laws, lent)
+add-from c = search (needs, check-laws, fill-laws, lent, classes-lent)
 
 fill-records-requires : tie.Need-fill-records-requires
-unfolding codes
-fill-records-requires c κs = search (needs, check-laws, fill-laws, lent)
+unfolding codes classOf
+fill-records-requires c κs = (search (needs, classes-lent), (search (needs, lent), (search (needs, line-size), (search (needs, line-1-behind), search (needs, fill-room)))))
 
 returns : tie.Need-returns
-returns c = search (needs, check-laws, fill-laws, lent)
+returns c = search (needs, check-laws, fill-laws, lent, classes-lent)
 
 returns-2 : tie.Need-returns-2
-returns-2 c = search (needs, check-laws, fill-laws, lent)
+returns-2 c = search (needs, check-laws, fill-laws, lent, classes-lent)
 
 returns-3 : tie.Need-returns-3
-returns-3 c = search (needs, check-laws, fill-laws, lent)
+returns-3 c = search (needs, check-laws, fill-laws, lent, classes-lent)
 
 same-length : tie.Need-same-length
 same-length c = search needs
 
 returns-4 : tie.Need-returns-4
-returns-4 c = search (needs, check-laws, fill-laws, lent)
+returns-4 c = search (needs, check-laws, fill-laws, lent, classes-lent)
 
 pub fill-spec : {M : Type 1} → statement M
 fill-spec =

@@ -1,7 +1,9 @@
 use borrow.Author.Needs.{needs}
 use Prim.Native.Nat.{_-_}
 use lib.ListN.{length}
-use Rattle.index.proofs.FillLaws.{Filling, filling-laws}
+use Rattle.index.proofs.FillLaws.{Filling, filling-laws, filling-commas, filling-places, filling-judged, filling-span, filling-room}
+use Rattle.notebook.proofs.CheckLaws.{line-size}
+use Rattle.characters.specs.Text.{Sixteen}
 use Rattle.index.proofs.fill_records.Statement.{statement}
 use Rattle.index.proofs.fill_records.Tie as tie
 use Rattle.index.proofs.fill_records.Reads as reads
@@ -12,10 +14,10 @@ use Rattle.index.proofs.step_line.Reads as step-line-reads
 use Rattle.order.proofs.State.new.Reads as new-reads
 
 abbrev Inv-loop : tie.InvT-loop
-Inv-loop codes provider s from out₀ st₀ at₀ next₀ out st at next = Filling provider s from out₀ st at out next
+Inv-loop classes codes stops₀ provider s from out₀ st₀ at₀ next₀ stops out st at next = Filling provider s from out₀ st at out next × Sixteen stops
 
 abbrev μ-loop : tie.MeasureT-loop
-μ-loop codes provider s from out₀ st₀ at₀ next₀ out st at next = length s - at
+μ-loop classes codes stops₀ provider s from out₀ st₀ at₀ next₀ stops out st at next = length s - at
 
 new-requires : tie.Need-new-requires Inv-loop μ-loop
 new-requires c κs = search (needs, filling-laws)
@@ -66,7 +68,7 @@ part-step-line-end : tie.Need-part-step-line-end Inv-loop μ-loop
 part-step-line-end c = search (needs, filling-laws)
 
 step-line-requires : tie.Need-step-line-requires Inv-loop μ-loop
-step-line-requires c κs = search (needs, filling-laws)
+step-line-requires c κs = (search needs, (search (needs, filling-commas), (search (needs, filling-places), (search (needs, line-size), (search needs, search (needs, filling-judged))))))
 
 enum-told-4 : tie.Need-enum-told-4 Inv-loop μ-loop
 enum-told-4 c = search (needs, filling-laws)
@@ -81,7 +83,7 @@ enum-known-after : tie.Need-enum-known-after Inv-loop μ-loop
 enum-known-after c = search (needs, filling-laws)
 
 put-entry-requires : tie.Need-put-entry-requires Inv-loop μ-loop
-put-entry-requires c κs = search (needs, filling-laws)
+put-entry-requires c κs = (search (needs, filling-span), search (needs, filling-room))
 
 add-at : tie.Need-add-at Inv-loop μ-loop
 add-at c = search (needs, filling-laws)
