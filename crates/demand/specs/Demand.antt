@@ -1,0 +1,96 @@
+-- DEMAND 3, sentence by sentence, as statements about the definitions that the contracts of the exported calls cite. proofs/Promises.antt
+-- proves each. A file f is accepted if `readFile f ≡ ok b`; b is the notebook that it carries.
+use Prim.Native.Nat.{ℕ, _≤_, _<_}
+use mathlib.Core.Path.{_≡_}
+use mathlib.Core.Logic.{_↔_}
+use mathlib.Core.Bool.{true}
+use mathlib.Core.List.{List, [], _∷_, _++_}
+use lib.ListN.{length, take, drop}
+use Rattle.lists.specs.Lists.{All, ok, refused}
+use Rattle.characters.specs.Rows.{flat}
+use Rattle.notebook.specs.Notebook.{Notebook, readFile}
+use Rattle.canonical.specs.Canonical.{canonicalBytes}
+use Rattle.pieces.specs.Marks.{validID}
+use Rattle.pieces.specs.Pieces.{Piece, split}
+use Rattle.cut.specs.declared.Cutting.the-variants.{Pieces, Refused}
+use Rattle.cut.specs.Cut.{cutList, cutOf, cutBuffer}
+use Rattle.join.specs.declared.Joining.the-variants.{Joined, Refused as JoinRefused}
+use Rattle.join.specs.Join.{joinFile, joinOf, joinBuffer}
+use Rattle.demand.specs.Orders.{Perm}
+
+-- ---- "Call a list of pieces sound for an accepted file and a capacity if .."
+
+-- "The lists of demand 3 consist of whole pieces in this sense": joining's own split finds one piece and nothing else
+pub record OnePiece (p : List ℕ) : Type 0 where
+  pub piece : Piece
+  pub is : split p ≡ ok (piece ∷ [])
+
+-- no longer than the capacity: "A piece's length counts all its bytes"
+pub record Within (c : ℕ) (p : List ℕ) : Type 0 where
+  pub fits : length p ≤ c
+
+pub record Sound (f : List ℕ) (c : ℕ) (ps : List (List ℕ)) : Type 0 where
+  pub pieces : All OnePiece ps
+  -- "no piece is longer than the capacity"
+  pub fits : All (Within c) ps
+  -- "joining accepts the list", its pieces "given to joining one after another"
+  pub file : List ℕ
+  pub joins : joinFile (flat ps) ≡ ok file
+  -- "the joined file carries the same notebook"
+  pub same : readFile file ≡ readFile f
+
+-- ---- what cutting wrote
+
+-- "The list that cutting writes is the first bytes of its output, as many as the total length in its result; the count in its result is the
+-- number of pieces in them."
+pub record ListIn (out : List ℕ) (n t : ℕ) (ps : List (List ℕ)) : Type 0 where
+  pub bytes : take t out ≡ flat ps
+  pub whole : All OnePiece ps
+  pub count : length ps ≡ n
+
+-- for an accepted file, any capacity, ID and output
+abbrev pub ForFile : (List ℕ → Notebook → ℕ → List ℕ → List ℕ → Type 0) → Type 0
+ForFile P = (f : List ℕ) (b : Notebook) (c : ℕ) (id out : List ℕ) → readFile f ≡ ok b → P f b c id out
+
+-- "Whenever our cutting writes a list, that list is sound for its file and capacity, and the result gives its number of pieces. Every other
+-- list sound for them has at least as many." As what is written splits into whole pieces in one way only, the list is told by its bytes.
+pub record Written (f : List ℕ) (c : ℕ) (out : List ℕ) (n t : ℕ) : Type 0 where
+  pub list : List (List ℕ)
+  pub is : ListIn out n t list
+  pub sound : Sound f c list
+  pub fewest : (qs : List (List ℕ)) → Sound f c qs → n ≤ length qs
+  pub only : (qs : List (List ℕ)) → ListIn out (length qs) t qs → qs ≡ list
+
+abbrev pub Cutting-writes : Type 0
+Cutting-writes = ForFile (λ f b c id out. (n t : ℕ) → cutOf f c id (length out) ≡ Pieces n t → Written f c (cutBuffer f c id out) n t)
+
+-- "For an accepted file and a valid ID, whatever the size of the output, cutting finds no list exactly when no sound one exists": "Cutting
+-- finds no list when it answers 18"
+abbrev pub Cutting-finds : Type 0
+Cutting-finds =
+    ForFile (λ f b c id out. validID id ≡ true → (cutOf f c id (length out) ≡ Refused 18 0) ↔ ((qs : List (List ℕ)) → Sound f c qs → ⊥))
+
+-- "A list found is withheld exactly when the output can't hold it": it "withholds one when it answers 20"
+abbrev pub Cutting-withholds : Type 0
+Cutting-withholds =
+    ForFile (λ f b c id out. (ps : List (List ℕ)) → cutList f c id ≡ ok ps → (cutOf f c id (length out) ≡ Refused 20 0) ↔ (length out < length (flat ps)))
+
+-- "Joining our pieces, in whichever order they lie, gives the canonical file of the file that was cut, when the output can hold it." to: the
+-- output of joining
+pub record Restored (b : Notebook) (qs : List (List ℕ)) (to : List ℕ) : Type 0 where
+  pub holds : length (canonicalBytes b) ≤ length to
+      → (joinOf (flat qs) (length to) ≡ Joined (length (canonicalBytes b))) × (joinBuffer (flat qs) to ≡ canonicalBytes b ++ drop (length (canonicalBytes b)) to)
+  pub short : length to < length (canonicalBytes b) → (joinOf (flat qs) (length to) ≡ JoinRefused 20 0) × (joinBuffer (flat qs) to ≡ to)
+
+abbrev pub Joining-restores : Type 0
+Joining-restores =
+    ForFile (λ f b c id out. (n t : ℕ) → cutOf f c id (length out) ≡ Pieces n t → (ps qs : List (List ℕ)) → ListIn (cutBuffer f c id out) n t ps
+    → Perm ps qs → (to : List ℕ) → Restored b qs to)
+
+-- "Two accepted files have equal canonical files exactly when they carry the same notebook, and then neither is shorter than that canonical
+-- file."
+abbrev pub Canonical-same : Type 0
+Canonical-same = (f g : List ℕ) (a b : Notebook) → readFile f ≡ ok a → readFile g ≡ ok b → (canonicalBytes a ≡ canonicalBytes b) ↔ (a ≡ b)
+
+abbrev pub Canonical-shortest : Type 0
+Canonical-shortest = (f : List ℕ) (b : Notebook) → readFile f ≡ ok b → length (canonicalBytes b) ≤ length f

@@ -1,0 +1,46 @@
+-- The plan of a cutting: one piece where all fits, else the first width of the count that serves. Document 01, "Cutting and joining":
+-- "Numbers n of one, two, three digits are tried in turn until one width serves: every record finds a piece and the count of pieces has
+-- that many digits."
+use Prim.Native.Nat.{ℕ, zero, suc, _+_}
+use mathlib.Core.Bool.{Bool, true, false, cond, _&&_}
+use mathlib.Core.Option.{Option, none, some}
+use mathlib.Core.List.{List, [], _∷_}
+use lib.Dec.{leb, eqb}
+use lib.ListN.{length}
+use Rattle.packing.specs.Packing.{total, pack}
+
+-- 1 past t, else 0
+unfoldable pub past : ℕ → ℕ → ℕ
+past t n = cond (leb n t) 0 1
+
+-- the digits of a number below 1,000; 4 for any above
+unfoldable pub digitsOf : ℕ → ℕ
+digitsOf n = 1 + past 9 n + past 99 n + past 999 n
+
+-- what piece k holds besides its records, where the count has w digits: line 1 with its end, `911,ID,n,k`, and a line end
+unfoldable pub over : ℕ → ℕ → ℕ
+over w k = 13 + (3 + 1 + 14 + 1 + w + 1 + digitsOf k) + 2
+
+pub data Plan (A : Type 0) : Type 0 where
+  whole : Plan A
+  -- the runs of the pieces 1, 2, ..
+  split : List (List A) → Plan A
+  fails : Plan A
+
+-- "the count of pieces has that many digits"; "the pieces number n, 2 to 999"
+unfoldable pub serves : ℕ → ℕ → Bool
+serves w n = eqb (digitsOf n) w && leb 2 n
+
+-- a packing that serves is the plan; else another is sought
+abbrev pub orNext : {A : Type 0} → ℕ → Plan A → Option (List (List A)) → Plan A
+orNext w next none = next
+orNext w next (some xs) = cond (serves w (length xs)) (split xs) next
+
+-- f widths from w on, tried in turn
+unfoldable pub tries : {A : Type 0} → (A → ℕ) → ℕ → ℕ → ℕ → List A → Plan A
+tries len c zero w rs = fails
+tries len c (suc f) w rs = orNext w (tries len c f (suc w) rs) (pack len (over w) c 1 (over w 1) rs)
+
+-- 13: line 1 with its end
+unfoldable pub plan : {A : Type 0} → (A → ℕ) → ℕ → List A → Plan A
+plan len c rs = cond (leb (13 + total len rs) c) whole (tries len c 3 1 rs)
