@@ -1,0 +1,4 @@
+pub mod ItemLaws
+pub mod LineLaws
+pub mod FileLaws
+pub mod WholeLaws

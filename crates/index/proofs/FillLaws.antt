@@ -24,56 +24,15 @@ use Rattle.order.specs.declared.Moved.{Moved}
 use Rattle.order.specs.declared.Moved.the-variants.{Refused, On}
 use Rattle.order.specs.State.{start, advance, stepOf, groupOf, drugOf, Room as Countable}
 use Rattle.order.proofs.Laws.{taken, next-line, room, room-start, line-start}
-use Rattle.lines.specs.declared.LineRead.{LineRead}
-use Rattle.lines.specs.declared.LineRead.the-variants.{Fault, Fine}
-use Rattle.lines.specs.Facts.{factsOf, lineRead}
+use Rattle.lines.specs.Facts.{factsOf}
 use Rattle.lines.specs.Codes.{Commas}
 use Rattle.buffers.specs.Buffers.{Room, Wrote, six}
 use Rattle.buffers.proofs.Runs.{carry}
 use Rattle.notebook.specs.Notebook.{stepLine}
-use Rattle.notebook.specs.Check.{Behind}
-use Rattle.notebook.proofs.CheckLaws.{read-fault, read-fine, line-size}
-use Rattle.index.specs.Index.{Entry, entryOf, entered, entriesFrom, numbers, Judged, Spanned}
-
--- ---- a line read and put in its place
-
-module _ (st : State) (l : List ℕ) {good : Bool} (g : Judged good l) {a : LineRead} (p : a ≡ lineRead good (st .provider) l) where
-  own-fault : lineFault (st .provider) l ≡ faultWhere good (st .provider) l
-  unfolding lineFault
-  own-fault = rw (g .chars)
-
-  pub step-fault : {n m : ℕ} → a ≡ Fault n → m ≡ n → Refused m ≡ stepLine st l
-  unfolding stepLine
-  step-fault {n} {m} t u =
-      let f : (faultWhere good (st .provider) l ≡ n) × (n ≡ 0 → ⊥) = read-fault good (st .provider) l n (sym p ∙ t) in
-      rw (own-fault ∙ f .0, ne-eqb n 0 (f .1), u)
-
-  pub step-fine : {facts : Facts} {m : Moved} → a ≡ Fine facts → m ≡ stepOf st facts → m ≡ stepLine st l
-  unfolding stepLine
-  step-fine {facts} {m} t o =
-      let f : (faultWhere good (st .provider) l ≡ 0) × (facts ≡ factsOf (recordOf l)) = read-fine good (st .provider) l facts (sym p ∙ t) in
-      rw (own-fault ∙ f .0, o, f .1)
-
-pub ruleset step-laws = (step-fault, step-fine)
-
--- what a line that was taken says
-pub record Placed (st : State) (l : List ℕ) (after : State) (rp doctor : ℕ) : Type 0 where
-  pub sound : lineFault (st .provider) l ≡ 0
-  pub step : stepOf st (factsOf (recordOf l)) ≡ On after rp doctor
-  pub state : after ≡ advance st (factsOf (recordOf l))
-
-pub placed : (st : State) (l : List ℕ) (after : State) (rp doctor : ℕ) → stepLine st l ≡ On after rp doctor → Placed st l after rp doctor
-unfolding stepLine
-placed st l after rp doctor e = go (eqb (lineFault (st .provider) l) 0) refl e
-  where
-    go : (x : Bool) → eqb (lineFault (st .provider) l) 0 ≡ x → cond x (stepOf st (factsOf (recordOf l))) (Refused (lineFault (st .provider) l)) ≡ On after rp doctor
-        → Placed st l after rp doctor
-    go true q e = record { sound = eqb-true _ _ q; step = e; state = taken st (factsOf (recordOf l)) after rp doctor e .state }
-    go false q e = let z : _≡_ {A = ℕ} 0 1 = cc in absurd (omega arith)
-
-pub place-number : {st : State} {l : List ℕ} {after : State} {rp doctor : ℕ} → Placed st l after rp doctor → after .place ≡ (recordOf l) .number
-unfolding advance factsOf
-place-number p = ap (λ (t : State). t .place) (p .state)
+use Rattle.notebook.specs.Check.{Judged, Behind}
+use Rattle.notebook.proofs.StepLaws.{Placed, placed, place-number}
+use Rattle.notebook.proofs.CheckLaws.{line-size}
+use Rattle.index.specs.Index.{Entry, entryOf, entered, entriesFrom, numbers, Spanned}
 
 -- ---- one entry
 

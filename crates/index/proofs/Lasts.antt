@@ -20,7 +20,7 @@ use Rattle.order.proofs.Laws.{next-line}
 use Rattle.lines.specs.Facts.{factsOf}
 use Rattle.index.specs.Index.{Entry, entryOf}
 use Rattle.index.specs.Meaning.{lastLine, Stands, here, there}
-use Rattle.index.proofs.FillLaws.{Placed}
+use Rattle.notebook.proofs.StepLaws.{Placed}
 use Rattle.index.proofs.Walk.{Walk, over, more}
 
 -- ---- the groups of a state

@@ -19,7 +19,7 @@ use Rattle.order.proofs.Laws.{provider-kept}
 use Rattle.lines.specs.Facts.{factsOf}
 use Rattle.index.specs.Index.{Entry, entryOf}
 use Rattle.index.specs.Meaning.{Cuts, Each}
-use Rattle.index.proofs.FillLaws.{Placed}
+use Rattle.notebook.proofs.StepLaws.{Placed}
 use Rattle.index.proofs.Walk.{Walk, over, more}
 
 -- a row that is a line, at its position

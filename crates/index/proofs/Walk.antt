@@ -21,7 +21,7 @@ use Rattle.buffers.specs.Buffers.{six}
 use Rattle.buffers.proofs.Runs.{six-length}
 use Rattle.notebook.specs.Notebook.{Notebook, stepLine, prepend, closed, onward, recordsFrom, notebookOf, readRows, readFile}
 use Rattle.index.specs.Index.{Entry, entryOf, entered, entriesFrom, entriesBehind, entriesOf, numbers}
-use Rattle.index.proofs.FillLaws.{Placed, placed}
+use Rattle.notebook.proofs.StepLaws.{Placed, placed}
 
 pub data Walk : State → ℕ → List (List ℕ) → List Record → List Entry → Type 0 where
   over : {st : State} {at : ℕ} {rs : List (List ℕ)} → Walk st at rs [] []

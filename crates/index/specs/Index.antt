@@ -7,7 +7,7 @@ use mathlib.Core.List.{List, [], _∷_, _++_}
 use lib.Dec.{leb}
 use lib.ListN.{length, drop}
 use Rattle.lists.specs.Lists.{same, Res, ok, refused}
-use Rattle.characters.specs.Text.{allChars, text}
+use Rattle.characters.specs.Text.{text}
 use Rattle.characters.specs.Rows.{rows, isLine}
 use Rattle.records.specs.Records.{recordOf, header}
 use Rattle.order.specs.declared.State.{State}
@@ -92,10 +92,6 @@ unfoldable pub indexBuffer : List ℕ → List ℕ → List ℕ
 indexBuffer s d = bufferAfter (indexOf s (length d)) (numbersOf s) d
 
 -- ---- what the writing asks
-
--- it was found whether a line is characters
-pub record Judged (good : Bool) (l : List ℕ) : Type 0 where
-  pub chars : good ≡ allChars l
 
 -- a line of a file within the limit
 pub record Spanned (at end : ℕ) : Type 0 where

@@ -5,42 +5,18 @@ ghost use mathlib.Core.Path.{_≡_};
 ghost use lib.ListN.{length, drop};
 ghost use Prim.Native.Nat.{_-_};
 ghost use Rattle.characters.specs.Rows.{rows};
-ghost use Rattle.order.specs.State.{start, groupOf, drugOf, Room as Countable};
+ghost use Rattle.order.specs.State.{start, groupOf, drugOf};
 ghost use Rattle.characters.specs.Classes.{Classes};
-ghost use Rattle.characters.specs.Text.{Stops, Sixteen};
-ghost use Rattle.lines.specs.Codes.{Lent, Commas};
+ghost use Rattle.characters.specs.Text.{Sixteen};
+ghost use Rattle.lines.specs.Codes.{Lent};
 ghost use Rattle.buffers.specs.Buffers.{Room, Wrote, six};
-ghost use Rattle.notebook.specs.Notebook.{stepLine};
 ghost use Rattle.notebook.specs.Check.{Behind};
-ghost use Rattle.index.specs.Index.{entriesFrom, numbers, numbersOf, indexOf, indexBuffer, Judged, Spanned, Fillable};
+ghost use Rattle.index.specs.Index.{entriesFrom, numbers, numbersOf, indexOf, indexBuffer, Spanned, Fillable};
 
 // How many records have their six numbers in the buffer's front; or a refusal's number and line, and the buffer as it was.
 pub enum Indexed {
     Written(u32),
     Refused(u32, u32),
-}
-
-// Reads a record line, and puts its record in its place; good: the line is characters; commas and stops: its commas and their places.
-fn step_line(
-    codes: &[usize; 83],
-    st: order::State,
-    good: bool,
-    commas: usize,
-    stops: &[usize; 16],
-    line: &[u8],
-) -> order::Moved
-    requires { ⌜ Lent (now codes) ⌝ }
-    requires { ⌜ Commas (now line) commas ⌝ }
-    requires { ⌜ Stops (now line) (now stops) ⌝ }
-    requires { ⌜ Sixteen (now stops) ⌝ }
-    requires { ⌜ Countable st ⌝ }
-    requires { ⌜ Judged good (now line) ⌝ }
-    ensures { λ m. ⌜ m ≡ stepLine st (now (line .entry)) ⌝ }
-{
-    match lines::read_line(codes, st.provider, good, commas, stops, line) {
-        lines::LineRead::Fault(n) => order::Moved::Refused(digits::wide(n)),
-        lines::LineRead::Fine(facts) => st.step(facts),
-    }
 }
 
 // The entry of a record whose line stands from at to end and moved the reader to the state.
@@ -89,7 +65,7 @@ fn fill_records(
             characters::Line::Mark => return next,
             characters::Line::Broken => return next,
             characters::Line::Whole(end, good, commas) => {
-                match step_line(codes, st, good, commas, stops, &s[at..end]) {
+                match notebook::step_line(codes, st, good, commas, stops, &s[at..end]) {
                     order::Moved::Refused(_) => return next,
                     order::Moved::On(after, _, doctor) => {
                         next = put_entry(out, next, at, end, after, doctor);

@@ -17,8 +17,20 @@ use Rattle.lines.specs.declared.Span.{Span}
 use Rattle.lines.proofs.SplitLaws.{items-count}
 use Rattle.lines.proofs.TableLaws.{codes-length}
 
-abbrev left : List ℕ → ℕ → ℕ → List Item
+-- the items of a row from its code k on
+abbrev pub left : List ℕ → ℕ → ℕ → List Item
 left cs k end = map itemOf (take (end - k) (drop k cs))
+
+pub left-all : (cs : List ℕ) (place : ℕ) → cs ≡ codes → sliceOf place ≡ left cs (place / 16) (place / 16 + place % 16)
+left-all cs place l =
+    let e : place / 16 + place % 16 - place / 16 ≡ place % 16 = omega arith in
+    ap (λ (x : ℕ). map itemOf (take x (drop (place / 16) codes))) (sym e) ∙ ap (λ (x : List ℕ). left x (place / 16) (place / 16 + place % 16)) (sym l)
+
+pub left-first : (cs : List ℕ) (k end : ℕ) → cs ≡ codes → end ≤ 83 → k < end → left cs k end ≡ itemOf (getD cs k 0) ∷ left cs (k + 1) end
+left-first cs k end l u h =
+    let n : end - k ≡ suc (end - (k + 1)) = omega arith in
+    let m : k < length cs = omega (arith, ap length l, codes-length) in
+    rw (n, drop-step cs k 0 m)
 
 pub record Walk (cs : List ℕ) (b : Bool) (place : ℕ) (s : List ℕ) (end k j : ℕ) : Type 0 where
   pub same : itemsFault b (sliceOf place) (drop 1 (itemsOf s)) ≡ itemsFault b (left cs k end) (drop j (itemsOf s))
@@ -27,14 +39,12 @@ pub record Walk (cs : List ℕ) (b : Bool) (place : ℕ) (s : List ℕ) (end k j
   pub some : 1 ≤ j
 
 pub walk-start : (cs : List ℕ) (b : Bool) (place : ℕ) (s : List ℕ) → Lent cs → InCodes place → Walk cs b place s (place / 16 + place % 16) (place / 16) 1
-walk-start cs b place s l p =
-    let e : place / 16 + place % 16 - place / 16 ≡ place % 16 = omega arith in
-    record {
-      same = ap (λ (x : List Item). itemsFault b x (drop 1 (itemsOf s))) (ap (λ (x : ℕ). map itemOf (take x (drop (place / 16) codes))) (sym e) ∙ ap (λ (x : List ℕ). left x (place / 16) (place / 16 + place % 16)) (sym (l .is)));
-      high = p .inside;
-      lent = l .is;
-      some = omega arith;
-    }
+walk-start cs b place s l p = record {
+  same = ap (λ (x : List Item). itemsFault b x (drop 1 (itemsOf s))) (left-all cs place (l .is));
+  high = p .inside;
+  lent = l .is;
+  some = omega arith;
+}
 
 module _ {cs : List ℕ} {b : Bool} {place : ℕ} {s : List ℕ} {end k j : ℕ} (w : Walk cs b place s end k j) where
   pub walk-over : end ≤ k → 0 ≡ itemsFault b (sliceOf place) (drop 1 (itemsOf s))
@@ -48,10 +58,7 @@ module _ {cs : List ℕ} {b : Bool} {place : ℕ} {s : List ℕ} {end k j : ℕ}
       none-left (x ∷ xs) = refl
 
   first : k < end → left cs k end ≡ itemOf (getD cs k 0) ∷ left cs (k + 1) end
-  first h =
-      let n : end - k ≡ suc (end - (k + 1)) = omega arith in
-      let m : k < length cs = omega (arith, w .high, ap length (w .lent), codes-length) in
-      rw (n, drop-step cs k 0 m)
+  first h = left-first cs k end (w .lent) (w .high) h
 
   pub walk-short : {stops : List ℕ} {n : ℕ} → Spanned s stops n → k < end → n < j → 0 ≡ itemsFault b (sliceOf place) (drop 1 (itemsOf s))
   unfolding itemsFault

@@ -21,7 +21,7 @@ pub struct Span {
 }
 
 // Item number j of a line, from 1 behind the record's number; nothing where there is none. n: the line's commas; stops: their places.
-fn item_span(stops: &[usize; 16], n: usize, s: &[u8], j: usize) -> Span
+pub fn item_span(stops: &[usize; 16], n: usize, s: &[u8], j: usize) -> Span
     requires { ⌜ Spanned (now s) (now stops) n ⌝ }
     requires { ⌜ 1 ≤ j ⌝ }
     ensures { λ r. ⌜ SpanAt (now (s .entry)) j r ⌝ }
@@ -130,7 +130,7 @@ pub const CODES: [usize; 83] = [
 ];
 
 // Where a record's row stands in the codes: start times 16 and count; 0 where the number is not listed.
-fn place_of(n: u32) -> usize
+pub fn place_of(n: u32) -> usize
     ensures { λ r. ⌜ r ≡ placeOf n ⌝ }
     ensures { λ r. ⌜ InCodes r ⌝ }
 {

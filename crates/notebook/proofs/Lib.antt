@@ -1,2 +1,4 @@
+pub mod StepLaws
+pub mod ReadLaws
 pub mod CheckLaws
 pub mod Cases

@@ -1,11 +1,13 @@
 -- The call check: the counts of an accepted file, or its refusal. Document 01, "Index": "Check returns the counts of records, groups
 -- and 201s".
 use Prim.Native.Nat.{ℕ, _+_, _-_, _≤_}
-use mathlib.Core.Bool.{cond, true, false}
+use mathlib.Core.Path.{_≡_}
+use mathlib.Core.Bool.{Bool, cond, true, false}
 use mathlib.Core.List.{List, [], _∷_}
 use lib.Dec.{eqb}
 use lib.ListN.{length}
 use Rattle.lists.specs.Lists.{same, Res, ok, refused}
+use Rattle.characters.specs.Text.{allChars}
 use Rattle.records.specs.Records.{Record, header}
 use Rattle.order.specs.declared.State.{State}
 use Rattle.notebook.specs.declared.Checked.{Checked}
@@ -37,6 +39,10 @@ directionOf l = cond (same l (header true)) 1 (cond (same l (header false)) 2 0)
 abbrev pub tally : State → Res (List Record) → Checked
 tally st (ok rs) = Accepted (st .line - 1 + length rs) (st .groups + count 5 rs) (st .drugs + count 201 rs)
 tally st (refused n line) = Refused n line
+
+-- it was found whether a line is characters
+pub record Judged (good : Bool) (l : List ℕ) : Type 0 where
+  pub chars : good ≡ allChars l
 
 -- a position behind line 1 of a file within the limit
 pub record Behind (s : List ℕ) (from : ℕ) : Type 0 where

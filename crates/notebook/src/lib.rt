@@ -5,11 +5,11 @@ ghost use mathlib.Core.Path.{_≡_};
 ghost use lib.ListN.{length, drop};
 ghost use Rattle.characters.specs.Rows.{rows};
 ghost use Rattle.characters.specs.Classes.{Classes};
-ghost use Rattle.characters.specs.Text.{Sixteen};
-ghost use Rattle.order.specs.State.{start};
-ghost use Rattle.lines.specs.Codes.{Lent};
-ghost use Rattle.notebook.specs.Notebook.{closed as closedOf, recordsFrom};
-ghost use Rattle.notebook.specs.Check.{checkOf, tally, directionOf, Behind, Closing};
+ghost use Rattle.characters.specs.Text.{Stops, Sixteen};
+ghost use Rattle.order.specs.State.{start, Room};
+ghost use Rattle.lines.specs.Codes.{Lent, Commas};
+ghost use Rattle.notebook.specs.Notebook.{stepLine, closed as closedOf, recordsFrom};
+ghost use Rattle.notebook.specs.Check.{checkOf, tally, directionOf, Judged, Behind, Closing};
 
 // The counts of records, groups and drugs; or a refusal's number and line.
 pub enum Checked {
@@ -44,6 +44,29 @@ fn close(st: order::State) -> Checked
     Checked::Refused(missing, st.line + 1)
 }
 
+// Reads a record line, and puts its record in its place; good: the line is characters; commas and stops: its commas and their places.
+pub fn step_line(
+    codes: &[usize; 83],
+    st: order::State,
+    good: bool,
+    commas: usize,
+    stops: &[usize; 16],
+    line: &[u8],
+) -> order::Moved
+    requires { ⌜ Lent (now codes) ⌝ }
+    requires { ⌜ Commas (now line) commas ⌝ }
+    requires { ⌜ Stops (now line) (now stops) ⌝ }
+    requires { ⌜ Sixteen (now stops) ⌝ }
+    requires { ⌜ Room st ⌝ }
+    requires { ⌜ Judged good (now line) ⌝ }
+    ensures { λ m. ⌜ m ≡ stepLine st (now (line .entry)) ⌝ }
+{
+    match lines::read_line(codes, st.provider, good, commas, stops, line) {
+        lines::LineRead::Fault(n) => order::Moved::Refused(digits::wide(n)),
+        lines::LineRead::Fine(facts) => st.step(facts),
+    }
+}
+
 // The records of a file from behind line 1 on.
 fn check_records(
     classes: &[u8; 256],
@@ -67,17 +90,12 @@ fn check_records(
             characters::Line::Mark => return close(st),
             characters::Line::Broken => return Checked::Refused(2, st.line + 1),
             characters::Line::Whole(end, good, commas) => {
-                match lines::read_line(codes, provider, good, commas, stops, &s[at..end]) {
-                    lines::LineRead::Fault(n) => {
-                        return Checked::Refused(digits::wide(n), st.line + 1);
+                match step_line(codes, st, good, commas, stops, &s[at..end]) {
+                    order::Moved::Refused(n) => return Checked::Refused(n, st.line + 1),
+                    order::Moved::On(next, _, _) => {
+                        st = next;
+                        at = end + 2;
                     }
-                    lines::LineRead::Fine(facts) => match st.step(facts) {
-                        order::Moved::Refused(n) => return Checked::Refused(n, st.line + 1),
-                        order::Moved::On(next, _, _) => {
-                            st = next;
-                            at = end + 2;
-                        }
-                    },
                 }
             }
         }

@@ -23,7 +23,7 @@ use Rattle.records.proofs.Splits.{NoComma, AllChars, Split, split, weig
 use Rattle.records.proofs.ItemLaws.{Fine, written, Written, items-written}
 
 -- a number that is listed is spelled as it is written
-row-spelled : (h : List ℕ) (rs : List Row) → leb 1 ((rowIn rs h) .number) ≡ true → h ≡ spell ((rowIn rs h) .number)
+pub row-spelled : (h : List ℕ) (rs : List Row) → leb 1 ((rowIn rs h) .number) ≡ true → h ≡ spell ((rowIn rs h) .number)
 unfolding rowIn
 row-spelled h [] e = absurd (omega (arith, leb-true 1 0 e))
 row-spelled h (r ∷ rs) e =

@@ -10,7 +10,7 @@ use Rattle.index.proofs.fill_records.Reads as reads
 use Rattle.index.proofs.fill_records.Lts as lts
 use Rattle.characters.proofs.line_at.Reads as line-at-reads
 use Rattle.index.proofs.put_entry.Reads as put-entry-reads
-use Rattle.index.proofs.step_line.Reads as step-line-reads
+use Rattle.notebook.proofs.step_line.Reads as step-line-reads
 use Rattle.order.proofs.State.new.Reads as new-reads
 
 abbrev Inv-loop : tie.InvT-loop

@@ -1,11 +1,11 @@
 use borrow.Author.Needs.{needs}
 use Prim.Native.Nat.{_-_}
 use lib.ListN.{length}
-use Rattle.index.proofs.FillLaws.{step-laws}
-use Rattle.index.proofs.step_line.Statement.{statement}
-use Rattle.index.proofs.step_line.Tie as tie
-use Rattle.index.proofs.step_line.Reads as reads
-use Rattle.index.proofs.step_line.Lts as lts
+use Rattle.notebook.proofs.StepLaws.{step-laws}
+use Rattle.notebook.proofs.step_line.Statement.{statement}
+use Rattle.notebook.proofs.step_line.Tie as tie
+use Rattle.notebook.proofs.step_line.Reads as reads
+use Rattle.notebook.proofs.step_line.Lts as lts
 use Rattle.digits.proofs.wide.Reads as wide-reads
 use Rattle.lines.proofs.read_line.Reads as read-line-reads
 use Rattle.order.proofs.State.step.Reads as step-reads

@@ -1,0 +1,246 @@
+-- An item in its one spelling: what is written for each kind. Assumes nothing.
+use Prim.Native.Nat.{ℕ, _+_, _-_, _/_, _%_, _≤_, _<_}
+use native.Mathlib.Omega.{arith}
+use mathlib.Core.Path.{_≡_, refl, sym, ap, _∙_, subst}
+use mathlib.Core.Bool.{Bool, true, false, cond, _&&_, _||_, false≢true}
+use mathlib.Core.Option.{Option, none, some}
+use mathlib.Core.List.{List, [], _∷_, _++_}
+use borrow.Author.Tests.{eq-eqb, ne-eqb, eqb-true}
+use lib.Dec.{leb, eqb}
+use lib.ListN.{length, getD, take, drop, length-append, length-take, length-drop}
+use lib.Seq.{sets, take-all}
+use Rattle.lists.specs.Lists.{empty, all, unless}
+use Rattle.lists.proofs.Tests.{both, unless-zero}
+use Rattle.digits.specs.Digits.{isDigit, number, spell}
+use Rattle.digits.specs.Short.{orThousand, shortValue}
+use Rattle.digits.proofs.Numbers.{number-length}
+use Rattle.calendar.specs.declared.DateRead.{DateRead}
+use Rattle.calendar.specs.declared.DateRead.the-variants.{Date, NotADate}
+use Rattle.calendar.specs.declared.Day.{Day}
+use Rattle.calendar.specs.Era.{readDay, writeDay}
+use Rattle.records.specs.Table.{Kind, N, U, X, A, F, C, P, R, W, Q, D, among, Item}
+use Rattle.records.specs.Items.{Value, text, num, day, writeValue, numberValue, dayValue, unhyphened, seven, postal, fault, value}
+use Rattle.records.specs.Records.{itemValue}
+use Rattle.items.specs.Codes.{setOf, kindOf, itemOf}
+use Rattle.buffers.specs.Buffers.{Room, Wrote}
+use Rattle.buffers.proofs.Runs.{then}
+use Rattle.canonical.specs.Writing.{postalBytes, numberBytes, dayBytes, itemBytes, Spellable}
+
+-- nothing is written
+pub wrote-none : (d : List ℕ) (at : ℕ) (w : List ℕ) → Room d at w → w ≡ [] → Wrote d d at at w
+wrote-none d at w r e = rw e (record { next = omega arith; list = refl; size = refl; high = omega (arith, r, ap length e) })
+
+-- ---- P
+
+module _ (s : List ℕ) (h : length s ≡ 8) where
+  with-hyphen : postalBytes s ≡ take 3 s ++ drop 4 s
+  unfolding postalBytes
+  with-hyphen = rw (eq-eqb (length s) 8 h)
+
+  two-parts : length (postalBytes s) ≡ 7
+  two-parts = ap length with-hyphen ∙ omega (arith, length-append (take 3 s) (drop 4 s), length-take 3 s, length-drop 4 s)
+
+  pub postal-first : (d : List ℕ) (at : ℕ) → Room d at (postalBytes s) → Room d at (take 3 s)
+  postal-first d at r = omega (arith, two-parts, length-take 3 s)
+
+  pub postal-last : {d d₁ : List ℕ} {at a : ℕ} → Wrote d d₁ at a (take 3 s) → Room d at (postalBytes s) → Room d₁ a (take 4 (drop 4 s))
+  postal-last w r = omega (arith, two-parts, length-take 3 s, length-take 4 (drop 4 s), length-drop 4 s, w .next, w .size)
+
+  pub postal-both : {d d₁ d₂ : List ℕ} {at a r : ℕ} → Wrote d d₁ at a (take 3 s) → Wrote d₁ d₂ a r (take 4 (drop 4 s)) → Wrote d d₂ at r (postalBytes s)
+  postal-both v w =
+      let e : take 4 (drop 4 s) ≡ drop 4 s = take-all 4 (drop 4 s) (omega (arith, length-drop 4 s)) in
+      rw with-hyphen (then v (rw e at w))
+
+without-hyphen : (s : List ℕ) → (length s ≡ 8 → ⊥) → postalBytes s ≡ s
+unfolding postalBytes
+without-hyphen s h = rw (ne-eqb (length s) 8 h)
+
+pub postal-room : (s d : List ℕ) (at : ℕ) → (length s ≡ 8 → ⊥) → Room d at (postalBytes s) → Room d at s
+postal-room s d at h r = rw (without-hyphen s h) at r
+
+pub postal-whole : (s : List ℕ) {d d₁ : List ℕ} {at r : ℕ} → (length s ≡ 8 → ⊥) → Wrote d d₁ at r s → Wrote d d₁ at r (postalBytes s)
+postal-whole s h w = rw (without-hyphen s h) w
+
+pub ruleset postal-laws = (postal-first, postal-last, postal-both, postal-room, postal-whole)
+
+-- ---- R
+
+module _ (s : List ℕ) {v : ℕ} (e : v ≡ shortValue s) where
+  pub number-some : v ≤ 999 → numberBytes s ≡ spell v
+  unfolding numberBytes shortValue
+  number-some h = go (number s) e
+    where
+      go : (o : Option ℕ) → v ≡ orThousand o → writeValue (numberValue o) ≡ spell v
+      go none q = absurd (omega arith)
+      go (some n) q = ap spell (sym q)
+
+  pub number-none : 999 < v → numberBytes s ≡ []
+  unfolding numberBytes shortValue
+  number-none h = go (number s) refl
+    where
+      go : (o : Option ℕ) → number s ≡ o → writeValue (numberValue o) ≡ []
+      go none q = refl
+      go (some n) q = absurd (omega (arith, number-length s n q, e ∙ ap orThousand q))
+
+  pub number-room : (d : List ℕ) (at : ℕ) → v ≤ 999 → Room d at (numberBytes s) → Room d at (spell v)
+  number-room d at h r = rw (number-some h) at r
+
+  pub number-wrote : {d d₁ : List ℕ} {at r : ℕ} → v ≤ 999 → Wrote d d₁ at r (spell v) → Wrote d d₁ at r (numberBytes s)
+  number-wrote h w = rw (number-some h) w
+
+  pub number-empty : (d : List ℕ) (at : ℕ) → 999 < v → Room d at (numberBytes s) → Wrote d d at at (numberBytes s)
+  number-empty d at h r = wrote-none d at (numberBytes s) r (number-none h)
+
+pub ruleset number-laws = (number-room, number-wrote, number-empty)
+
+-- ---- D
+
+module _ (s : List ℕ) {k : DateRead} (e : k ≡ readDay s) where
+  day-some : {t : Day} → k ≡ Date t → dayBytes s ≡ writeDay (t .ymd)
+  unfolding dayBytes
+  day-some q = ap (λ (x : DateRead). writeValue (dayValue x)) (sym e ∙ q)
+
+  day-none : k ≡ NotADate → dayBytes s ≡ []
+  unfolding dayBytes
+  day-none q = ap (λ (x : DateRead). writeValue (dayValue x)) (sym e ∙ q)
+
+  pub day-room : {t : Day} {w : List ℕ} (d : List ℕ) (at : ℕ) → k ≡ Date t → w ≡ writeDay (t .ymd) → Room d at (dayBytes s) → Room d at w
+  day-room d at q p r = rw (p, sym (day-some q)) r
+
+  pub day-wrote : {t : Day} {w d d₁ : List ℕ} {at r : ℕ} → k ≡ Date t → w ≡ writeDay (t .ymd) → Wrote d d₁ at r w → Wrote d d₁ at r (dayBytes s)
+  day-wrote q p w = rw (day-some q ∙ sym p) w
+
+  pub day-empty : (d : List ℕ) (at : ℕ) → k ≡ NotADate → Room d at (dayBytes s) → Wrote d d at at (dayBytes s)
+  day-empty d at q r = wrote-none d at (dayBytes s) r (day-none q)
+
+pub ruleset day-laws = (day-room, day-wrote, day-empty)
+
+-- ---- any item, by the number of its kind
+
+-- a kind that has one spelling
+record OneSpelling (s : List ℕ) (k : Kind) : Type 0 where
+  is : value k s ≡ text s
+
+either-kind : {s : List ℕ} {x y : Kind} (b : Bool) → OneSpelling s x → OneSpelling s y → OneSpelling s (cond b x y)
+either-kind true p q = p
+either-kind false p q = q
+
+-- all kinds but P, R and D
+one-spelling : (s : List ℕ) (k m : ℕ) → (k ≡ 6 → ⊥) → (k ≡ 7 → ⊥) → (k ≡ 10 → ⊥) → OneSpelling s (kindOf k m)
+unfolding kindOf value
+one-spelling s k m p r d =
+    rw (ne-eqb k 6 p, ne-eqb k 7 r, ne-eqb k 10 d)
+    (either-kind (eqb k 0) (kept (N m) refl) (either-kind (eqb k 1) (kept (U m) refl) (either-kind (eqb k 2) (kept (X m) refl)
+    (either-kind (eqb k 3) (kept A refl) (either-kind (eqb k 4) (kept F refl) (either-kind (eqb k 5) (kept C refl)
+    (either-kind (eqb k 8) (kept W refl) (either-kind (eqb k 9) (kept Q refl) (kept (among (setOf m)) refl)))))))))
+  where
+    kept : (x : Kind) → value x s ≡ text s → OneSpelling s x
+    kept x e = record { is = e }
+
+-- an item that is empty is written as nothing
+by-kind : (c : ℕ) (s w : List ℕ) → (empty s ≡ true → w ≡ []) → (empty s ≡ false → writeValue (value (kindOf (c / 4 % 16) (c / 64)) s) ≡ w) → itemBytes c s ≡ w
+unfolding itemBytes itemValue
+by-kind c [] w h g = sym (h refl)
+by-kind c (x ∷ s) w h g = g refl
+
+seven-length : (s : List ℕ) → seven s ≡ true → length s ≡ 7
+unfolding seven
+seven-length s e = eqb-true (length s) 7 (both (eqb (length s) 7) (all isDigit s) e .0)
+
+postal-spelled : (s : List ℕ) → postal s ≡ true → cond (seven s) s (unhyphened s) ≡ postalBytes s
+unfolding postal
+postal-spelled s e = go (seven s) refl e
+  where
+    go : (b : Bool) → seven s ≡ b → b || (eqb (getD s 3 0) 0x2d && seven (unhyphened s)) ≡ true → cond b s (unhyphened s) ≡ postalBytes s
+    go true q f = sym (without-hyphen s (λ h. omega (arith, seven-length s q)))
+    go false q f =
+        let g : seven (unhyphened s) ≡ true = both (eqb (getD s 3 0) 0x2d) (seven (unhyphened s)) f .1 in
+        sym (with-hyphen s (omega (arith, seven-length (unhyphened s) g, length-append (take 3 s) (drop 4 s), length-take 3 s, length-drop 4 s)))
+
+postal-empty : (s : List ℕ) → empty s ≡ true → postalBytes s ≡ []
+unfolding postalBytes
+postal-empty [] h = refl
+postal-empty (x ∷ s) h = absurd (false≢true h)
+
+number-blank : (s : List ℕ) → empty s ≡ true → numberBytes s ≡ []
+unfolding numberBytes number
+number-blank [] h = refl
+number-blank (x ∷ s) h = absurd (false≢true h)
+
+day-blank : (s : List ℕ) → empty s ≡ true → dayBytes s ≡ []
+unfolding dayBytes readDay
+day-blank [] h = refl
+day-blank (x ∷ s) h = absurd (false≢true h)
+
+blank : (s : List ℕ) → empty s ≡ true → s ≡ []
+blank [] h = refl
+blank (x ∷ s) h = absurd (false≢true h)
+
+kind-postal : (k m : ℕ) → k ≡ 6 → kindOf k m ≡ P
+unfolding kindOf
+kind-postal k m e = rw e
+
+kind-number : (k m : ℕ) → k ≡ 7 → kindOf k m ≡ R
+unfolding kindOf
+kind-number k m e = rw e
+
+kind-day : (k m : ℕ) → k ≡ 10 → kindOf k m ≡ D
+unfolding kindOf
+kind-day k m e = rw e
+
+module _ (c : ℕ) (s : List ℕ) where
+  item-postal : Spellable c s → c / 4 % 16 ≡ 6 → itemBytes c s ≡ postalBytes s
+  unfolding fault value
+  item-postal g e =
+      by-kind c s (postalBytes s) (postal-empty s) (λ h. rw (kind-postal (c / 4 % 16) (c / 64) e) (postal-spelled s (unless-zero (postal s) 10 (rw (kind-postal (c / 4 % 16) (c / 64) e) at (g .good h)))))
+
+  item-number : c / 4 % 16 ≡ 7 → itemBytes c s ≡ numberBytes s
+  unfolding value numberBytes
+  item-number e = by-kind c s (numberBytes s) (number-blank s) (λ h. rw (kind-number (c / 4 % 16) (c / 64) e))
+
+  item-day : c / 4 % 16 ≡ 10 → itemBytes c s ≡ dayBytes s
+  unfolding value dayBytes
+  item-day e = by-kind c s (dayBytes s) (day-blank s) (λ h. rw (kind-day (c / 4 % 16) (c / 64) e))
+
+  item-kept : (c / 4 % 16 ≡ 6 → ⊥) → (c / 4 % 16 ≡ 7 → ⊥) → (c / 4 % 16 ≡ 10 → ⊥) → itemBytes c s ≡ s
+  item-kept p r d = by-kind c s s (blank s) (λ h. ap writeValue (one-spelling s (c / 4 % 16) (c / 64) p r d .is))
+
+  pub postal-item-room : (d : List ℕ) (at : ℕ) → Spellable c s → c / 4 % 16 ≡ 6 → Room d at (itemBytes c s) → Room d at (postalBytes s)
+  postal-item-room d at g e r = rw (item-postal g e) at r
+
+  pub postal-item : {d d₁ : List ℕ} {at r : ℕ} → Spellable c s → c / 4 % 16 ≡ 6 → Wrote d d₁ at r (postalBytes s) → Wrote d d₁ at r (itemBytes c s)
+  postal-item g e w = rw (item-postal g e) w
+
+  pub number-item-room : (d : List ℕ) (at : ℕ) → c / 4 % 16 ≡ 7 → Room d at (itemBytes c s) → Room d at (numberBytes s)
+  number-item-room d at e r = rw (item-number e) at r
+
+  pub number-item : {d d₁ : List ℕ} {at r : ℕ} → c / 4 % 16 ≡ 7 → Wrote d d₁ at r (numberBytes s) → Wrote d d₁ at r (itemBytes c s)
+  number-item e w = rw (item-number e) w
+
+  pub day-item-room : (d : List ℕ) (at : ℕ) → c / 4 % 16 ≡ 10 → Room d at (itemBytes c s) → Room d at (dayBytes s)
+  day-item-room d at e r = rw (item-day e) at r
+
+  pub day-item : {d d₁ : List ℕ} {at r : ℕ} → c / 4 % 16 ≡ 10 → Wrote d d₁ at r (dayBytes s) → Wrote d d₁ at r (itemBytes c s)
+  day-item e w = rw (item-day e) w
+
+  module _ (p : c / 4 % 16 ≡ 6 → ⊥) (r : c / 4 % 16 ≡ 7 → ⊥) (d : c / 4 % 16 ≡ 10 → ⊥) where
+    pub kept-item-room : (out : List ℕ) (at : ℕ) → Room out at (itemBytes c s) → Room out at s
+    kept-item-room out at w = rw (item-kept p r d) at w
+
+    pub kept-item : {out out₁ : List ℕ} {at next : ℕ} → Wrote out out₁ at next s → Wrote out out₁ at next (itemBytes c s)
+    kept-item w = rw (item-kept p r d) w
+
+pub ruleset item-laws = (postal-item-room, postal-item, number-item-room, number-item, day-item-room, day-item, kept-item-room, kept-item)
+
+-- ---- a comma and an item
+
+pub comma-room : (d : List ℕ) (at : ℕ) (w : List ℕ) → Room d at (0x2c ∷ w) → Room d at (0x2c ∷ [])
+comma-room d at w r = omega (arith, r)
+
+pub comma-next : {d d₁ : List ℕ} {at a : ℕ} (w : List ℕ) → Wrote d d₁ at a (0x2c ∷ []) → Room d at (0x2c ∷ w) → Room d₁ a w
+comma-next w x r = omega (arith, x .next, x .size, r)
+
+pub comma-item : {d d₁ d₂ : List ℕ} {at a r : ℕ} (w : List ℕ) → Wrote d d₁ at a (0x2c ∷ []) → Wrote d₁ d₂ a r w → Wrote d d₂ at r (0x2c ∷ w)
+comma-item w x y = then x y
+
+pub ruleset comma-laws = (comma-room, comma-next, comma-item)

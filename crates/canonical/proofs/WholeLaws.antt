@@ -1,0 +1,220 @@
+-- The whole call: line 1, the records, and the copy into the output. One law for each way through the code. Assumes nothing.
+use Prim.Native.Nat.{ℕ, _+_, _-_, _≤_, _<_}
+use native.Mathlib.Omega.{arith}
+use mathlib.Core.Path.{_≡_, refl, sym, ap, _∙_, subst}
+use mathlib.Core.Bool.{Bool, true, false, cond}
+use mathlib.Core.List.{List, [], _∷_, _++_}
+use borrow.Author.Tests.{le-leb, lt-leb, eqb-true, eqb-false}
+use lib.Dec.{leb, eqb}
+use lib.ListN.{length, take, drop, length-append}
+use lib.Seq.{sets, length-sets, length-take-le, take-at}
+use Rattle.lists.specs.Lists.{part, Res, ok, refused}
+use Rattle.characters.specs.declared.Line.{Line}
+use Rattle.characters.specs.declared.Line.the-variants.{Whole, Mark, End, Broken}
+use Rattle.characters.specs.Rows.{rows, flat, lineEnd, WholeLine, LineMeans, LineOf}
+use Rattle.characters.proofs.RowLaws.{flat-rows}
+use Rattle.records.specs.Records.{Record, header}
+use Rattle.order.specs.State.{start}
+use Rattle.buffers.specs.Buffers.{Room, Wrote}
+use Rattle.buffers.proofs.Runs.{then, front, sets-all}
+use Rattle.notebook.specs.Notebook.{Notebook, recordsFrom, notebookOf, readFile}
+use Rattle.notebook.specs.Check.{directionOf, Behind}
+use Rattle.notebook.proofs.ReadLaws.{read-large, read-end, read-mark, read-broken, read-provider, read-patient, read-version, line-1-high, line-1-fits, line-1-behind}
+use Rattle.notebook.proofs.CheckLaws.{line-size, zeros-size}
+use Rattle.canonical.specs.declared.Canonical.{Canonical}
+use Rattle.canonical.specs.declared.Canonical.the-variants.{Written, Refused}
+use Rattle.canonical.specs.Canonical.{headRow, recordRows, canonicalBytes, answered, canonicalOf, bytesOf, bufferAfter, canonicalBuffer}
+use Rattle.canonical.specs.Writing.{Output, poured, PouredMeans, Poured, fileBytes, MadeMeans, MadeOf}
+
+-- ---- line 1
+
+module _ {s : List ℕ} {from : ℕ} (b : Behind s from) where
+  pub first-inside : from ≤ length s
+  first-inside = b .high
+
+  pub first-room : (d : List ℕ) → length d ≡ 65536 → Room d 0 (take (from - 0) (drop 0 s))
+  first-room d z = omega (arith, length-take-le (from - 0) s (omega (arith, b .high)), b .high, b .small, z)
+
+  pub first-size : {d d₁ : List ℕ} {r : ℕ} → length d ≡ 65536 → Wrote d d₁ 0 r (take (from - 0) (drop 0 s)) → length d₁ ≡ 65536
+  first-size z w = w .size ∙ z
+
+  pub first-poured : (x : Res (List Record)) {d d₁ d₂ : List ℕ} {r : ℕ} {c : Canonical} → Wrote d d₁ 0 r (take (from - 0) (drop 0 s)) → Poured (poured d₁ from x) d₂ c
+      → Poured (poured (sets d 0 (part s 0 from)) from x) d₂ c
+  first-poured x w v = rw (w .list) at v
+
+pub ruleset first-laws = (first-inside, first-room, first-size, first-poured)
+
+-- ---- the array
+
+-- line 1, and the records poured behind it
+made : (s d d₁ d₂ : List ℕ) (e r : ℕ) (provider : Bool) (x : Res (List Record)) (c : Canonical) → Wrote d d₁ 0 r (headRow provider) → r ≡ e + 2 → length d ≡ 65536
+    → readFile s ≡ notebookOf provider x → Poured (poured d₁ (e + 2) x) d₂ c → MadeOf (fileBytes (readFile s)) d₂ c
+unfolding poured canonicalBytes
+made s d d₁ d₂ e r provider (refused n line) (Refused m l) w g z q v = record { means = ap fileBytes q ∙ (let y : _≡_ {A = Res (List ℕ)} (refused n line) (refused m l) = cc in y); size = v .size }
+  where
+    u : _≡_ {A = Res Output} (refused n line) (refused m l)
+    u = v .means
+made s d d₁ d₂ e r provider (refused n line) (Written t) w g z q v = absurd (no (v .means .0))
+  where
+    no : _≡_ {A = Res Output} (refused n line) (ok (record { buffer = d₂; end = t })) → ⊥
+    no f = let y : _≡_ {A = ℕ} 0 1 = cc in omega arith
+made s d d₁ d₂ e r provider (ok rs) (Refused m l) w g z q v = absurd (no (v .means))
+  where
+    no : _≡_ {A = Res Output} (ok (record { buffer = sets d₁ (e + 2) (flat (recordRows rs)); end = e + 2 + length (flat (recordRows rs)) })) (refused m l) → ⊥
+    no f = let y : _≡_ {A = ℕ} 0 1 = cc in omega arith
+made s d d₁ d₂ e r provider (ok rs) (Written t) w g z q v = record { means = (ap fileBytes q ∙ ap ok (sym all), omega (arith, v .means .1, v .size)); size = v .size }
+  where
+    rest : List ℕ
+    rest = flat (recordRows rs)
+
+    is : _≡_ {A = Output} (record { buffer = sets d₁ (e + 2) rest; end = e + 2 + length rest }) (record { buffer = d₂; end = t })
+    is = ok-is (v .means .0)
+      where
+        ok-is : {a b : Output} → _≡_ {A = Res Output} (ok a) (ok b) → a ≡ b
+        ok-is f = cc
+
+    behind : Wrote d₁ d₂ r t rest
+    behind =
+        let b : sets d₁ (e + 2) rest ≡ d₂ = ap (λ (o : Output). o .buffer) is in
+        let n : e + 2 + length rest ≡ t = ap (λ (o : Output). o .end) is in
+        record {
+          next = omega (arith, n, g);
+          list = sym (ap (λ (k : ℕ). sets d₁ k rest) g ∙ b);
+          size = v .size ∙ sym (w .size ∙ z);
+          high = omega (arith, v .means .1, w .size, z);
+        }
+
+    all : take t d₂ ≡ headRow provider ++ rest
+    all = front (then w behind) (omega (arith, then w behind .high, then w behind .next))
+
+refused-so : (s d : List ℕ) {n line : ℕ} → length d ≡ 65536 → readFile s ≡ refused n line → MadeOf (fileBytes (readFile s)) d (Refused n line)
+refused-so s d z e = record { means = ap fileBytes e; size = z }
+
+module _ (s d : List ℕ) (z : length d ≡ 65536) where
+  pub into-large : 65536 < length s → MadeOf (fileBytes (readFile s)) d (Refused 1 0)
+  into-large h = refused-so s d z (read-large s h)
+
+  module _ (h : length s ≤ 65536) {stops : List ℕ} {k : Line} (w : LineOf s 0 stops k) where
+    pub into-end : k ≡ End → MadeOf (fileBytes (readFile s)) d (Refused 2 1)
+    into-end e = refused-so s d z (read-end s h w e)
+
+    pub into-mark : k ≡ Mark → MadeOf (fileBytes (readFile s)) d (Refused 2 1)
+    into-mark e = refused-so s d z (read-mark s h w e)
+
+    pub into-broken : k ≡ Broken → MadeOf (fileBytes (readFile s)) d (Refused 2 1)
+    into-broken e = refused-so s d z (read-broken s h w e)
+
+    module _ {e : ℕ} {good : Bool} {n : ℕ} (q : k ≡ Whole e good n) where
+      line : WholeLine s 0 e good
+      line = subst (LineMeans s 0 stops) q (w .means) .line
+
+      -- line 1 with its end
+      first-row : take (e + 2 - 0) s ≡ part s 0 e ++ lineEnd
+      first-row =
+          let l : length (part s 0 e ++ lineEnd) ≡ e + 2 - 0 = length-append (part s 0 e) lineEnd ∙ omega (arith, length-take-le (e - 0) s (omega (arith, line .high))) in
+          let a : s ≡ (part s 0 e ++ lineEnd) ++ flat (rows (drop (e + 2) s)) = sym (flat-rows s) ∙ ap flat (line .cut) in
+          ap (take (e + 2 - 0)) a ∙ take-at (part s 0 e ++ lineEnd) (flat (rows (drop (e + 2) s))) (e + 2 - 0) l
+
+      module _ {f : ℕ} (p : f ≡ directionOf (take (e - 0) (drop 0 s))) where
+        pub into-version : f ≡ 0 → MadeOf (fileBytes (readFile s)) d (Refused 3 1)
+        into-version o = refused-so s d z (read-version s h w q p o)
+
+        -- the array with line 1
+        with-first : List ℕ
+        with-first = sets d 0 (part s 0 (e + 2))
+
+        first-length : length (part s 0 (e + 2)) ≡ e + 2
+        first-length = length-take-le (e + 2 - 0) s (omega (arith, line .high)) ∙ omega arith
+
+        first-wrote : (provider : Bool) → part s 0 e ≡ header provider → Wrote d with-first 0 (e + 2) (headRow provider)
+        unfolding with-first
+        first-wrote provider a =
+            subst (λ (x : List ℕ). Wrote d (sets d 0 (part s 0 (e + 2))) 0 (e + 2) x) (first-row ∙ ap (λ (l : List ℕ). l ++ lineEnd) a) the-wrote
+          where
+            the-wrote : Wrote d (sets d 0 (part s 0 (e + 2))) 0 (e + 2) (part s 0 (e + 2))
+            the-wrote = record { next = omega (arith, first-length); list = refl; size = length-sets d 0 (part s 0 (e + 2)); high = omega (arith, line .high, h, z) }
+
+        pub into-whole : {d₂ : List ℕ} {c : Canonical} → (f ≡ 0 → ⊥) → Poured (poured (sets d 0 (part s 0 (e + 2))) (e + 2) (recordsFrom (start (eqb f 1)) (rows (drop (e + 2) s)))) d₂ c
+            → MadeOf (fileBytes (readFile s)) d₂ c
+        unfolding with-first
+        into-whole {d₂} {c} o v = go (eqb f 1) refl v
+          where
+            by : (provider : Bool) → part s 0 e ≡ header provider → readFile s ≡ notebookOf provider (recordsFrom (start provider) (rows (drop (e + 2) s)))
+                → Poured (poured (sets d 0 (part s 0 (e + 2))) (e + 2) (recordsFrom (start provider) (rows (drop (e + 2) s)))) d₂ c → MadeOf (fileBytes (readFile s)) d₂ c
+            by provider a b v = made s d with-first d₂ e (e + 2) provider (recordsFrom (start provider) (rows (drop (e + 2) s))) c (first-wrote provider a) refl z b v
+
+            go : (b : Bool) → eqb f 1 ≡ b → Poured (poured (sets d 0 (part s 0 (e + 2))) (e + 2) (recordsFrom (start b) (rows (drop (e + 2) s)))) d₂ c → MadeOf (fileBytes (readFile s)) d₂ c
+            go true g v = let y = read-provider s h w q p (eqb-true f 1 g) in by true (y .0) (y .1) v
+            go false g v = let y = read-patient s h w q p o (eqb-false f 1 g) in by false (y .0) (y .1) v
+
+pub ruleset into-laws = (line-size, zeros-size, line-1-high, line-1-fits, line-1-behind, into-large, into-end, into-mark, into-broken, into-version, into-whole)
+
+-- ---- the output
+
+module _ (s d a : List ℕ) {c : Canonical} (m : MadeOf (fileBytes (readFile s)) a c) where
+  means : {j : Canonical} → c ≡ j → MadeMeans (fileBytes (readFile s)) a j
+  means e = subst (MadeMeans (fileBytes (readFile s)) a) e (m .means)
+
+  -- a refusal leaves the output as it was
+  kept : {n line : ℕ} → Refused n line ≡ canonicalOf s (length d) → d ≡ canonicalBuffer s d
+  unfolding canonicalBuffer
+  kept e = ap (λ (x : Canonical). bufferAfter x (bytesOf (readFile s)) d) e
+
+  pub canonical-refused : {n line : ℕ} → c ≡ Refused n line → Refused n line ≡ canonicalOf s (length d)
+  unfolding canonicalOf
+  canonical-refused {n} {line} e = go (readFile s) (means e)
+    where
+      go : (x : Res Notebook) → fileBytes x ≡ refused n line → Refused n line ≡ answered x (length d)
+      go (ok b) q = let y : _≡_ {A = ℕ} 0 1 = cc in absurd (omega arith)
+      go (refused i l) q = let y : _≡_ {A = Canonical} (Refused n line) (Refused i l) = cc in y
+
+  pub canonical-refused-kept : {n line : ℕ} → c ≡ Refused n line → d ≡ canonicalBuffer s d
+  canonical-refused-kept e = kept (canonical-refused e)
+
+  module _ {t : ℕ} (e : c ≡ Written t) where
+    pub canonical-inside : t ≤ length a
+    canonical-inside = means e .1
+
+    file : List ℕ
+    file = take (t - 0) (drop 0 a)
+
+    file-length : length file ≡ t
+    unfolding file
+    file-length = length-take-le (t - 0) a (omega (arith, canonical-inside)) ∙ omega arith
+
+    read : (b : Notebook) × (readFile s ≡ ok b) × (canonicalBytes b ≡ file)
+    unfolding file
+    read = go (readFile s) refl (means e .0)
+      where
+        same-end : t ≡ t - 0
+        same-end = omega arith
+
+        go : (x : Res Notebook) → readFile s ≡ x → fileBytes x ≡ ok (take t a) → (b : Notebook) × (readFile s ≡ ok b) × (canonicalBytes b ≡ take (t - 0) a)
+        go (ok b) q f = (b, q, (let y : canonicalBytes b ≡ take t a = cc in y ∙ ap (λ (n : ℕ). take n a) same-end))
+        go (refused n l) q f = let y : _≡_ {A = ℕ} 0 1 = cc in absurd (omega arith)
+
+    by-room : canonicalOf s (length d) ≡ cond (leb t (length d)) (Written t) (Refused 20 0)
+    unfolding canonicalOf
+    by-room = ap (λ (x : Res Notebook). answered x (length d)) (read .1) ∙ ap (λ (n : ℕ). cond (leb n (length d)) (Written n) (Refused 20 0)) (ap length (read .2) ∙ file-length)
+
+    pub canonical-short : length d < t → Refused 20 0 ≡ canonicalOf s (length d)
+    canonical-short h = sym (by-room ∙ rw (lt-leb t (length d) h))
+
+    pub canonical-short-kept : length d < t → d ≡ canonicalBuffer s d
+    canonical-short-kept h = kept (canonical-short h)
+
+    module _ (h : t ≤ length d) where
+      pub canonical-room : Room d 0 (take (t - 0) (drop 0 a))
+      unfolding file
+      canonical-room = omega (arith, file-length)
+
+      pub canonical-written : Written t ≡ canonicalOf s (length d)
+      canonical-written = sym (by-room ∙ rw (le-leb t (length d) h))
+
+      pub canonical-buffer : {d′ : List ℕ} {r : ℕ} → Wrote d d′ 0 r (take (t - 0) (drop 0 a)) → d′ ≡ canonicalBuffer s d
+      unfolding canonicalBuffer file
+      canonical-buffer w =
+          w .list ∙ sets-all file d (omega (arith, file-length)) ∙ ap (λ (x : List ℕ). x ++ drop (length x) d) (sym (ap bytesOf (read .1) ∙ read .2))
+          ∙ ap (λ (x : Canonical). bufferAfter x (bytesOf (readFile s)) d) canonical-written
+
+pub ruleset canonical-laws = (canonical-refused, canonical-refused-kept, canonical-inside, canonical-short, canonical-short-kept, canonical-room, canonical-written, canonical-buffer)
