@@ -1,18 +1,26 @@
-// How programs write a reply to standard output.
+// How programs write a reply: to standard output; where that is for a file, a refusal goes to standard error.
 use libc::STDOUT_FILENO;
 
-// A space and the number.
+// A space and the number, to a file descriptor.
+fn number_to(fd: i32, n: u64) {
+    io::write_all(fd, b" ");
+    io::print_decimal(fd, n);
+}
+
 pub fn write_number(n: u64) {
-    io::write_all(STDOUT_FILENO, b" ");
-    io::print_decimal(STDOUT_FILENO, n);
+    number_to(STDOUT_FILENO, n);
 }
 
 // `no` and the refusal's number and line; single spaces, then 0Ah.
+pub fn refusal_to(fd: i32, r: gateway::Reply) {
+    io::write_all(fd, b"no");
+    number_to(fd, r.refusal);
+    number_to(fd, r.line);
+    io::write_all(fd, b"\n");
+}
+
 pub fn write_refusal(r: gateway::Reply) {
-    io::write_all(STDOUT_FILENO, b"no");
-    write_number(r.refusal);
-    write_number(r.line);
-    io::write_all(STDOUT_FILENO, b"\n");
+    refusal_to(STDOUT_FILENO, r);
 }
 
 // `ok` and the counts of records, groups and drugs, or the refusal; single spaces, then 0Ah.

@@ -5,17 +5,28 @@ use Rattle.notebook.specs.declared.Checked.{Checked}
 use Rattle.notebook.specs.declared.Checked.the-variants.{Accepted, Refused}
 use Rattle.index.specs.declared.Indexed.{Indexed}
 use Rattle.index.specs.declared.Indexed.the-variants.{Written, Refused as IndexRefused}
+use Rattle.canonical.specs.declared.Canonical.{Canonical}
+use Rattle.canonical.specs.declared.Canonical.the-variants.{Written as CanonicalWritten, Refused as CanonicalRefused}
 use Rattle.gateway.specs.declared.Reply.{Reply}
 
 abbrev pub refusal : ℕ → ℕ → Reply
 refusal n line = record { refusal = n; line = line; a = 0; b = 0; c = 0 }
 
+-- refusal 0: accepted
+abbrev pub result : ℕ → ℕ → ℕ → Reply
+result a b c = record { refusal = 0; line = 0; a = a; b = b; c = c }
+
 -- "Check returns the counts of records, groups and 201s": a records, b groups, c drugs
 abbrev pub checkReply : Checked → Reply
-checkReply (Accepted records groups drugs) = record { refusal = 0; line = 0; a = records; b = groups; c = drugs }
+checkReply (Accepted records groups drugs) = result records groups drugs
 checkReply (Refused n line) = refusal n line
 
 -- "index the count of records": a records
 abbrev pub indexReply : Indexed → Reply
-indexReply (Written records) = record { refusal = 0; line = 0; a = records; b = 0; c = 0 }
+indexReply (Written records) = result records 0 0
 indexReply (IndexRefused n line) = refusal n line
+
+-- "canonical and join the bytes written": a bytes
+abbrev pub canonicalReply : Canonical → Reply
+canonicalReply (CanonicalWritten bytes) = result bytes 0 0
+canonicalReply (CanonicalRefused n line) = refusal n line

@@ -1,10 +1,11 @@
 // The exported calls, for C and Rust. Every call takes any input, asks nothing of it, and returns one struct by value, so that a
 // refusal touches no lent memory. What each reply means: specs/Replies.antt.
 ghost use mathlib.Core.Path.{_≡_};
-ghost use Rattle.notebook.specs.Check.{checkOf};
 ghost use lib.ListN.{length};
+ghost use Rattle.notebook.specs.Check.{checkOf};
 ghost use Rattle.index.specs.Index.{indexOf, indexBuffer};
-ghost use Rattle.gateway.specs.Replies.{checkReply, indexReply};
+ghost use Rattle.canonical.specs.Canonical.{canonicalOf, canonicalBuffer};
+ghost use Rattle.gateway.specs.Replies.{refusal, result, checkReply, indexReply, canonicalReply};
 
 // refusal: document 01's number, 0 for accepted. line: the refusal's line. a, b, c: the values of the call's result.
 #[repr(C)]
@@ -16,24 +17,36 @@ pub struct Reply {
     pub c: u64,
 }
 
+fn refused(number: u32, line: u32) -> Reply
+    ensures { λ r. ⌜ r ≡ refusal number line ⌝ }
+{
+    Reply {
+        refusal: number as u64,
+        line: line as u64,
+        a: 0,
+        b: 0,
+        c: 0,
+    }
+}
+
+fn accepted(a: u32, b: u32, c: u32) -> Reply
+    ensures { λ r. ⌜ r ≡ result a b c ⌝ }
+{
+    Reply {
+        refusal: 0,
+        line: 0,
+        a: a as u64,
+        b: b as u64,
+        c: c as u64,
+    }
+}
+
 fn check_answer(c: notebook::Checked) -> Reply
     ensures { λ r. ⌜ r ≡ checkReply c ⌝ }
 {
     match c {
-        notebook::Checked::Accepted(records, groups, drugs) => Reply {
-            refusal: 0,
-            line: 0,
-            a: records as u64,
-            b: groups as u64,
-            c: drugs as u64,
-        },
-        notebook::Checked::Refused(number, line) => Reply {
-            refusal: number as u64,
-            line: line as u64,
-            a: 0,
-            b: 0,
-            c: 0,
-        },
+        notebook::Checked::Accepted(records, groups, drugs) => accepted(records, groups, drugs),
+        notebook::Checked::Refused(number, line) => refused(number, line),
     }
 }
 
@@ -49,20 +62,8 @@ fn index_answer(i: index::Indexed) -> Reply
     ensures { λ r. ⌜ r ≡ indexReply i ⌝ }
 {
     match i {
-        index::Indexed::Written(records) => Reply {
-            refusal: 0,
-            line: 0,
-            a: records as u64,
-            b: 0,
-            c: 0,
-        },
-        index::Indexed::Refused(number, line) => Reply {
-            refusal: number as u64,
-            line: line as u64,
-            a: 0,
-            b: 0,
-            c: 0,
-        },
+        index::Indexed::Written(records) => accepted(records, 0, 0),
+        index::Indexed::Refused(number, line) => refused(number, line),
     }
 }
 
@@ -74,4 +75,23 @@ pub extern "C" fn notebook_index(file: &[u8], out: &mut [u32]) -> Reply
     ensures buffer { λ _. ⌜ now (out .exit) ≡ indexBuffer (now (file .entry)) (now (out .entry)) ⌝ }
 {
     index_answer(index::index(file, out))
+}
+
+fn canonical_answer(w: canonical::Canonical) -> Reply
+    ensures { λ r. ⌜ r ≡ canonicalReply w ⌝ }
+{
+    match w {
+        canonical::Canonical::Written(bytes) => accepted(bytes, 0, 0),
+        canonical::Canonical::Refused(number, line) => refused(number, line),
+    }
+}
+
+// Writes the canonical file from the front of the buffer on and keeps what lies behind it: a bytes; or the one refusal with its line, and
+// the whole buffer as it was.
+#[no_mangle]
+pub extern "C" fn notebook_canonical(file: &[u8], out: &mut [u8]) -> Reply
+    ensures reply { λ r. ⌜ r ≡ canonicalReply (canonicalOf (now (file .entry)) (length (now (out .entry)))) ⌝ }
+    ensures buffer { λ _. ⌜ now (out .exit) ≡ canonicalBuffer (now (file .entry)) (now (out .entry)) ⌝ }
+{
+    canonical_answer(canonical::canonical_file(file, out))
 }
