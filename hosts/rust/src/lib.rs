@@ -1,5 +1,5 @@
-//! The gateway's ordinary-Rust side: `ordinary` checks notebook files by document 01 without any proof, `sample` makes
-//! files, `damage` spoils them, `library` calls the proved static library. The programs `bench` and `compare` use all four.
+//! The gateway's ordinary-Rust side: `ordinary` has the five calls by document 01 without any proof, `sample` makes files,
+//! `damage` spoils them, `library` calls the proved static library. The programs `bench` and `compare` use all four.
 
 #![deny(unsafe_code)]
 // Days are written YYYY_MM_DD.
