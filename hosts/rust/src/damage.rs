@@ -1,5 +1,5 @@
-//! Files to compare checkers on: samples with damage of many kinds, and random walks through the order of records. Seed
-//! and index give the same file on every machine.
+//! Files to compare implementations on: samples with damage of many kinds, and random walks through the order of records.
+//! Seed and index give the same file on every machine.
 
 use crate::random::Random;
 use crate::sample;
@@ -18,8 +18,7 @@ impl Default for Damage {
 impl Damage {
     /// The file of this seed and index: one time in eight without damage, else with one to three damages.
     pub fn file(&self, seed: u64, index: u64) -> Vec<u8> {
-        let mut random = Random::new(seed.wrapping_mul(0x9E37_79B9_7F4A_7C15) ^ index.wrapping_mul(0xD134_2543_DE82_EF95));
-        random.below(1);
+        let mut random = Random::of(seed, index);
         let mut file = match random.below(64) {
             0 => return random_bytes(&mut random, 200),
             1 => self.samples[4].clone(),
@@ -35,6 +34,12 @@ impl Damage {
             }
         }
         file
+    }
+
+    /// A sample without damage; once in thirty-two the large one.
+    pub fn sample(&self, random: &mut Random) -> Vec<u8> {
+        let sample = if random.once_in(32) { 4 } else { random.below(4) };
+        self.samples[sample].clone()
     }
 }
 
@@ -54,7 +59,7 @@ const ITEMS: &[&[u8]] = &[
 ];
 
 /// Damages the file once. A file without lines stays as it is under damages of lines.
-fn damage(random: &mut Random, file: &mut Vec<u8>) {
+pub fn damage(random: &mut Random, file: &mut Vec<u8>) {
     match random.below(22) {
         0 => change(random, file, |random| random.below(256) as u8),
         1 => change(random, file, |random| BYTES[random.below(BYTES.len())]),

@@ -1,36 +1,107 @@
-//! Measures `notebook_check` of the gateway library against the ordinary checker on the same files: the calls take turns,
-//! and the table gives minimum and median time of a call, the speed at the median, and the ratios library / ordinary.
+//! Measures the calls of the gateway library against the ordinary implementation on the same inputs, in turn, and prints a
+//! table: minimum and median time of a call, nanoseconds per byte of its input at the median, and the ratios library /
+//! ordinary. `bench CALL..` measures the named calls alone.
 
-use notebook_hosts::ordinary::{self, Counts, Refusal};
-use notebook_hosts::{library, sample};
+use notebook_hosts::division::MOST_PIECES_BYTES;
+use notebook_hosts::library::{self, Reply};
+use notebook_hosts::{ordinary, sample};
 use std::hint::black_box;
 use std::time::Instant;
-
-type Check = fn(&[u8]) -> Result<Counts, Refusal>;
 
 const ROUNDS: usize = 1_001;
 const WARM_UP_ROUNDS: usize = 100;
 
+/// Bytes of a piece: some 130 pieces for the largest sample.
+const CAPACITY: u64 = 500;
+const ID: &[u8] = b"20161115000001";
+
 fn main() {
-    println!("bytes  checker   minimum us  median us  MB/s at median  ratio of minima  ratio of medians");
-    for target in [1_000, 4_000, 16_000, 60_000] {
-        let file = sample::sized(target);
-        let ordinary = ordinary::check(&file);
-        assert!(ordinary.is_ok(), "the sample of {target} bytes is accepted");
-        if library::LINKED {
-            assert_eq!(ordinary, library::check(&file), "both checkers answer alike");
-            let [ours, theirs] = measure(&file, [ordinary::check, library::check]);
-            row(&file, "ordinary", &ours, "");
-            let ratios = format!("{:>15.2}  {:>16.2}", theirs.minimum / ours.minimum, theirs.median / ours.median);
-            row(&file, "library", &theirs, &ratios);
-        } else {
-            let [ours] = measure(&file, [ordinary::check]);
-            row(&file, "ordinary", &ours, "");
+    let wanted: Vec<String> = std::env::args().skip(1).collect();
+    let measured = |call: &str| wanted.is_empty() || wanted.iter().any(|name| name == call);
+    println!("call       bytes  code      minimum us  median us  ns/byte  ratio of minima  ratio of medians");
+    for call in ["check", "index", "canonical", "cut", "join"].into_iter().filter(|call| measured(call)) {
+        for target in [1_000, 4_000, 16_000, 60_000] {
+            let file = sample::sized(target);
+            match call {
+                "check" => compare(
+                    call,
+                    &file,
+                    library::LINKED,
+                    0,
+                    |file, _: &mut [u8]| ordinary::check(file).into(),
+                    |file, _| library::check(file).into(),
+                ),
+                "index" => compare(
+                    call,
+                    &file,
+                    library::LINKED,
+                    6 * 8_192,
+                    |file, out: &mut [u32]| ordinary::index(file, out).into(),
+                    |file, out| library::index(file, out).into(),
+                ),
+                "canonical" => compare(
+                    call,
+                    &file,
+                    library::CANONICAL,
+                    65_536,
+                    |file, out: &mut [u8]| ordinary::canonical(file, out).into(),
+                    |file, out| library::canonical(file, out).into(),
+                ),
+                "cut" => compare(
+                    call,
+                    &file,
+                    library::DIVISION,
+                    MOST_PIECES_BYTES,
+                    |file, out: &mut [u8]| ordinary::cut(file, CAPACITY, ID, out).into(),
+                    |file, out| library::cut(file, CAPACITY, ID, out).into(),
+                ),
+                _ => compare(
+                    call,
+                    &last_piece_first(&file),
+                    library::DIVISION,
+                    65_536,
+                    |input, out: &mut [u8]| ordinary::join(input, out).into(),
+                    |input, out| library::join(input, out).into(),
+                ),
+            }
         }
     }
-    if !library::LINKED {
-        println!("built without NOTEBOOK_LIB_DIR: the library is not measured");
+}
+
+/// The pieces of a file from the last to the first.
+fn last_piece_first(file: &[u8]) -> Vec<u8> {
+    let mut out = vec![0; MOST_PIECES_BYTES];
+    let cut = ordinary::cut(file, CAPACITY, ID, &mut out).expect("the sample can be cut");
+    let lines: Vec<&[u8]> = out[..cut.bytes as usize].split_inclusive(|&byte| byte == b'\n').collect();
+    let mut pieces: Vec<&[&[u8]]> = lines.chunk_by(|_, next| !next.starts_with(b"JAHISTC04,")).collect();
+    pieces.reverse();
+    pieces.concat().concat()
+}
+
+/// Measures one call on one input and prints its rows; without the library only that of the ordinary implementation.
+fn compare<T: Copy + Default + PartialEq>(
+    call: &str,
+    input: &[u8],
+    linked: bool,
+    length: usize,
+    ordinary: fn(&[u8], &mut [T]) -> Reply,
+    library: fn(&[u8], &mut [T]) -> Reply,
+) {
+    let mut buffer = vec![T::default(); length];
+    let reply = ordinary(input, &mut buffer);
+    assert_eq!(reply.refusal, 0, "the sample is accepted");
+    if !linked {
+        let [ours] = measure(input, &mut buffer, [ordinary]);
+        row(call, input.len(), "ordinary", &ours, "");
+        return;
     }
+    let mut library_buffer = vec![T::default(); length];
+    assert_eq!(reply, library(input, &mut library_buffer), "both answer alike");
+    assert!(buffer == library_buffer, "both write alike");
+    let [ours, theirs] = measure(input, &mut buffer, [ordinary, library]);
+    row(call, input.len(), "ordinary", &ours, "");
+    let ratios = format!("{:>15.2}  {:>16.2}", theirs.minimum / ours.minimum, theirs.median / ours.median);
+    row(call, input.len(), "library", &theirs, &ratios);
 }
 
 /// Microseconds of one call.
@@ -39,18 +110,18 @@ struct Times {
     median: f64,
 }
 
-/// Times each check in turn, round after round. A round repeats the call on a small file, so that the clock's own time
+/// Times each call in turn, round after round. A round repeats the call on a small input, so that the clock's own time
 /// stays small beside it.
-fn measure<const N: usize>(file: &[u8], checks: [Check; N]) -> [Times; N] {
-    let calls = 60_000_usize.div_ceil(file.len());
-    let mut times = checks.map(|_| Vec::with_capacity(ROUNDS));
+fn measure<T, const N: usize>(input: &[u8], out: &mut [T], calls: [fn(&[u8], &mut [T]) -> Reply; N]) -> [Times; N] {
+    let repeats = 60_000_usize.div_ceil(input.len());
+    let mut times = calls.map(|_| Vec::with_capacity(ROUNDS));
     for round in 0..WARM_UP_ROUNDS + ROUNDS {
-        for (check, times) in checks.iter().zip(&mut times) {
+        for (call, times) in calls.iter().zip(&mut times) {
             let start = Instant::now();
-            for _ in 0..calls {
-                let _ = black_box(check(black_box(file)));
+            for _ in 0..repeats {
+                black_box(call(black_box(input), black_box(&mut *out)));
             }
-            let time = start.elapsed().as_secs_f64() * 1e6 / calls as f64;
+            let time = start.elapsed().as_secs_f64() * 1e6 / repeats as f64;
             if round >= WARM_UP_ROUNDS {
                 times.push(time);
             }
@@ -62,13 +133,9 @@ fn measure<const N: usize>(file: &[u8], checks: [Check; N]) -> [Times; N] {
     })
 }
 
-fn row(file: &[u8], checker: &str, times: &Times, ratios: &str) {
-    let speed = file.len() as f64 / times.median;
-    let line = format!(
-        "{:>5}  {checker:<8}  {:>10.2}  {:>9.2}  {speed:>14.0}  {ratios}",
-        file.len(),
-        times.minimum,
-        times.median,
-    );
+fn row(call: &str, bytes: usize, code: &str, times: &Times, ratios: &str) {
+    let per_byte = 1_000.0 * times.median / bytes as f64;
+    let (minimum, median) = (times.minimum, times.median);
+    let line = format!("{call:<9}  {bytes:>5}  {code:<8}  {minimum:>10.2}  {median:>9.2}  {per_byte:>7.2}  {ratios}");
     println!("{}", line.trim_end());
 }

@@ -15,6 +15,8 @@ mod items;
 mod join;
 mod order;
 mod records;
+#[cfg(test)]
+mod reference;
 mod stack;
 #[cfg(test)]
 mod tests;
