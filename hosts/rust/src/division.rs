@@ -278,21 +278,24 @@ mod tests {
     fn inputs_reach_every_refusal_of_cut_and_join() {
         let files = Damage::default();
         let (mut cut, mut join) = ([0; 21], [0; 21]);
+        let (mut large_joined, mut large_input) = (false, false);
         let mut out = vec![0; MOST_PIECES_BYTES];
         for index in 0..20_000 {
             let damaged = files.file(1, index);
             let input = CutInput::new(1, index, &damaged, &files);
             let answer = ordinary::cut(&input.file, input.capacity, &input.id, &mut out);
             cut[answer.map_or_else(|refusal| usize::from(refusal.number), |_| 0)] += 1;
-            let answer = ordinary::join(&join_input(1, index, &damaged, &files), &mut out[..65_536]);
-            join[answer.map_or_else(|refusal| usize::from(refusal.number), |_| 0)] += 1;
+            let input = join_input(1, index, &damaged, &files);
+            let answer = ordinary::join(&input, &mut out[..65_536]);
+            let number = answer.map_or_else(|refusal| usize::from(refusal.number), |_| 0);
+            join[number] += 1;
+            large_joined |= number == 1 && input.len() <= MOST_PIECES_BYTES;
+            large_input |= number == 1 && input.len() > MOST_PIECES_BYTES;
         }
         // The buffers are long enough, so 20 is left out. A joined file has a line 1 and no 911: never 3 and 6.
         assert!(cut[..=18].iter().all(|&count| count > 0), "{cut:?}");
-        assert!(
-            [0, 1, 2, 4, 5, 19].iter().chain(&(7..=16).collect::<Vec<_>>()).all(|&number: &usize| join[number] > 0),
-            "{join:?}"
-        );
+        assert!([0, 1, 2, 4, 5, 19].into_iter().chain(7..=16).all(|number| join[number] > 0), "{join:?}");
         assert!(join[3] == 0 && join[6] == 0);
+        assert!(large_joined && large_input);
     }
 }

@@ -78,14 +78,17 @@ fn last_piece_first(file: &[u8]) -> Vec<u8> {
     pieces.concat().concat()
 }
 
+/// A call with its input and its buffer.
+type Call<T> = fn(&[u8], &mut [T]) -> Reply;
+
 /// Measures one call on one input and prints its rows; without the library only that of the ordinary implementation.
 fn compare<T: Copy + Default + PartialEq>(
     call: &str,
     input: &[u8],
     linked: bool,
     length: usize,
-    ordinary: fn(&[u8], &mut [T]) -> Reply,
-    library: fn(&[u8], &mut [T]) -> Reply,
+    ordinary: Call<T>,
+    library: Call<T>,
 ) {
     let mut buffer = vec![T::default(); length];
     let reply = ordinary(input, &mut buffer);
@@ -112,7 +115,7 @@ struct Times {
 
 /// Times each call in turn, round after round. A round repeats the call on a small input, so that the clock's own time
 /// stays small beside it.
-fn measure<T, const N: usize>(input: &[u8], out: &mut [T], calls: [fn(&[u8], &mut [T]) -> Reply; N]) -> [Times; N] {
+fn measure<T, const N: usize>(input: &[u8], out: &mut [T], calls: [Call<T>; N]) -> [Times; N] {
     let repeats = 60_000_usize.div_ceil(input.len());
     let mut times = calls.map(|_| Vec::with_capacity(ROUNDS));
     for round in 0..WARM_UP_ROUNDS + ROUNDS {

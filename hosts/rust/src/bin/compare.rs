@@ -180,8 +180,9 @@ struct Run {
 impl Run {
     fn check(&self, tally: &mut Tally, file: &[u8]) {
         let (ours, theirs) = (Reply::from(ordinary::check(file)), replies::check(file));
-        tally.counts[ours.refusal as usize] += 1;
-        if ours != theirs {
+        if ours == theirs {
+            tally.counts[ours.refusal as usize] += 1;
+        } else {
             self.tell(tally, &[file], &Difference { length: 0, ours, theirs, place: None });
         }
     }
@@ -205,6 +206,7 @@ impl Run {
 
     /// Shows the first difference of a call, with the whole input.
     fn tell(&self, tally: &mut Tally, input: &[&[u8]], difference: &Difference) {
+        tally.counts[difference.ours.refusal as usize] += 1;
         tally.differences += 1;
         if tally.differences > 1 {
             return;

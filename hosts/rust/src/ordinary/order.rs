@@ -47,7 +47,7 @@ impl Order {
     }
 
     /// One record: 12 (the usage name), 13, 14, 15, 16.
-    #[inline(always)]
+    #[inline]
     pub(super) fn step(&mut self, record: Record) -> Result<(), u8> {
         let number = record.number;
         rule(!(record.no_usage_name && self.asks_usage_name(record.material)), PAIR)?;
@@ -120,7 +120,7 @@ impl Order {
     }
 
     /// Whether a record can stand after the last one.
-    #[inline(always)]
+    #[inline]
     fn may_stand(&self, number: u16) -> bool {
         let to_patient = self.to_patient();
         match self.last {
