@@ -91,7 +91,7 @@ text-of (a ∷ t) u e = go (isStop a) refl (text-of t u) e
 
 -- ---- a whole line is the first row, and is a line
 
-rows-line : (t r : List ℕ) → clean t ≡ true → rows (t ++ 0x0d ∷ 0x0a ∷ r) ≡ (t ++ lineEnd) ∷ rows r
+pub rows-line : (t r : List ℕ) → clean t ≡ true → rows (t ++ 0x0d ∷ 0x0a ∷ r) ≡ (t ++ lineEnd) ∷ rows r
 rows-line [] r e = refl
 rows-line (a ∷ t) r e = go (isStop a) refl (rows-line t r) e
   where

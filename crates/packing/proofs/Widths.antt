@@ -1,19 +1,19 @@
 -- The plan of a cutting: what it finds is a division, and no division has fewer pieces, so that where the plan finds none there is none.
 -- Assumes nothing.
 use Prim.Native.Nat.{ℕ, zero, suc, _+_, _≤_, _<_}
-use mathlib.Core.Path.{_≡_, refl, sym, ap, _∙_, subst}
-use mathlib.Core.Logic.{_⊎_, inl, inr}
+use mathlib.Core.Path.{_≡_, refl, sym, ap, subst}
+use mathlib.Core.Logic.{inr}
 use mathlib.Core.Bool.{Bool, true, false, _&&_, false≢true}
 use mathlib.Core.Option.{Option, none, some}
-use mathlib.Core.List.{List, [], _∷_, _++_, append-nil}
+use mathlib.Core.List.{List, [], _∷_, append-nil}
 use native.Mathlib.Omega.{arith}
 use native.Mathlib.Nat.{le-refl}
 use borrow.Author.Tests.{leb-true, leb-false, le-leb, lt-leb, eqb-true, eqb-false, eq-eqb, ne-eqb}
-use lib.Dec.{leb, ltb, eqb}
+use lib.Dec.{leb, eqb}
 use lib.ListN.{length}
 use Rattle.packing.specs.Packing.{total, concat, pack, Fits}
 use Rattle.packing.specs.Widths.{past, digitsOf, over, Plan, whole, split, fails, serves, tries, plan}
-use Rattle.packing.proofs.Packing.{Way, done, stay, next, Found, Pairs, lighter, ahead, pack-good, Holds, Taken, Good, way-of, pairs-same, pack-none}
+use Rattle.packing.proofs.Packing.{Way, Found, lighter, ahead, pack-good, Taken, Good, way-of, pairs-same, pack-none}
 
 -- a division into two or more pieces for the capacity
 pub record Divides {A : Type 0} (len : A → ℕ) (c : ℕ) (rs : List A) (xs : List (List A)) : Type 0 where

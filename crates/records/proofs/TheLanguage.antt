@@ -8,6 +8,7 @@ use lib.ListN.{length}
 use Rattle.lists.specs.Lists.{bytes, same}
 use Rattle.lists.proofs.Tests.{same-true}
 use Rattle.digits.specs.Digits.{spell}
+use Rattle.characters.specs.Text.{clean}
 use Rattle.records.specs.Split.{itemsOf}
 use Rattle.records.specs.Table.{table}
 use Rattle.records.specs.Records.{Record, Read, ok, readLine, write, lineFault, faultWhere, faultFrom, rowOf, rowIn, t911, firstOf, isMark, header}
@@ -24,10 +25,16 @@ module _ (provider : Bool) (l : List ℕ) (r : Record) (e : readLine provider l 
   is-good : Good provider l r
   is-good = line-read provider l r e
 
-  round : readLine provider (write r) ≡ ok r
+  pub round : readLine provider (write r) ≡ ok r
   round = reads provider (write r) (is-good .again) ∙ ap ok (is-good .same)
 
-  no-header : (d : Bool) → same l (header d) ≡ false
+  pub short : length (write r) ≤ length l
+  short = is-good .short
+
+  pub clear : clean l ≡ true
+  clear = is-good .clean
+
+  pub no-header : (d : Bool) → same l (header d) ≡ false
   no-header d = go (same l (header d)) refl
     where
       go : (b : Bool) → same l (header d) ≡ b → b ≡ false
@@ -37,7 +44,7 @@ module _ (provider : Bool) (l : List ℕ) (r : Record) (e : readLine provider l 
           absurd (omega arith)
       go false q = refl
 
-  no-mark : isMark l ≡ false
+  pub no-mark : isMark l ≡ false
   unfolding isMark
   no-mark = ap (λ (x : List (List ℕ)). same (firstOf x) t911) (is-good .cut) ∙ is-good .sound .no-mark
 
@@ -47,7 +54,7 @@ notebookLanguage = record {
   read = readLine;
   write = write;
   round = round;
-  short = λ provider l r e. is-good provider l r e .short;
-  clear = λ provider l r e. is-good provider l r e .clean;
+  short = short;
+  clear = clear;
   plain = λ provider l r e. (no-header provider l r e, no-mark provider l r e);
 }
