@@ -3,7 +3,7 @@
 use Prim.Native.Nat.{ℕ, zero, suc, _+_, _≤_, _<_}
 use mathlib.Core.Path.{_≡_, refl, sym, ap, subst}
 use mathlib.Core.Logic.{inr}
-use mathlib.Core.Bool.{Bool, true, false, _&&_, false≢true}
+use mathlib.Core.Bool.{Bool, true, false, cond, _&&_, false≢true}
 use mathlib.Core.Option.{Option, none, some}
 use mathlib.Core.List.{List, [], _∷_, append-nil}
 use native.Mathlib.Omega.{arith}
@@ -11,6 +11,7 @@ use native.Mathlib.Nat.{le-refl}
 use borrow.Author.Tests.{leb-true, leb-false, le-leb, lt-leb, eqb-true, eqb-false, eq-eqb, ne-eqb}
 use lib.Dec.{leb, eqb}
 use lib.ListN.{length}
+use Rattle.digits.specs.Digits.{digitCount}
 use Rattle.packing.specs.Packing.{total, concat, pack, Fits}
 use Rattle.packing.specs.Widths.{past, digitsOf, over, Plan, whole, split, fails, serves, tries, plan}
 use Rattle.packing.proofs.Packing.{Way, Found, lighter, ahead, pack-good, Taken, Good, way-of, pairs-same, pack-none}
@@ -71,6 +72,16 @@ digits-3 n g h = omega (arith, past-from 9 n (omega arith), past-from 99 n g, pa
 pub digits-4 : (n : ℕ) → 999 < n → digitsOf n ≡ 4
 unfolding digitsOf
 digits-4 n g = omega (arith, past-from 9 n (omega arith), past-from 99 n (omega arith), past-from 999 n g)
+
+-- as many as spell it
+pub digits-count : (n : ℕ) → n ≤ 999 → digitsOf n ≡ digitCount n
+unfolding digitCount
+digits-count n h = go (leb n 9) refl (leb n 99) refl
+  where
+    go : (a : Bool) → leb n 9 ≡ a → (b : Bool) → leb n 99 ≡ b → digitsOf n ≡ cond a 1 (cond b 2 3)
+    go true p b q = digits-1 n (leb-true _ _ p)
+    go false p true q = digits-2 n (leb-false _ _ p) (leb-true _ _ q)
+    go false p false q = digits-3 n (leb-false _ _ q) h
 
 pub digits-1000 : (n : ℕ) → digitsOf n ≤ 3 → n ≤ 999
 unfolding digitsOf
