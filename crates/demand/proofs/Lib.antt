@@ -1,0 +1,3 @@
+pub mod Orders
+pub mod Parts
+pub mod Own

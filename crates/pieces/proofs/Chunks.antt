@@ -127,7 +127,7 @@ chunk-rows e (x ∷ xs) (h, t) =
     ∙ ap (λ (rs : List (List ℕ)). x .rows ++ rs) (chunk-rows (x .ended) xs t))
 
 -- and back: the bytes of these rows
-flat-append : (xs ys : List (List ℕ)) → flat (xs ++ ys) ≡ flat xs ++ flat ys
+pub flat-append : (xs ys : List (List ℕ)) → flat (xs ++ ys) ≡ flat xs ++ flat ys
 flat-append [] ys = refl
 flat-append (x ∷ xs) ys = ap (λ (t : List ℕ). x ++ t) (flat-append xs ys) ∙ sym (append-assoc x (flat xs) (flat ys))
 
