@@ -48,7 +48,7 @@ unfolding recordRows
 lines-written none = none
 lines-written (more x xs) = more (row-written x) (lines-written xs)
 
-lines-short : {d : Bool} {rs : List Record} {ls : List (List ℕ)} → Lines d rs ls → length (flat (recordRows rs)) ≤ length (flat ls)
+pub lines-short : {d : Bool} {rs : List Record} {ls : List (List ℕ)} → Lines d rs ls → length (flat (recordRows rs)) ≤ length (flat ls)
 unfolding recordRows
 lines-short none = le-refl 0
 lines-short (more {r = r} {l = l} {rs = rs} {ls = ls} x xs) =

@@ -1,3 +1,4 @@
 pub mod Orders
 pub mod Parts
 pub mod Own
+pub mod Fewest

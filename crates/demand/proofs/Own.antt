@@ -192,7 +192,7 @@ module _ (d : Bool) (i : List ℕ) (ys : List (List (List ℕ))) (v : validID i 
       join-many (map pieceOf (map chunkOf ps)) (omega (arith, map-length pieceOf (map chunkOf ps), map-length chunkOf ps))
       ∙ ap joinParts (own-parts ps o)
       ∙ join-alike d i (length ys) ps (concat ys) (perm-all (Alike d i (length ys)) w (parts-alike d i (length ys) 1 ys)) two l
-        (gather-perm (length ys) 1 w (parts-distinct d i (length ys) ys 1) ∙ gather-parts d i (length ys) ys)
+      (gather-perm (length ys) 1 w (parts-distinct d i (length ys) ys 1) ∙ gather-parts d i (length ys) ys)
 
   joined-own : (ps : List Part) → Perm (parts d i (length ys) 1 ys) ps → length (flat (map bytesOf ps)) ≤ 131072
       → joinedFile (flat (map bytesOf ps)) ≡ ok (headRow d ++ flat (concat ys))

@@ -143,6 +143,9 @@ module _ (l : List ℕ) (m : Mark) (e : readMark l ≡ some m) where
   pub read-count : m .count ≤ 999
   read-count = number-length (items-read .n) (m .count) (items-read .count) .1
 
+  pub read-place : m .place ≤ 999
+  read-place = number-length (items-read .k) (m .place) (items-read .place) .1
+
   -- NO SPELLING OF IT IS SHORTER than what the packing counts for it
   pub read-length : 3 + 1 + 14 + 1 + digitCount (m .count) + 1 + digitCount (m .place) ≤ length l
   unfolding t911
