@@ -1,6 +1,6 @@
 -- Every sound list has at least as many pieces as the list that cutting finds. A sound list is a division of the joined rows, each row no
 -- shorter than its canonical row, so the packing of the canonical rows is ahead of it. Assumes nothing.
-use Prim.Native.Nat.{ℕ, zero, suc, _+_, _≤_, _<_}
+use Prim.Native.Nat.{ℕ, suc, _+_, _≤_}
 use native.Mathlib.Omega.{arith}
 use native.Mathlib.Nat.{le-refl}
 use mathlib.Core.Path.{_≡_, refl, sym, ap, _∙_, subst}
@@ -15,8 +15,8 @@ use Rattle.characters.specs.Text.{text}
 use Rattle.characters.specs.Rows.{flat, lineEnd}
 use Rattle.records.specs.Records.{Record}
 use Rattle.notebook.specs.Notebook.{Notebook, readFile}
-use Rattle.canonical.specs.Canonical.{headRow, recordRows, canonicalBytes}
-use Rattle.canonical.proofs.Accepted.{no-refusal, IsLine, line-bytes, Lines, none as noLines, more, LinesRead, lines-read}
+use Rattle.canonical.specs.Canonical.{recordRows, canonicalBytes}
+use Rattle.canonical.proofs.Accepted.{no-refusal, line-bytes, Lines, none as noLines, more, LinesRead, lines-read}
 use Rattle.canonical.proofs.CanonicalLaws.{row-short, lines-short}
 use Rattle.packing.specs.Packing.{total, concat, Fits}
 use Rattle.packing.specs.Widths.{digitsOf, over, Plan, whole, split as divided, fails, plan}
@@ -29,7 +29,7 @@ use Rattle.cut.specs.Cut.{numbered, planned, cutting}
 use Rattle.join.specs.Join.{unmarked, Part, partsOf, joinParts, joinPieces, orSet, joinSplit, joinedFile, checkedFile, thenChecked, joinFile}
 use Rattle.demand.specs.Demand.{OnePiece, Within, Sound}
 use Rattle.demand.proofs.Orders.{all-append, all-left, all-right, map-length}
-use Rattle.demand.proofs.Parts.{no-none, some-inj, Run, Runs, Gathered, gather-runs, IsPart, PartsOf, over as noParts, more as morePart, parts-are, Joined, parts-joined}
+use Rattle.demand.proofs.Parts.{no-none, some-inj, Runs, Gathered, gather-runs, IsPart, PartsOf, over as noParts, more as morePart, parts-are, Joined, parts-joined}
 use Rattle.demand.proofs.Own.{total-flat}
 
 -- ---- pieces that stand for themselves are the bytes of chunks

@@ -2,3 +2,5 @@ pub mod Orders
 pub mod Parts
 pub mod Own
 pub mod Fewest
+pub mod Answers
+pub mod Promises

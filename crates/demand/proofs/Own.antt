@@ -1,31 +1,30 @@
 -- The pieces that cutting finds: they are sound, and joining them in any order restores the canonical file. Assumes nothing.
-use Prim.Native.Nat.{ℕ, zero, suc, _+_, _*_, _≤_, _<_}
+use Prim.Native.Nat.{ℕ, suc, _+_, _*_, _≤_}
 use native.Mathlib.Omega.{arith}
 use mathlib.Core.Path.{_≡_, refl, sym, ap, _∙_, subst}
-use mathlib.Core.Bool.{Bool, true, false, cond, not, _&&_}
-use mathlib.Core.Option.{Option, none, some}
-use mathlib.Core.List.{List, [], _∷_, _++_, map, append-assoc, append-nil}
+use mathlib.Core.Bool.{Bool, true, false}
+use mathlib.Core.Option.{some}
+use mathlib.Core.List.{List, [], _∷_, _++_, map, append-nil}
 use borrow.Author.Tests.{le-leb}
-use lib.Dec.{leb}
 use lib.ListN.{length, length-append}
-use Rattle.lists.specs.Lists.{All, Res, ok, refused}
+use Rattle.lists.specs.Lists.{All, ok}
 use Rattle.characters.specs.Text.{text}
 use Rattle.characters.specs.Rows.{flat}
 use Rattle.records.specs.Records.{Record, isMark}
 use Rattle.notebook.specs.Notebook.{Notebook, readFile}
 use Rattle.canonical.specs.Canonical.{headRow, recordRows, canonicalBytes}
-use Rattle.canonical.proofs.Accepted.{head-length, Lines, none as noLines, more, Carried, accepted}
+use Rattle.canonical.proofs.Accepted.{head-length, Lines, none as noLines, more, accepted}
 use Rattle.canonical.proofs.CanonicalLaws.{lines-written, canonical-small, canonical-carries}
 use Rattle.packing.specs.Packing.{total, concat, Fits}
 use Rattle.packing.specs.Widths.{digitsOf, over, Plan, whole, split as divided, fails, plan}
 use Rattle.packing.proofs.Widths.{digits-count, digits-le, Divides, Planned, plan-good}
-use Rattle.pieces.specs.Marks.{Mark, validID, markRow, markLine, readMark}
+use Rattle.pieces.specs.Marks.{validID, markRow, markLine, readMark}
 use Rattle.pieces.specs.Pieces.{Piece, split, fileOf}
 use Rattle.pieces.proofs.Chunks.{Chunk, chunkBytes, pieceOf, Body, Good, flat-append, split-bytes, split-one}
 use Rattle.pieces.proofs.MarkLaws.{read-written, written-is, mark-text, mark-body, mark-length}
 use Rattle.pieces.proofs.Bodies.{read-unmarked, read-body}
 use Rattle.cut.specs.Cut.{pieceBytes, numbered, planned, cutting}
-use Rattle.join.specs.Join.{unmarked, Part, partOf, partsOf, joinParts, joinPieces, joinSplit, joinedFile, thenChecked, checkedFile, joinFile, orSet}
+use Rattle.join.specs.Join.{unmarked, Part, partOf, partsOf, joinParts, joinPieces, joinedFile, joinFile}
 use Rattle.demand.specs.Orders.{Perm}
 use Rattle.demand.specs.Demand.{OnePiece, Within, Sound}
 use Rattle.demand.proofs.Orders.{all-append, all-left, all-right, map-length, perm-refl, perm-all, perm-length, perm-map, perm-flat, perm-unmap, perm-one}

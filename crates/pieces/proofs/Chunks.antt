@@ -7,7 +7,8 @@ use mathlib.Core.Bool.{Bool, true, false, cond, false≢true}
 use mathlib.Core.List.{List, [], _∷_, _++_, map, append-assoc, append-nil, nil≢cons, head-eq-of-cons-eq, tail-eq-of-cons-eq}
 use borrow.Author.Tests.{eq-eqb, eqb-true}
 use lib.Dec.{eqb}
-use lib.ListN.{length, length-append}
+use lib.ListN.{length, drop, length-append}
+use lib.Seq.{drop-append-seam}
 use Rattle.lists.specs.Lists.{bytes, same, All, ok, refused}
 use Rattle.lists.proofs.Tests.{same-true}
 use Rattle.characters.specs.Rows.{rows, flat, isLine, endMark, consRow}
@@ -334,3 +335,55 @@ chunk-length x =
       length-append (flat (x .rows)) (mark (x .ended)),
       head-length (x .provider),
     )
+
+-- ---- bytes are of chunks in one way only
+
+no-mark-first : (xs : List Chunk) (s : List ℕ) → flat (map chunkBytes xs) ≡ 0x1a ∷ s → ⊥
+unfolding chunkBytes header bytes
+no-mark-first [] s e = nil≢cons e
+no-mark-first (x ∷ xs) s e = go (x .provider) e
+  where
+    go : (d : Bool) → (headRow d ++ (flat (x .rows) ++ mark (x .ended))) ++ flat (map chunkBytes xs) ≡ 0x1a ∷ s → ⊥
+    go true e = let z : _≡_ {A = ℕ} 74 0x1a = head-eq-of-cons-eq e in omega arith
+    go false e = let z : _≡_ {A = ℕ} 74 0x1a = head-eq-of-cons-eq e in omega arith
+
+cancel : (a s t : List ℕ) → a ++ s ≡ a ++ t → s ≡ t
+cancel a s t e = sym (drop-append-seam a s) ∙ ap (drop (length a)) e ∙ drop-append-seam a t
+
+three : {d e : Bool} {r s : List (List ℕ)} {m n : Bool} → d ≡ e → r ≡ s → m ≡ n
+    → _≡_ {A = Chunk} (record { provider = d; rows = r; ended = m }) (record { provider = e; rows = s; ended = n })
+three p q r = cc
+
+chunks-same : (xs ys : List Chunk) → map pieceOf xs ≡ map pieceOf ys → flat (map chunkBytes xs) ≡ flat (map chunkBytes ys) → xs ≡ ys
+chunks-same [] [] p e = refl
+chunks-same [] (y ∷ ys) p e = absurd (nil≢cons p)
+chunks-same (x ∷ xs) [] p e = absurd (nil≢cons (sym p))
+chunks-same (x ∷ xs) (y ∷ ys) p e =
+    let q : pieceOf x ≡ pieceOf y = head-eq-of-cons-eq p in
+    let a : x .provider ≡ y .provider = ap (λ (z : Piece). z .provider) q in
+    let b : x .rows ≡ y .rows = ap (λ (z : Piece). z .rows) q in
+    let s : List ℕ = flat (map chunkBytes xs) in
+    let t : List ℕ = flat (map chunkBytes ys) in
+    let u : headRow (y .provider) ++ (flat (y .rows) ++ (mark (x .ended) ++ s)) ≡ headRow (y .provider) ++ (flat (y .rows) ++ (mark (y .ended) ++ t)) =
+    ap (λ (d : Bool). headRow d ++ (flat (y .rows) ++ (mark (x .ended) ++ s))) (sym a) ∙ ap (λ (z : List (List ℕ)). headRow (x .provider) ++ (flat z ++ (mark (x .ended) ++ s))) (sym b)
+    ∙ sym (bytes-cons false x xs) ∙ e ∙ bytes-cons false y ys in
+    let w : mark (x .ended) ++ s ≡ mark (y .ended) ++ t =
+    cancel (flat (y .rows)) (mark (x .ended) ++ s) (mark (y .ended) ++ t) (cancel (headRow (y .provider)) _ _ u) in
+    go (x .ended) refl (y .ended) refl w (chunks-same xs ys (tail-eq-of-cons-eq p)) a b
+  where
+    go : (i : Bool) → x .ended ≡ i → (j : Bool) → y .ended ≡ j → mark i ++ flat (map chunkBytes xs) ≡ mark j ++ flat (map chunkBytes ys)
+        → (flat (map chunkBytes xs) ≡ flat (map chunkBytes ys) → xs ≡ ys) → x .provider ≡ y .provider → x .rows ≡ y .rows → x ∷ xs ≡ y ∷ ys
+    go true k true l w ih a b = let r : xs ≡ ys = ih (tail-eq-of-cons-eq w) in let m : x ≡ y = three a b (k ∙ sym l) in cc
+    go false k false l w ih a b = let r : xs ≡ ys = ih w in let m : x ≡ y = three a b (k ∙ sym l) in cc
+    go true k false l w ih a b = absurd (no-mark-first ys _ (sym w))
+    go false k true l w ih a b = absurd (no-mark-first xs _ w)
+
+pub chunks-once : (xs ys : List Chunk) → All Good xs → All Good ys → flat (map chunkBytes xs) ≡ flat (map chunkBytes ys) → xs ≡ ys
+unfolding split splitRows brokenLine
+chunks-once [] [] g h e = refl
+chunks-once [] (y ∷ ys) g h e = absurd (no-refusal (ap split e ∙ split-bytes y ys h))
+chunks-once (x ∷ xs) [] g h e = absurd (no-refusal (ap split (sym e) ∙ split-bytes x xs g))
+chunks-once (x ∷ xs) (y ∷ ys) g h e =
+    let q : ok (map pieceOf (x ∷ xs)) ≡ ok (map pieceOf (y ∷ ys)) = sym (split-bytes x xs g) ∙ ap split e ∙ split-bytes y ys h in
+    let p : map pieceOf (x ∷ xs) ≡ map pieceOf (y ∷ ys) = cc in
+    chunks-same (x ∷ xs) (y ∷ ys) p e
