@@ -4,3 +4,4 @@ pub mod Own
 pub mod Fewest
 pub mod Answers
 pub mod Promises
+pub mod Cases

@@ -1,4 +1,3 @@
 pub mod StepLaws
 pub mod ReadLaws
 pub mod CheckLaws
-pub mod Cases

@@ -1,3 +1,2 @@
 pub mod Notebook
 pub mod Check
-pub mod Cases
