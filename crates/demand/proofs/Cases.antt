@@ -84,4 +84,4 @@ cuts = (cut 20 69 (reads .0), cut 18 60 (reads .1), cut 18 59 (reads .1), cut 2 
 
 pub cases-hold : T (allHold cases)
 unfolding bytes spell isLine numberFrom leap monthLength isReal isDay gregorian eraOf eraOn inEra fromEra readDay writeDay table edge oneWidth decimal sized fault value itemFault itemValue itemsFault itemsValue rowIn rowOf pairs t911 recordFrom faultFrom faultWhere lineFault recordOf header inGroup mayFollow pairBroken misplaced closesRp lacking missing valueWrong newerGroup refusal unfinished none start hadAfter advance refusalOf stepOf finishOf factsOf stepLine closed onward recordsFrom readRows readFile count checkOf joined write recordRows canonicalBytes canonicalOf
-cases-hold = rw (cuts .0, cuts .1, cuts .2, cuts .3, cuts .4) tt
+cases-hold = rw (cuts .4, cuts .3, cuts .2, cuts .1, cuts .0) tt

@@ -3,7 +3,7 @@
 use Prim.Native.Nat.{ℕ, zero, suc, _+_, _≤_, _<_}
 use mathlib.Core.Path.{_≡_, refl, sym, ap, subst}
 use mathlib.Core.Logic.{inr}
-use mathlib.Core.Bool.{Bool, true, false, cond, _&&_, false≢true}
+use mathlib.Core.Bool.{Bool, true, false, cond}
 use mathlib.Core.Option.{Option, none, some}
 use mathlib.Core.List.{List, [], _∷_, append-nil}
 use native.Mathlib.Omega.{arith}
@@ -11,7 +11,9 @@ use native.Mathlib.Nat.{le-refl}
 use borrow.Author.Tests.{leb-true, leb-false, le-leb, lt-leb, eqb-true, eqb-false, eq-eqb, ne-eqb}
 use lib.Dec.{leb, eqb}
 use lib.ListN.{length}
-use Rattle.digits.specs.Digits.{digitCount}
+use Rattle.lists.proofs.Tests.{both}
+use Rattle.digits.specs.Digits.{spell, digitCount}
+use Rattle.digits.proofs.Numbers.{length-spell}
 use Rattle.packing.specs.Packing.{total, concat, pack, Fits}
 use Rattle.packing.specs.Widths.{past, digitsOf, over, Plan, whole, split, fails, serves, tries, plan}
 use Rattle.packing.proofs.Packing.{Way, Found, lighter, ahead, pack-good, Taken, Good, way-of, pairs-same, pack-none}
@@ -108,6 +110,11 @@ pub digits-most : (n : ℕ) → digitsOf n ≤ 4
 unfolding digitsOf
 digits-most n = omega (arith, past-one 999 n, past-one 99 n, past-one 9 n)
 
+-- line 1 with its end, the record 911 as it is spelled, and a line end
+pub over-counts : (n k : ℕ) → n ≤ 999 → k ≤ 999 → over (digitsOf n) k ≡ 13 + (3 + 1 + 14 + 1 + length (spell n) + 1 + length (spell k)) + 2
+unfolding over
+over-counts n k h g = omega (arith, digits-count n h, digits-count k g, length-spell n h, length-spell k g)
+
 pub over-most : (w k : ℕ) → over w k ≤ 39 + w
 unfolding over
 over-most w k = omega (arith, digits-most k)
@@ -124,6 +131,20 @@ pub over-wide : (w w′ k : ℕ) → w ≤ w′ → over w k ≤ over w′ k
 unfolding over
 over-wide w w′ k h = omega arith
 
+-- ---- a width that serves
+
+serves-yes : (w n : ℕ) → digitsOf n ≡ w → 2 ≤ n → serves w n ≡ true
+unfolding serves
+serves-yes w n e h = rw (eq-eqb (digitsOf n) w e) (le-leb _ n (omega arith))
+
+serves-no : (w n : ℕ) → (digitsOf n ≡ w → ⊥) → serves w n ≡ false
+unfolding serves
+serves-no w n h = rw (ne-eqb (digitsOf n) w h)
+
+serves-digits : (w n : ℕ) → serves w n ≡ true → (digitsOf n ≡ w) × (2 ≤ n)
+unfolding serves
+serves-digits w n e = let p = both (eqb (digitsOf n) w) _ e in (eqb-true _ _ (p .0), omega (arith, leb-true _ n (p .1)))
+
 -- ---- the clauses of `tries` and `plan`
 
 -- where not even an empty piece fits, nothing is packed but no record at all
@@ -137,14 +158,6 @@ pack-start len c w (r ∷ rs) xs h e =
     cc
 
 module _ {A : Type 0} (len : A → ℕ) (c : ℕ) (rs : List A) where
-  serves-yes : (w n : ℕ) → digitsOf n ≡ w → 2 ≤ n → serves w n ≡ true
-  unfolding serves
-  serves-yes w n e h = rw (eq-eqb (digitsOf n) w e, le-leb 2 n h, serves)
-
-  serves-no : (w n : ℕ) → (digitsOf n ≡ w → ⊥) → serves w n ≡ false
-  unfolding serves
-  serves-no w n h = rw (ne-eqb (digitsOf n) w h, serves)
-
   tries-serve : (f w : ℕ) (xs : List (List A)) → pack len (over w) c 1 (over w 1) rs ≡ some xs → serves w (length xs) ≡ true
       → tries len c (suc f) w rs ≡ split xs
   unfolding tries
@@ -264,15 +277,6 @@ module _ {A : Type 0} (len : A → ℕ) (c : ℕ) (rs : List A) where
   Planned whole = 13 + total len rs ≤ c
   Planned (split xs) = Divides len c rs xs
   Planned fails = Unit {0}
-
-  serves-digits : (w n : ℕ) → serves w n ≡ true → (digitsOf n ≡ w) × (2 ≤ n)
-  unfolding serves
-  serves-digits w n e = go (eqb (digitsOf n) w) refl (leb 2 n) refl e
-    where
-      go : (a : Bool) → eqb (digitsOf n) w ≡ a → (b : Bool) → leb 2 n ≡ b → a && b ≡ true → (digitsOf n ≡ w) × (2 ≤ n)
-      go true p true q e = (eqb-true _ _ p, leb-true _ _ q)
-      go true p false q e = absurd (false≢true e)
-      go false p b q e = absurd (false≢true e)
 
   taken-fits : (w : ℕ) (xs : List (List A)) → Taken len (over w) c 1 (over w 1) xs → Fits len (over w) c 1 xs
   unfolding Taken Fits
