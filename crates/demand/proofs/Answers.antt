@@ -8,7 +8,7 @@ use mathlib.Core.Option.{Option, none, some}
 use mathlib.Core.List.{List, _++_, map}
 use borrow.Author.Tests.{leb-false, le-leb, lt-leb}
 use lib.Dec.{leb}
-use lib.ListN.{length, take, drop}
+use lib.ListN.{length, take, drop, length-append}
 use lib.Seq.{take-at}
 use Rattle.lists.specs.Lists.{All, Res, ok, refused}
 use Rattle.characters.specs.Rows.{flat}
@@ -20,7 +20,7 @@ use Rattle.cut.specs.declared.Cutting.the-variants.{Pieces, Refused}
 use Rattle.cut.specs.Cut.{cutting, listed, found, cutList, held, cutOf, cutBuffer}
 use Rattle.join.specs.Join.{joinFile, joinOf, joinBuffer}
 use Rattle.demand.specs.Orders.{Perm}
-use Rattle.demand.specs.Demand.{OnePiece, ListIn, Sound, Written, Restored}
+use Rattle.demand.specs.Demand.{OnePiece, ListIn, Sound, Written, Withheld, Restored}
 use Rattle.demand.proofs.Own.{sound, restores}
 use Rattle.demand.proofs.Fewest.{Chunks, chunked, Listed, least}
 
@@ -67,6 +67,7 @@ module _ (f : List ℕ) (b : Notebook) (c : ℕ) (id : List ℕ) (e : readFile f
     found : Found id c b list
     count : length list ≡ n
     size : length (flat list) ≡ t
+    inside : t ≤ length (cutBuffer f c id out)
     front : take t (cutBuffer f c id out) ≡ flat list
 
   wrote : (out : List ℕ) (n t : ℕ) → cutOf f c id (length out) ≡ Pieces n t → Wrote out n t
@@ -87,6 +88,7 @@ module _ (f : List ℕ) (b : Notebook) (c : ℕ) (id : List ℕ) (e : readFile f
                 found = list-found ps q;
                 count = (let z : length ps ≡ n = cc in z);
                 size = s;
+                inside = omega (arith, s, ap length w, length-append (flat ps) (drop (length (flat ps)) out));
                 front = ap (take t) w ∙ take-at (flat ps) (drop (length (flat ps)) out) t s;
               }
 
@@ -97,6 +99,7 @@ module _ (f : List ℕ) (b : Notebook) (c : ℕ) (id : List ℕ) (e : readFile f
       record {
         list = w .list;
         is = record { bytes = w .front; whole = s .pieces; count = w .count };
+        inside = w .inside;
         sound = s;
         fewest = λ qs u. few w (least id b c f e qs u);
         only = λ qs i. pieces-once qs (w .list) (i .whole) (s .pieces) (sym (i .bytes) ∙ w .front);
@@ -134,17 +137,22 @@ module _ (f : List ℕ) (b : Notebook) (c : ℕ) (id : List ℕ) (e : readFile f
 
 -- ---- a list that is withheld
 
-pub withholds : (f : List ℕ) (c : ℕ) (id : List ℕ) (room : ℕ) (ps : List (List ℕ)) → cutList f c id ≡ ok ps
-    → (cutOf f c id room ≡ Refused 20 0) ↔ (room < length (flat ps))
-unfolding cutOf
-withholds f c id room ps q = (
-  λ h. go (leb (length (flat ps)) room) refl (sym (ap (λ (r : Res (List (List ℕ))). held r room) q) ∙ h),
-  λ h. ap (λ (r : Res (List (List ℕ))). held r room) q ∙ rw (lt-leb (length (flat ps)) room h),
-)
+pub withholds : (f : List ℕ) (c : ℕ) (id out : List ℕ) (ps : List (List ℕ)) → cutList f c id ≡ ok ps → Withheld f c id out ps
+unfolding cutOf cutBuffer
+withholds f c id out ps q = record { exactly = (λ h. go (leb (length (flat ps)) (length out)) refl (sym (rw q) ∙ h), twenty); kept = kept; else = else }
   where
-    go : (x : Bool) → leb (length (flat ps)) room ≡ x → cond x (Pieces (length ps) (length (flat ps))) (Refused 20 0) ≡ Refused 20 0 → room < length (flat ps)
+    go : (x : Bool) → leb (length (flat ps)) (length out) ≡ x → cond x (Pieces (length ps) (length (flat ps))) (Refused 20 0) ≡ Refused 20 0 → length out < length (flat ps)
     go true p h = absurd (pieces-refused (sym h))
     go false p h = leb-false _ _ p
+
+    twenty : length out < length (flat ps) → cutOf f c id (length out) ≡ Refused 20 0
+    twenty h = rw (q, lt-leb (length (flat ps)) (length out) h)
+
+    kept : length out < length (flat ps) → cutBuffer f c id out ≡ out
+    kept h = rw (q, lt-leb (length (flat ps)) (length out) h)
+
+    else : length (flat ps) ≤ length out → cutOf f c id (length out) ≡ Pieces (length ps) (length (flat ps))
+    else h = rw (q, le-leb (length (flat ps)) (length out) h)
 
 -- ---- joining's answers
 

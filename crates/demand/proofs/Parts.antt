@@ -348,3 +348,7 @@ parts-joined (p ∷ ps) w e = go (agree p ps && (leb 2 (p .mark .count) && eqb (
           many = eqb-true _ _ (b .1);
           gathered = whole-rows (p .provider) (gather (p ∷ ps) (p .mark .count) 1) w e;
         }
+
+-- parts that are joined have the places 1 to n, each once
+pub set-once : (ps : List Part) (w : Piece) → joinParts (some ps) ≡ some w → EachOnce 1 ps
+set-once ps w e = let j : Joined ps w = parts-joined ps w e in each-once (j .count) 1 ps (w .rows) (j .many) (j .gathered)

@@ -11,7 +11,7 @@ pub cutting-finds : Cutting-finds
 cutting-finds f b c id out e v = finds f b c id e v (length out)
 
 pub cutting-withholds : Cutting-withholds
-cutting-withholds f b c id out e = withholds f c id (length out)
+cutting-withholds f b c id out e = withholds f c id out
 
 pub joining-restores : Joining-restores
 joining-restores = joins-back

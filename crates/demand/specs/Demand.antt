@@ -57,6 +57,8 @@ ForFile P = (f : List ℕ) (b : Notebook) (c : ℕ) (id out : List ℕ) → read
 pub record Written (f : List ℕ) (c : ℕ) (out : List ℕ) (n t : ℕ) : Type 0 where
   pub list : List (List ℕ)
   pub is : ListIn out n t list
+  -- the first t bytes of the output are t bytes
+  pub inside : t ≤ length out
   pub sound : Sound f c list
   pub fewest : (qs : List (List ℕ)) → Sound f c qs → n ≤ length qs
   pub only : (qs : List (List ℕ)) → ListIn out (length qs) t qs → qs ≡ list
@@ -70,10 +72,14 @@ abbrev pub Cutting-finds : Type 0
 Cutting-finds =
     ForFile (λ f b c id out. validID id ≡ true → (cutOf f c id (length out) ≡ Refused 18 0) ↔ ((qs : List (List ℕ)) → Sound f c qs → ⊥))
 
--- "A list found is withheld exactly when the output can't hold it": it "withholds one when it answers 20"
+-- "A list found is withheld exactly when the output can't hold it": it "withholds one when it answers 20". Else it is written.
+pub record Withheld (f : List ℕ) (c : ℕ) (id out : List ℕ) (ps : List (List ℕ)) : Type 0 where
+  pub exactly : (cutOf f c id (length out) ≡ Refused 20 0) ↔ (length out < length (flat ps))
+  pub kept : length out < length (flat ps) → cutBuffer f c id out ≡ out
+  pub else : length (flat ps) ≤ length out → cutOf f c id (length out) ≡ Pieces (length ps) (length (flat ps))
+
 abbrev pub Cutting-withholds : Type 0
-Cutting-withholds =
-    ForFile (λ f b c id out. (ps : List (List ℕ)) → cutList f c id ≡ ok ps → (cutOf f c id (length out) ≡ Refused 20 0) ↔ (length out < length (flat ps)))
+Cutting-withholds = ForFile (λ f b c id out. (ps : List (List ℕ)) → cutList f c id ≡ ok ps → Withheld f c id out ps)
 
 -- "Joining our pieces, in whichever order they lie, gives the canonical file of the file that was cut, when the output can hold it." to: the
 -- output of joining
