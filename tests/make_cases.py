@@ -2,7 +2,8 @@
 
     python3 make_cases.py OUT_DIR
 
-writes OUT_DIR/cases/stdin, OUT_DIR/cases/stdout and OUT_DIR/byte_pairs/stdout.
+writes OUT_DIR/cases/stdin, OUT_DIR/cases/stdout and OUT_DIR/byte_pairs/stdout,
+and by way of call_cases.py OUT_DIR/calls/stdin and OUT_DIR/calls/stdout.
 
 The answers of the cases are written here by hand, one by one or by the way a
 family is built. The oracle has to agree with each; it does not make them.
@@ -1531,4 +1532,9 @@ def main(out_dir):
 if __name__ == "__main__":
     if len(sys.argv) != 2:
         sys.exit("usage: make_cases.py OUT_DIR")
-    main(sys.argv[1])
+    # call_cases imports this file, so that both work on one list of cases.
+    import call_cases
+    import make_cases
+
+    make_cases.main(sys.argv[1])
+    call_cases.write(sys.argv[1])

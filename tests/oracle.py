@@ -1,9 +1,14 @@
-"""A plain reading of check from document 01, for comparing with the gateway.
+"""A plain reading of document 01, for comparing with the gateway.
 
 check(data) answers ("ok", records, groups, drugs) or ("no", number, line).
 Whatever a record's standing depends on is found by looking back over the list
 of the records before it, so that the rules are not told a second time as a
 state machine.
+
+index(data, out), canonical(data, out), cut(data, capacity, ident, out) and
+join(data, out) answer a pair: ("ok", value, ..) or ("no", number, line), and
+the buffer afterwards. Cut and join build pieces and look at their bytes; they
+count no lengths ahead.
 """
 
 import datetime
@@ -406,3 +411,227 @@ def check(data):
         return ("no", 14, end)
     numbers = [r.number for r in records]
     return ("ok", len(numbers), numbers.count(5), numbers.count(201))
+
+
+# --- buffers ----------------------------------------------------------------
+
+
+def written(result, values, out):
+    """The result at the front of the buffer, or 20 and the buffer as it was."""
+    if len(out) < len(result):
+        return ("no", 20, 0), out
+    return ("ok",) + values, result + out[len(result) :]
+
+
+# --- index ------------------------------------------------------------------
+
+
+def lines_of(data):
+    """The lines of an accepted file, without line ends and 1Ah."""
+    return data.split(b"\r\n")[:-1]
+
+
+def last_line(numbers, wanted):
+    """The line of the last record of this number, or 0; record 1 is line 2."""
+    return max([at + 2 for at, number in enumerate(numbers) if number == wanted], default=0)
+
+
+def entries(data):
+    """Six numbers for each record of an accepted file."""
+    found = []
+    numbers = []  # of the records before this one
+    offset = len(b"JAHISTC04,1\r\n")
+    for line in lines_of(data)[1:]:
+        number = int(line.split(b",")[0])
+        group = (numbers + [number]).count(5) if number != 701 else 0
+        doctor = drug = 0
+        if 201 <= number <= 391 and last_line(numbers, 55) > last_line(numbers, 5):
+            doctor = last_line(numbers, 55)
+        if number in (281, 291):
+            drug = last_line(numbers, 201)
+        found += [number, offset, len(line), group, doctor, drug]
+        numbers.append(number)
+        offset += len(line) + 2
+    return found
+
+
+def index(data, out):
+    answer = check(data)
+    if answer[0] == "no":
+        return answer, out
+    return written(entries(data), (answer[1],), out)
+
+
+# --- canonical --------------------------------------------------------------
+
+
+def era_form(found):
+    for letter, (before, first, last) in ERAS.items():
+        if first <= found <= last:
+            year = found.year - before
+            return letter + b"%02d%02d%02d" % (year, found.month, found.day)
+
+
+def canonical_item(item, rule):
+    kind = rule.split()[0]
+    if item == b"":
+        return item
+    if kind == "D":
+        return era_form(day(item))
+    if kind == "P":
+        return item.replace(b"-", b"")
+    if kind == "R":
+        return b"%d" % int(item)
+    return item
+
+
+def canonical_lines(data):
+    """The lines of an accepted file's canonical file, without line ends."""
+    first, *records = lines_of(data)
+    found = [first]
+    for line in records:
+        name, *items = line.split(b",")
+        rules = TABLE[name.decode()]
+        items = [canonical_item(item, rule) for item, rule in zip(items, rules)]
+        found.append(b",".join([name] + items))
+    return found
+
+
+def file_of(lines):
+    return b"".join(line + b"\r\n" for line in lines)
+
+
+def canonical(data, out):
+    answer = check(data)
+    if answer[0] == "no":
+        return answer, out
+    result = file_of(canonical_lines(data))
+    return written(result, (len(result),), out)
+
+
+# --- cut --------------------------------------------------------------------
+
+
+def valid_id(ident):
+    return re.fullmatch(rb"[0-9]{14}", ident) is not None
+
+
+def piece(first, run, ident, n, k):
+    return file_of([first] + run + [b"911,%s,%d,%d" % (ident, n, k)])
+
+
+def runs_for(first, records, capacity, ident, width):
+    """The runs that the pieces hold if n has this many digits, or None."""
+    stand_in = 10**width - 1  # any number of this width
+    left, runs = list(records), []
+    while left:
+        k = len(runs) + 1
+        if k > stand_in:
+            return None
+        run = []
+        while left and len(piece(first, run + left[:1], ident, stand_in, k)) <= capacity:
+            run.append(left.pop(0))
+        if not run:
+            return None
+        runs.append(run)
+    return runs if len(str(len(runs))) == width and len(runs) >= 2 else None
+
+
+def pieces_of(data, capacity, ident):
+    """The pieces of an accepted file, or None where no width serves."""
+    first, *records = canonical_lines(data)
+    whole = file_of([first] + records)
+    if len(whole) <= capacity:
+        return [whole]
+    for width in (1, 2, 3):
+        runs = runs_for(first, records, capacity, ident, width)
+        if runs:
+            return [piece(first, run, ident, len(runs), k) for k, run in enumerate(runs, 1)]
+    return None
+
+
+def cut(data, capacity, ident, out):
+    answer = check(data)
+    if answer[0] == "no":
+        return answer, out
+    if not valid_id(ident):
+        return ("no", 17, 0), out
+    pieces = pieces_of(data, capacity, ident)
+    if pieces is None:
+        return ("no", 18, 0), out
+    result = b"".join(pieces)
+    return written(result, (len(pieces), len(result)), out)
+
+
+# --- join -------------------------------------------------------------------
+
+JOIN_LIMIT = 131072
+FIRST_LINES = (b"JAHISTC04,1", b"JAHISTC04,2")
+
+
+def join_lines(data):
+    """The lines without 1Ahs, None; or None and the line of a 2."""
+    *lines, rest = data.split(b"\r\n")
+    found, begun = [], False  # begun: whether a piece has
+    for at, line in enumerate(lines, 1):
+        if begun and line[:1] == b"\x1a" and line[1:] in FIRST_LINES:
+            line = line[1:]
+        if re.search(rb"[\r\n\x1a]", line):
+            return None, at
+        found.append(line)
+        begun = begun or line in FIRST_LINES
+    if found == [] or not (rest == b"" or begun and rest == b"\x1a"):
+        return None, len(lines) + 1
+    return found, None
+
+
+def is_911(line):
+    return line == b"911" or line.startswith(b"911,")
+
+
+def mark(line):
+    """ID, n and k of a record 911, or None."""
+    found = re.fullmatch(rb"911,([0-9]{14}),([0-9]{1,3}),([0-9]{1,3})", line)
+    return (found[1], int(found[2]), int(found[3])) if found else None
+
+
+def joined_lines(lines):
+    """The joined file's lines, or None where the pieces are no set."""
+    if lines[0] not in FIRST_LINES:
+        return None
+    pieces = []
+    for line in lines:
+        if line in FIRST_LINES:
+            pieces.append([])
+        pieces[-1].append(line)
+    if len(pieces) == 1 and not any(is_911(line) for line in pieces[0]):
+        return pieces[0]
+    by_k = {}
+    for one in pieces:
+        if [is_911(line) for line in one] != [False] * (len(one) - 1) + [True]:
+            return None
+        if mark(one[-1]) is None:
+            return None
+        by_k[mark(one[-1])[2]] = one[1:-1]
+    if len({(one[0],) + mark(one[-1])[:2] for one in pieces}) != 1:
+        return None
+    n = mark(pieces[0][-1])[1]
+    if not 2 <= n <= 999 or len(pieces) != n or sorted(by_k) != list(range(1, n + 1)):
+        return None
+    return pieces[0][:1] + [line for k in range(1, n + 1) for line in by_k[k]]
+
+
+def join(data, out):
+    if len(data) > JOIN_LIMIT:
+        return ("no", 1, 0), out
+    lines, at = join_lines(data)
+    if lines is None:
+        return ("no", 2, at), out
+    lines = joined_lines(lines)
+    if lines is None:
+        return ("no", 19, 0), out
+    result = file_of(lines)
+    answer = check(result)
+    if answer[0] == "no":
+        return answer, out
+    return written(result, (len(result),), out)

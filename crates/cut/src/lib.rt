@@ -1,7 +1,210 @@
-// Cutting: the canonical file of a notebook into pieces for a capacity. Definitions: specs/Cut.antt.
+// Cutting: the canonical file of a notebook into pieces for a capacity. Definitions: specs/Cut.antt; specs/Loops.antt has the forms that
+// the loops follow. The width of the count is found first, with the count and the total length, so that nothing is written where the
+// answer is a refusal; then the rows are walked once more and written. A change of the record 911 moves together: `over` (packing),
+// `markRow` (pieces), `overhead` and `put_mark`.
+ghost use mathlib.Core.Path.{_≡_};
+ghost use mathlib.Core.List.{_++_};
+ghost use Prim.Native.Nat.{_≤_, _<_};
+ghost use lib.ListN.{length};
+ghost use Rattle.lists.specs.Lists.{part};
+ghost use Rattle.buffers.specs.Buffers.{Wrote};
+ghost use Rattle.packing.specs.Widths.{digitsOf, serves};
+ghost use Rattle.pieces.specs.Marks.{markRow};
+ghost use Rattle.cut.specs.Cut.{cutOf, cutBuffer};
+ghost use Rattle.cut.specs.Loops.{RowTo, OverOf, Small, chosen, restOf, MarkRoom, OpenRoom, Ready, Given, CutBytes};
 
 // The count of pieces and their total length; or a refusal's number and line, and the output as it was.
 pub enum Cutting {
     Pieces(u32, u32),
     Refused(u32, u32),
+}
+
+// The width of the count, the count, and the bytes that the pieces hold besides their records; or no width serves.
+pub enum Chosen {
+    Count(usize, u32, usize),
+    NoWidth,
+}
+
+// Where the row that begins at a position ends: behind its 0Ah, or at the end of the bytes.
+fn row_end(s: &[u8], at: usize) -> usize
+    requires { ⌜ at < length (now s) ⌝ }
+    ensures { λ r. ⌜ RowTo (now (s .entry)) at r ⌝ }
+{
+    let e = lists::find_byte(s, at, 10);
+    if e < s.len() { e + 1 } else { e }
+}
+
+// The digits of a number below 1,000; 4 for any above.
+fn digits_of(n: u32) -> usize
+    ensures { λ r. ⌜ r ≡ digitsOf n ⌝ }
+{
+    if n <= 9 {
+        return 1;
+    }
+    if n <= 99 {
+        return 2;
+    }
+    if n <= 999 {
+        return 3;
+    }
+    4
+}
+
+// What piece k holds besides its records, where the count has w digits.
+fn overhead(w: usize, k: u32) -> usize
+    requires { ⌜ w ≤ 3 ⌝ }
+    ensures { λ r. ⌜ OverOf w k r ⌝ }
+{
+    35 + w + digits_of(k)
+}
+
+// A count of w digits, and of no single piece.
+fn serves_width(w: usize, n: u32) -> bool
+    ensures { λ r. ⌜ r ≡ serves w n ⌝ }
+{
+    (digits_of(n) == w) & (2 <= n)
+}
+
+// The first width that serves.
+fn first_width(s: &[u8], c: usize) -> Chosen
+    requires { ⌜ Small (now s) c ⌝ }
+    ensures { λ r. ⌜ r ≡ chosen (now (s .entry)) c ⌝ }
+{
+    let mut w: usize = 1;
+    let mut t: usize = 0;
+    let count = 'widths: loop {
+        if 3 < w {
+            return Chosen::NoWidth;
+        }
+        let mut k: u32 = 1;
+        let mut u = overhead(w, k);
+        let mut i: usize = 13;
+        t = u;
+        loop {
+            if i >= s.len() {
+                if serves_width(w, k) {
+                    break 'widths k;
+                }
+                w += 1;
+                continue 'widths;
+            }
+            let e = row_end(s, i);
+            let r = e - i;
+            i = e;
+            if u + r <= c {
+                u += r;
+            } else {
+                k += 1;
+                let o = overhead(w, k);
+                t += o;
+                u = o + r;
+                if c < u {
+                    w += 1;
+                    continue 'widths;
+                }
+            }
+        }
+    };
+    Chosen::Count(w, count, t)
+}
+
+// The row 911,ID,n,k.
+fn put_mark(out: &mut [u8], at: usize, id: &[u8], n: u32, k: u32) -> usize
+    requires { ⌜ MarkRoom (now out) at (now id) n k ⌝ }
+    ensures { λ r. ⌜ Wrote (now (out .entry)) (now (out .exit)) at r (markRow (now (id .entry)) n k) ⌝ }
+{
+    let a = buffers::put_all(out, at, b"911,");
+    let b = buffers::put_all(out, a, id);
+    let c = buffers::put_byte(out, b, 44);
+    let d = buffers::put_number(out, c, n);
+    let e = buffers::put_byte(out, d, 44);
+    let f = buffers::put_number(out, e, k);
+    buffers::put_all(out, f, b"\r\n")
+}
+
+// Ends piece k with its record 911, and opens the next with line 1.
+fn open_next(out: &mut [u8], at: usize, s: &[u8], id: &[u8], n: u32, k: u32) -> usize
+    requires { ⌜ OpenRoom (now out) at (now s) (now id) n k ⌝ }
+    ensures { λ r. ⌜ Wrote (now (out .entry)) (now (out .exit)) at r (markRow (now (id .entry)) n k ++ part (now (s .entry)) 0 13) ⌝ }
+{
+    let o = put_mark(out, at, id, n, k);
+    let start = 0;
+    let end = 13;
+    buffers::put_all(out, o, &s[start..end])
+}
+
+// The pieces, one after another, but for the first line 1.
+fn pour_rows(out: &mut [u8], at: usize, s: &[u8], c: usize, w: usize, n: u32, id: &[u8]) -> usize
+    requires { ⌜ Ready (now out) at (now s) c w n (now id) ⌝ }
+    ensures { λ r. ⌜ Wrote (now (out .entry)) (now (out .exit)) at r (restOf (now (s .entry)) c w (now (id .entry)) n) ⌝ }
+{
+    let mut o = at;
+    let mut k: u32 = 1;
+    let mut u = overhead(w, k);
+    let mut i: usize = 13;
+    while i < s.len() {
+        let e = row_end(s, i);
+        let r = e - i;
+        if u + r <= c {
+            o = buffers::put_all(out, o, &s[i..e]);
+            u += r;
+            i = e;
+        } else {
+            o = open_next(out, o, s, id, n, k);
+            o = buffers::put_all(out, o, &s[i..e]);
+            k += 1;
+            u = overhead(w, k) + r;
+            i = e;
+        }
+    }
+    put_mark(out, o, id, n, k)
+}
+
+// Cuts the bytes of a canonical file, for a valid ID. Where the file does not fit, the capacity is below 65,536.
+fn cut_bytes(s: &[u8], capacity: u64, id: &[u8], out: &mut [u8]) -> Cutting
+    requires { ⌜ Given (now s) (now id) ⌝ }
+    ensures { λ r. ⌜ CutBytes (now (s .entry)) capacity (now (id .entry)) (now (out .entry)) (now (out .exit)) r ⌝ }
+{
+    let c = capacity as usize;
+    let len = s.len();
+    if len <= c {
+        if out.len() < len {
+            return Cutting::Refused(20, 0);
+        }
+        buffers::put_all(out, 0, s);
+        return Cutting::Pieces(1, len as u32);
+    }
+    match first_width(s, c) {
+        Chosen::NoWidth => Cutting::Refused(18, 0),
+        Chosen::Count(w, n, t) => {
+            let total = t + (len - 13);
+            if out.len() < total {
+                return Cutting::Refused(20, 0);
+            }
+            let start = 0;
+            let end = 13;
+            let o = buffers::put_all(out, 0, &s[start..end]);
+            pour_rows(out, o, s, c, w, n, id);
+            Cutting::Pieces(n, total as u32)
+        }
+    }
+}
+
+// Cuts a file into pieces of at most the capacity, one after another from the output's start on; or the one refusal.
+pub fn cut(file: &[u8], capacity: u64, id: &[u8], out: &mut [u8]) -> Cutting
+    ensures answer { λ r. ⌜ r ≡ cutOf (now (file .entry)) capacity (now (id .entry)) (length (now (out .entry))) ⌝ }
+    ensures buffer { λ _. ⌜ now (out .exit) ≡ cutBuffer (now (file .entry)) capacity (now (id .entry)) (now (out .entry)) ⌝ }
+{
+    let mut bytes = [0u8; 65536];
+    match canonical::canonical_into(file, &mut bytes) {
+        canonical::Canonical::Refused(number, line) => Cutting::Refused(number, line),
+        canonical::Canonical::Written(count) => {
+            if pieces::valid_id(id) {
+                let start = 0;
+                let end = count as usize;
+                return cut_bytes(&bytes[start..end], capacity, id, out);
+            }
+            Cutting::Refused(17, 0)
+        }
+    }
 }

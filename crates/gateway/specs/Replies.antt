@@ -7,6 +7,10 @@ use Rattle.index.specs.declared.Indexed.{Indexed}
 use Rattle.index.specs.declared.Indexed.the-variants.{Written, Refused as IndexRefused}
 use Rattle.canonical.specs.declared.Canonical.{Canonical}
 use Rattle.canonical.specs.declared.Canonical.the-variants.{Written as CanonicalWritten, Refused as CanonicalRefused}
+use Rattle.cut.specs.declared.Cutting.{Cutting}
+use Rattle.cut.specs.declared.Cutting.the-variants.{Pieces, Refused as CutRefused}
+use Rattle.join.specs.declared.Joining.{Joining}
+use Rattle.join.specs.declared.Joining.the-variants.{Joined, Refused as JoinRefused}
 use Rattle.gateway.specs.declared.Reply.{Reply}
 
 abbrev pub refusal : ℕ → ℕ → Reply
@@ -30,3 +34,12 @@ indexReply (IndexRefused n line) = refusal n line
 abbrev pub canonicalReply : Canonical → Reply
 canonicalReply (CanonicalWritten bytes) = result bytes 0 0
 canonicalReply (CanonicalRefused n line) = refusal n line
+
+-- "the result holds their count and total length": a pieces, b bytes
+abbrev pub cutReply : Cutting → Reply
+cutReply (Pieces count bytes) = result count bytes 0
+cutReply (CutRefused n line) = refusal n line
+
+abbrev pub joinReply : Joining → Reply
+joinReply (Joined bytes) = result bytes 0 0
+joinReply (JoinRefused n line) = refusal n line

@@ -5,7 +5,9 @@ ghost use lib.ListN.{length};
 ghost use Rattle.notebook.specs.Check.{checkOf};
 ghost use Rattle.index.specs.Index.{indexOf, indexBuffer};
 ghost use Rattle.canonical.specs.Canonical.{canonicalOf, canonicalBuffer};
-ghost use Rattle.gateway.specs.Replies.{refusal, result, checkReply, indexReply, canonicalReply};
+ghost use Rattle.cut.specs.Cut.{cutOf, cutBuffer};
+ghost use Rattle.join.specs.Join.{joinOf, joinBuffer};
+ghost use Rattle.gateway.specs.Replies.{refusal, result, checkReply, indexReply, canonicalReply, cutReply, joinReply};
 
 // refusal: document 01's number, 0 for accepted. line: the refusal's line. a, b, c: the values of the call's result.
 #[repr(C)]
@@ -94,4 +96,42 @@ pub extern "C" fn notebook_canonical(file: &[u8], out: &mut [u8]) -> Reply
     ensures buffer { λ _. ⌜ now (out .exit) ≡ canonicalBuffer (now (file .entry)) (now (out .entry)) ⌝ }
 {
     canonical_answer(canonical::canonical_file(file, out))
+}
+
+fn cut_answer(p: cut::Cutting) -> Reply
+    ensures { λ r. ⌜ r ≡ cutReply p ⌝ }
+{
+    match p {
+        cut::Cutting::Pieces(count, bytes) => accepted(count, bytes, 0),
+        cut::Cutting::Refused(number, line) => refused(number, line),
+    }
+}
+
+// Writes the pieces of the canonical file for a capacity, one after another from the front of the buffer on, and keeps what lies behind
+// them: a pieces, b bytes; or the one refusal with its line, and the whole buffer as it was.
+#[no_mangle]
+pub extern "C" fn notebook_cut(file: &[u8], capacity: u64, id: &[u8], out: &mut [u8]) -> Reply
+    ensures reply { λ r. ⌜ r ≡ cutReply (cutOf (now (file .entry)) capacity (now (id .entry)) (length (now (out .entry)))) ⌝ }
+    ensures buffer { λ _. ⌜ now (out .exit) ≡ cutBuffer (now (file .entry)) capacity (now (id .entry)) (now (out .entry)) ⌝ }
+{
+    cut_answer(cut::cut(file, capacity, id, out))
+}
+
+fn join_answer(j: join::Joining) -> Reply
+    ensures { λ r. ⌜ r ≡ joinReply j ⌝ }
+{
+    match j {
+        join::Joining::Joined(bytes) => accepted(bytes, 0, 0),
+        join::Joining::Refused(number, line) => refused(number, line),
+    }
+}
+
+// Writes the file that pieces in any order join to, from the front of the buffer on, and keeps what lies behind it: a bytes; or the one
+// refusal with its line, and the whole buffer as it was.
+#[no_mangle]
+pub extern "C" fn notebook_join(pieces: &[u8], out: &mut [u8]) -> Reply
+    ensures reply { λ r. ⌜ r ≡ joinReply (joinOf (now (pieces .entry)) (length (now (out .entry)))) ⌝ }
+    ensures buffer { λ _. ⌜ now (out .exit) ≡ joinBuffer (now (pieces .entry)) (now (out .entry)) ⌝ }
+{
+    join_answer(join::join(pieces, out))
 }

@@ -1,0 +1,4 @@
+pub mod WalkLaws
+pub mod BodyLaws
+pub mod SetLaws
+pub mod JoinLaws

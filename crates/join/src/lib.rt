@@ -1,7 +1,434 @@
-// Joining: pieces in any order to one file, which is then checked. Definitions: specs/Join.antt.
+// Joining: pieces in any order to one file, which is then checked. The call's definition: specs/Join.antt. Inside, a piece is carried by
+// positions (specs/Spans.antt): its rows are the bytes from behind its line 1 to its record 911, and the tables `starts` and `ends`
+// have them by place, so that each piece is looked at once.
+ghost use mathlib.Core.Path.{_≡_};
+ghost use mathlib.Core.List.{_++_};
+ghost use Prim.Native.Nat.{_≤_, _<_};
+ghost use lib.ListN.{length, drop};
+ghost use Rattle.lists.specs.Lists.{part, ok};
+ghost use Rattle.characters.specs.Rows.{rows};
+ghost use Rattle.canonical.specs.Canonical.{headRow};
+ghost use Rattle.buffers.specs.Buffers.{Wrote};
+ghost use Rattle.pieces.specs.Pieces.{brokenLine, startsWell, piecesIn};
+ghost use Rattle.join.specs.Join.{partsOf, joinParts, joinPieces, orSet, joinedFile, joinOf, joinBuffer};
+ghost use Rattle.join.specs.Spans.{NextIs, goesOn, LineAt, LastIs, LinesAre, Within, MemberIs, Sizes, Blank, Stored, CollectIs, taken, spans, FillIs, FillRoom, MadeIs, Given, GivenSet, First, Input};
 
 // How many bytes the joined file has; or a refusal's number and line, and the output as it was.
 pub enum Joining {
     Joined(u32),
     Refused(u32, u32),
+}
+
+// The line of the first row that breaks the rule of line ends, 0 for none. A 1Ah is in place after a piece only.
+fn broken_line(s: &[u8]) -> u32
+    requires { ⌜ length (now s) ≤ 131072 ⌝ }
+    ensures { λ r. ⌜ r ≡ brokenLine (rows (now (s .entry))) ⌝ }
+{
+    if s.len() == 0 {
+        return 1;
+    }
+    let mut begun = false;
+    let mut n: u32 = 1;
+    let mut at: usize = 0;
+    while at < s.len() {
+        let e = pieces::row_end(s, at);
+        match pieces::row_kind(&s[at..e]) {
+            pieces::Row::Body => {
+                at = e;
+                n += 1;
+            }
+            pieces::Row::Head(_) => {
+                begun = true;
+                at = e;
+                n += 1;
+            }
+            pieces::Row::EndHead(_) => {
+                if !begun {
+                    return n;
+                }
+                at = e;
+                n += 1;
+            }
+            pieces::Row::End => {
+                if !begun {
+                    return n;
+                }
+                at = e;
+                n += 1;
+            }
+            pieces::Row::Broken => {
+                return n;
+            }
+        }
+    }
+    0
+}
+
+// Whether the first row is a line 1.
+fn starts_well(s: &[u8]) -> bool
+    ensures { λ r. ⌜ r ≡ startsWell (rows (now (s .entry))) ⌝ }
+{
+    if s.len() == 0 {
+        return false;
+    }
+    let at = 0;
+    let e = pieces::row_end(s, at);
+    match pieces::row_kind(&s[at..e]) {
+        pieces::Row::Body => false,
+        pieces::Row::Head(_) => true,
+        pieces::Row::EndHead(_) => true,
+        pieces::Row::End => false,
+        pieces::Row::Broken => false,
+    }
+}
+
+// Where the next piece's line 1 ends, and whether its direction is 1.
+pub enum Next {
+    Opens(usize, bool),
+    Over,
+}
+
+fn next_piece(s: &[u8], from: usize) -> Next
+    requires { ⌜ from ≤ length (now s) ⌝ }
+    ensures { λ r. ⌜ NextIs (now (s .entry)) from r ⌝ }
+{
+    let mut at = from;
+    while at < s.len() {
+        let e = pieces::row_end(s, at);
+        match pieces::row_kind(&s[at..e]) {
+            pieces::Row::Body => {
+                at = e;
+            }
+            pieces::Row::Head(d) => {
+                return Next::Opens(e, d);
+            }
+            pieces::Row::EndHead(d) => {
+                return Next::Opens(e, d);
+            }
+            pieces::Row::End => {
+                at = e;
+            }
+            pieces::Row::Broken => {
+                at = e;
+            }
+        }
+    }
+    Next::Over
+}
+
+// Whether a row of the same piece begins at a position.
+fn goes_on(s: &[u8], at: usize) -> bool
+    requires { ⌜ at ≤ length (now s) ⌝ }
+    ensures { λ r. ⌜ r ≡ goesOn (rows (drop at (now (s .entry)))) ⌝ }
+{
+    if s.len() <= at {
+        return false;
+    }
+    let e = pieces::row_end(s, at);
+    match pieces::row_kind(&s[at..e]) {
+        pieces::Row::Body => true,
+        pieces::Row::Head(_) => false,
+        pieces::Row::EndHead(_) => false,
+        pieces::Row::End => false,
+        pieces::Row::Broken => false,
+    }
+}
+
+// The rows of a piece.
+pub enum Lines {
+    // No record 911: where they end.
+    Plain(usize),
+    // A record 911, from a position to a position, as the last; n and k.
+    Marked(usize, usize, usize, usize),
+    // A record 911 that is not the last, or cannot be read.
+    Wrong,
+}
+
+// The record 911 from at to e, which must be the last row.
+fn last_mark(s: &[u8], at: usize, e: usize) -> Lines
+    requires { ⌜ LineAt (now s) at e ⌝ }
+    ensures { λ r. ⌜ LastIs (now (s .entry)) at e r ⌝ }
+{
+    let t = e - 2;
+    match pieces::read_mark(&s[at..t]) {
+        pieces::Numbers::Unread => Lines::Wrong,
+        pieces::Numbers::Read(n, k) => {
+            if goes_on(s, e) {
+                return Lines::Wrong;
+            }
+            Lines::Marked(at, e, n, k)
+        }
+    }
+}
+
+// The rows of the piece whose line 1 ends at a position.
+fn read_lines(s: &[u8], from: usize) -> Lines
+    requires { ⌜ from ≤ length (now s) ⌝ }
+    ensures { λ r. ⌜ LinesAre (now (s .entry)) from r ⌝ }
+{
+    let mut at = from;
+    while at < s.len() {
+        let e = pieces::row_end(s, at);
+        match pieces::row_kind(&s[at..e]) {
+            pieces::Row::Body => {
+                let t = e - 2;
+                if pieces::is_mark(&s[at..t]) {
+                    return last_mark(s, at, e);
+                }
+                at = e;
+            }
+            pieces::Row::Head(_) => {
+                return Lines::Plain(at);
+            }
+            pieces::Row::EndHead(_) => {
+                return Lines::Plain(at);
+            }
+            pieces::Row::End => {
+                return Lines::Plain(at);
+            }
+            pieces::Row::Broken => {
+                return Lines::Plain(at);
+            }
+        }
+    }
+    Lines::Plain(at)
+}
+
+// A piece of a set: where its record 911 begins, where it ends, and its place.
+pub enum Member {
+    Of(usize, usize, usize),
+    Foreign,
+}
+
+// The piece of direction side whose line 1 ends at e, in a set of direction d, an ID and n pieces.
+fn read_member(s: &[u8], e: usize, side: bool, d: bool, id: &[u8], n: usize) -> Member
+    requires { ⌜ Within (now s) e ⌝ }
+    ensures { λ r. ⌜ MemberIs (now (s .entry)) e side d (now (id .entry)) n r ⌝ }
+{
+    match read_lines(s, e) {
+        Lines::Plain(_) => Member::Foreign,
+        Lines::Wrong => Member::Foreign,
+        Lines::Marked(last, end, m, k) => {
+            if side != d {
+                return Member::Foreign;
+            }
+            if m != n {
+                return Member::Foreign;
+            }
+            let x = last + 4;
+            let y = last + 18;
+            if !lists::same_bytes(&s[x..y], id) {
+                return Member::Foreign;
+            }
+            Member::Of(last, end, k)
+        }
+    }
+}
+
+// A span at a place that is free. A place that is taken stays: of n pieces with n places, none has another's.
+fn store(starts: &mut [usize], ends: &mut [usize], k: usize, from: usize, to: usize)
+    requires { ⌜ k ≤ 999 ⌝ }
+    requires { ⌜ Sizes (now starts) (now ends) ⌝ }
+    ensures { λ _. ⌜ Stored (now (starts .entry)) (now (ends .entry)) k from to (now (starts .exit)) (now (ends .exit)) ⌝ }
+{
+    if starts[k] == 0 {
+        starts[k] = from;
+        ends[k] = to;
+    }
+}
+
+// The spans of a set's pieces by their places; whether there are n pieces that agree.
+fn collect(s: &[u8], d: bool, id: &[u8], n: usize, starts: &mut [usize], ends: &mut [usize]) -> bool
+    requires { ⌜ Blank (now s) (now starts) (now ends) ⌝ }
+    ensures { λ r. ⌜ CollectIs (now (s .entry)) d (now (id .entry)) n (now (starts .exit)) (now (ends .exit)) r ⌝ }
+{
+    let mut m: usize = 0;
+    let mut at: usize = 0;
+    loop {
+        match next_piece(s, at) {
+            Next::Over => {
+                return m == n;
+            }
+            Next::Opens(e, side) => {
+                match read_member(s, e, side, d, id, n) {
+                    Member::Foreign => {
+                        return false;
+                    }
+                    Member::Of(last, end, k) => {
+                        if n <= m {
+                            return false;
+                        }
+                        store(starts, ends, k, e, last);
+                        m += 1;
+                        at = end;
+                    }
+                }
+            }
+        }
+    }
+}
+
+// Whether the places 1 to n are all taken.
+fn complete(starts: &[usize], n: usize) -> bool
+    requires { ⌜ length (now starts) ≡ 1000 ⌝ }
+    requires { ⌜ n ≤ 999 ⌝ }
+    ensures { λ r. ⌜ r ≡ taken (now (starts .entry)) n 1 ⌝ }
+{
+    let mut k: usize = 1;
+    while k <= n {
+        if starts[k] == 0 {
+            return false;
+        }
+        k += 1;
+    }
+    true
+}
+
+pub enum Filled {
+    Full(usize),
+    Large,
+}
+
+// The bytes of the places 1 to n, from an index on.
+fn gather(out: &mut [u8], at: usize, s: &[u8], starts: &[usize], ends: &[usize], n: usize) -> Filled
+    requires { ⌜ FillRoom (now out) at (now s) (now starts) (now ends) n ⌝ }
+    ensures { λ r. ⌜ FillIs (now (out .entry)) (now (out .exit)) at (spans (now (s .entry)) (now (starts .entry)) (now (ends .entry)) n 1) r ⌝ }
+{
+    let mut o = at;
+    let mut k: usize = 1;
+    while k <= n {
+        let a = starts[k];
+        let e = ends[k];
+        if out.len() - o < e - a {
+            return Filled::Large;
+        }
+        o = buffers::put_all(out, o, &s[a..e]);
+        k += 1;
+    }
+    Filled::Full(o)
+}
+
+// The joined file in a buffer: how many bytes; or a refusal's number and line.
+pub enum Made {
+    Bytes(usize),
+    No(u32, u32),
+}
+
+// Line 1 of a direction.
+fn put_head(out: &mut [u8], d: bool) -> usize
+    requires { ⌜ 13 ≤ length (now out) ⌝ }
+    ensures { λ r. ⌜ Wrote (now (out .entry)) (now (out .exit)) 0 r (headRow d) ⌝ }
+{
+    if d {
+        let provider = b"JAHISTC04,1\r\n";
+        return buffers::put_all(out, 0, provider);
+    }
+    let patient = b"JAHISTC04,2\r\n";
+    buffers::put_all(out, 0, patient)
+}
+
+// One piece without a record 911: line 1 of its direction, and its rows.
+fn join_one(s: &[u8], d: bool, from: usize, stop: usize, buf: &mut [u8]) -> Made
+    requires { ⌜ Given (now buf) (now s) from stop ⌝ }
+    ensures { λ r. ⌜ MadeIs (ok (headRow d ++ part (now (s .entry)) from stop)) (now (buf .exit)) r ⌝ }
+{
+    let o = put_head(buf, d);
+    if buf.len() - o < stop - from {
+        return Made::No(1, 0);
+    }
+    let t = buffers::put_all(buf, o, &s[from..stop]);
+    Made::Bytes(t)
+}
+
+// A set: line 1, and the rows of its pieces by place.
+fn join_spans(s: &[u8], d: bool, starts: &[usize], ends: &[usize], n: usize, buf: &mut [u8]) -> Made
+    requires { ⌜ GivenSet (now buf) (now s) (now starts) (now ends) n ⌝ }
+    ensures { λ r. ⌜ MadeIs (ok (headRow d ++ spans (now (s .entry)) (now (starts .entry)) (now (ends .entry)) n 1)) (now (buf .exit)) r ⌝ }
+{
+    let o = put_head(buf, d);
+    match gather(buf, o, s, starts, ends, n) {
+        Filled::Large => Made::No(1, 0),
+        Filled::Full(t) => Made::Bytes(t),
+    }
+}
+
+// The pieces as a set like its first, whose record 911 begins at last.
+fn join_set(s: &[u8], d: bool, last: usize, n: usize, buf: &mut [u8]) -> Made
+    requires { ⌜ First (now buf) (now s) d last n ⌝ }
+    ensures { λ r. ⌜ MadeIs (orSet (joinParts (partsOf (piecesIn (rows (now (s .entry))))))) (now (buf .exit)) r ⌝ }
+{
+    if n <= 1 {
+        return Made::No(19, 0);
+    }
+    let x = last + 4;
+    let y = last + 18;
+    let mut starts = [0usize; 1000];
+    let mut ends = [0usize; 1000];
+    if !collect(s, d, &s[x..y], n, &mut starts, &mut ends) {
+        return Made::No(19, 0);
+    }
+    if !complete(&starts, n) {
+        return Made::No(19, 0);
+    }
+    join_spans(s, d, &starts, &ends, n, buf)
+}
+
+// The pieces: one without a record 911, or a set.
+fn join_pieces(s: &[u8], buf: &mut [u8]) -> Made
+    requires { ⌜ Input (now buf) (now s) ⌝ }
+    ensures { λ r. ⌜ MadeIs (orSet (joinPieces (piecesIn (rows (now (s .entry)))))) (now (buf .exit)) r ⌝ }
+{
+    match next_piece(s, 0) {
+        Next::Over => Made::No(19, 0),
+        Next::Opens(e, d) => match read_lines(s, e) {
+            Lines::Wrong => Made::No(19, 0),
+            Lines::Marked(last, _, n, _) => join_set(s, d, last, n, buf),
+            Lines::Plain(stop) => match next_piece(s, stop) {
+                Next::Opens(_, _) => Made::No(19, 0),
+                Next::Over => join_one(s, d, e, stop, buf),
+            },
+        },
+    }
+}
+
+// The joined file before it is checked: 1 and 2 on the input, then 19.
+fn join_into(s: &[u8], buf: &mut [u8]) -> Made
+    requires { ⌜ length (now buf) ≡ 65536 ⌝ }
+    ensures { λ r. ⌜ MadeIs (joinedFile (now (s .entry))) (now (buf .exit)) r ⌝ }
+{
+    if 131072 < s.len() {
+        return Made::No(1, 0);
+    }
+    let line = broken_line(s);
+    if line != 0 {
+        return Made::No(2, line);
+    }
+    if !starts_well(s) {
+        return Made::No(19, 0);
+    }
+    join_pieces(s, buf)
+}
+
+// Pieces in any order to one file. The output is written where the joined file is accepted and fits, and is as it was otherwise.
+pub fn join(pieces: &[u8], out: &mut [u8]) -> Joining
+    ensures answer { λ r. ⌜ r ≡ joinOf (now (pieces .entry)) (length (now (out .entry))) ⌝ }
+    ensures buffer { λ _. ⌜ now (out .exit) ≡ joinBuffer (now (pieces .entry)) (now (out .entry)) ⌝ }
+{
+    let mut buf = [0u8; 65536];
+    match join_into(pieces, &mut buf) {
+        Made::No(n, line) => Joining::Refused(n, line),
+        Made::Bytes(t) => {
+            let from = 0;
+            match notebook::check(&buf[from..t]) {
+                notebook::Checked::Refused(n, line) => Joining::Refused(n, line),
+                notebook::Checked::Accepted(_, _, _) => {
+                    if out.len() < t {
+                        return Joining::Refused(20, 0);
+                    }
+                    buffers::put_all(out, 0, &buf[from..t]);
+                    Joining::Joined(t as u32)
+                }
+            }
+        }
+    }
 }

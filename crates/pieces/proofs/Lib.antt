@@ -1,3 +1,5 @@
 pub mod Chunks
 pub mod MarkLaws
 pub mod Bodies
+pub mod MarkReading
+pub mod RowLaws

@@ -1,1 +1,168 @@
-// The pieces of a cut notebook: the record 911, and bytes split into pieces. Definitions: specs/Marks.antt, specs/Pieces.antt.
+// The pieces of a cut notebook: the record 911, and the rows of bytes that are pieces. A row is cut behind each 0Ah, so that a 1Ah
+// between two pieces stands at the front of the next piece's line 1. Definitions: specs/Marks.antt, specs/Pieces.antt; what the code
+// answers, in their words: specs/Answers.antt.
+ghost use mathlib.Core.Path.{_≡_};
+ghost use Prim.Native.Nat.{_≤_, _<_};
+ghost use lib.ListN.{length};
+ghost use Rattle.characters.specs.Text.{text};
+ghost use Rattle.characters.specs.Rows.{isLine};
+ghost use Rattle.records.specs.Records.{isMark};
+ghost use Rattle.pieces.specs.Marks.{validID};
+ghost use Rattle.pieces.specs.Answers.{RowAt, KindIs, NumbersIs, MarkIs};
+
+// "A valid ID is 14 digits and nothing else."
+pub fn valid_id(id: &[u8]) -> bool
+    ensures { λ r. ⌜ r ≡ validID (now (id .entry)) ⌝ }
+{
+    if id.len() != 14 {
+        return false;
+    }
+    digits::all_digits(id)
+}
+
+// "A record 911 is a line that is 911 or begins with 911 and a comma."
+pub fn is_mark(line: &[u8]) -> bool
+    ensures { λ r. ⌜ r ≡ isMark (now (line .entry)) ⌝ }
+{
+    let e = lists::find_byte(line, 0, 0x2c);
+    let number = b"911";
+    lists::same_bytes(&line[0..e], number)
+}
+
+// n and k of a record 911.
+pub enum Numbers {
+    Read(usize, usize),
+    Unread,
+}
+
+// n and k, from behind the ID on.
+fn read_numbers(line: &[u8], at: usize) -> Numbers
+    requires { ⌜ at ≤ length (now line) ⌝ }
+    ensures { λ r. ⌜ NumbersIs (now (line .entry)) at r ⌝ }
+{
+    let c = lists::find_byte(line, at, 0x2c);
+    if line.len() <= c {
+        return Numbers::Unread;
+    }
+    let p = c + 1;
+    let d = lists::find_byte(line, p, 0x2c);
+    if d < line.len() {
+        return Numbers::Unread;
+    }
+    let n = digits::short_value(&line[at..c]);
+    if 999 < n {
+        return Numbers::Unread;
+    }
+    let k = digits::short_value(&line[p..]);
+    if 999 < k {
+        return Numbers::Unread;
+    }
+    Numbers::Read(n as usize, k as usize)
+}
+
+// A record 911 of an ID, n and k, by its four items.
+pub fn read_mark(line: &[u8]) -> Numbers
+    ensures { λ r. ⌜ MarkIs (now (line .entry)) r ⌝ }
+{
+    let a = lists::find_byte(line, 0, 0x2c);
+    if line.len() <= a {
+        return Numbers::Unread;
+    }
+    let number = b"911";
+    if !lists::same_bytes(&line[0..a], number) {
+        return Numbers::Unread;
+    }
+    let i = a + 1;
+    let b = lists::find_byte(line, i, 0x2c);
+    if line.len() <= b {
+        return Numbers::Unread;
+    }
+    if !valid_id(&line[i..b]) {
+        return Numbers::Unread;
+    }
+    let j = b + 1;
+    read_numbers(line, j)
+}
+
+// Where the row that begins at a position ends: behind a 0Ah, or at the end.
+pub fn row_end(s: &[u8], at: usize) -> usize
+    requires { ⌜ at < length (now s) ⌝ }
+    ensures { λ e. ⌜ RowAt (now (s .entry)) at e ⌝ }
+{
+    let i = lists::find_byte(s, at, 0x0a);
+    if i < s.len() {
+        return i + 1;
+    }
+    i
+}
+
+// How many bytes stand before the first 0Dh, 0Ah or 1Ah.
+pub fn text_length(r: &[u8]) -> usize
+    ensures { λ n. ⌜ n ≡ length (text (now (r .entry))) ⌝ }
+{
+    let mut i = 0;
+    while i < r.len() {
+        let b = r[i];
+        if b == 0x0d {
+            return i;
+        }
+        if b == 0x0a {
+            return i;
+        }
+        if b == 0x1a {
+            return i;
+        }
+        i += 1;
+    }
+    i
+}
+
+// Whether a row is a line with its line end.
+pub fn is_line(r: &[u8]) -> bool
+    ensures { λ x. ⌜ x ≡ isLine (now (r .entry)) ⌝ }
+{
+    let e = text_length(r);
+    let end = b"\r\n";
+    lists::same_bytes(&r[e..], end)
+}
+
+// The kinds of rows; true: the direction is 1.
+pub enum Row {
+    Head(bool),
+    EndHead(bool),
+    Body,
+    End,
+    Broken,
+}
+
+pub fn row_kind(r: &[u8]) -> Row
+    ensures { λ k. ⌜ KindIs (now (r .entry)) k ⌝ }
+{
+    let provider = b"JAHISTC04,1\r\n";
+    if lists::same_bytes(r, provider) {
+        return Row::Head(true);
+    }
+    let patient = b"JAHISTC04,2\r\n";
+    if lists::same_bytes(r, patient) {
+        return Row::Head(false);
+    }
+    if is_line(r) {
+        return Row::Body;
+    }
+    if r.len() == 0 {
+        return Row::Broken;
+    }
+    if r[0] != 0x1a {
+        return Row::Broken;
+    }
+    if r.len() == 1 {
+        return Row::End;
+    }
+    if lists::same_bytes(&r[1..], provider) {
+        return Row::EndHead(true);
+    }
+    if lists::same_bytes(&r[1..], patient) {
+        return Row::EndHead(false);
+    }
+    Row::Broken
+}

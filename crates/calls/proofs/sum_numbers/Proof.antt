@@ -1,0 +1,58 @@
+use borrow.Author.Needs.{needs}
+use Prim.Native.Nat.{_-_}
+use lib.ListN.{length}
+use Rattle.calls.proofs.sum_numbers.Statement.{statement}
+use Rattle.calls.proofs.sum_numbers.Tie as tie
+use Rattle.calls.proofs.sum_numbers.Reads as reads
+use Rattle.calls.proofs.sum_numbers.Lts as lts
+use Rattle.calls.proofs.Sums.add_number.Reads as add-number-reads
+use Rattle.calls.proofs.Sums.whole.Reads as whole-reads
+
+abbrev Inv-loop : tie.InvT-loop
+Inv-loop out sums₀ i₀ sums i = Unit {0}
+
+abbrev μ-loop : tie.MeasureT-loop
+μ-loop out sums₀ i₀ sums i = length out - i
+
+loop-holds : tie.Need-loop-holds Inv-loop μ-loop
+loop-holds c = search needs
+
+mul-add-number : tie.Need-mul-add-number Inv-loop μ-loop
+mul-add-number c = search needs
+
+shared-slice-read-add-number : tie.Need-shared-slice-read-add-number Inv-loop μ-loop
+shared-slice-read-add-number c = search needs
+
+add-number-requires : tie.Need-add-number-requires Inv-loop μ-loop
+add-number-requires c κs = search needs
+
+add-i : tie.Need-add-i Inv-loop μ-loop
+add-i c = search needs
+
+loop-less : tie.Need-loop-less Inv-loop μ-loop
+loop-less c = search needs
+
+loop-again : tie.Need-loop-again Inv-loop μ-loop
+loop-again c = search needs
+
+whole-requires : tie.Need-whole-requires Inv-loop μ-loop
+whole-requires c κs = search needs
+
+returns : tie.Need-returns Inv-loop μ-loop
+returns c = search needs
+
+pub sum-numbers-spec : {M : Type 1} → statement M
+sum-numbers-spec =
+    tie.close
+    (tie.spec
+    Inv-loop
+    μ-loop
+    loop-holds
+    mul-add-number
+    shared-slice-read-add-number
+    add-number-requires
+    add-i
+    loop-less
+    loop-again
+    whole-requires
+    returns)

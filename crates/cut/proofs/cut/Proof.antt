@@ -1,0 +1,72 @@
+use borrow.Author.Needs.{needs}
+use Prim.Native.Nat.{_-_}
+use lib.ListN.{length}
+use Rattle.cut.proofs.FileLaws.{cut-laws}
+use Rattle.cut.proofs.cut.Statement.{statement}
+use Rattle.cut.proofs.cut.Tie as tie
+use Rattle.cut.proofs.cut.Reads as reads
+use Rattle.cut.proofs.cut.Lts as lts
+use Rattle.canonical.proofs.canonical_into.Reads as canonical-into-reads
+use Rattle.cut.proofs.cut_bytes.Reads as cut-bytes-reads
+use Rattle.pieces.proofs.valid_id.Reads as valid-id-reads
+
+slice-aggregate-canonical-into : tie.Need-slice-aggregate-canonical-into
+slice-aggregate-canonical-into c = search needs
+
+canonical-into-requires : tie.Need-canonical-into-requires
+canonical-into-requires c κs = search needs
+
+enum-known-number : tie.Need-enum-known-number
+enum-known-number c = search needs
+
+enum-known-count : tie.Need-enum-known-count
+enum-known-count c = search needs
+
+valid-id-requires : tie.Need-valid-id-requires
+valid-id-requires c κs = search needs
+
+cast-end : tie.Need-cast-end
+cast-end c = search needs
+
+sub-cut-bytes : tie.Need-sub-cut-bytes
+sub-cut-bytes c = search needs
+
+part-cut-bytes-start : tie.Need-part-cut-bytes-start
+part-cut-bytes-start c = search needs
+
+part-cut-bytes-end : tie.Need-part-cut-bytes-end
+part-cut-bytes-end c = search (needs, cut-laws)
+
+cut-bytes-requires : tie.Need-cut-bytes-requires
+cut-bytes-requires c κs = search (needs, cut-laws)
+
+same-length : tie.Need-same-length
+same-length c = search needs
+
+returns : tie.Need-returns
+returns c = search (needs, cut-laws)
+
+returns-2 : tie.Need-returns-2
+returns-2 c = search (needs, cut-laws)
+
+returns-3 : tie.Need-returns-3
+returns-3 c = search (needs, cut-laws)
+
+pub cut-spec : {M : Type 1} → statement M
+cut-spec =
+    tie.close
+    (tie.spec
+    slice-aggregate-canonical-into
+    canonical-into-requires
+    enum-known-number
+    enum-known-count
+    valid-id-requires
+    cast-end
+    sub-cut-bytes
+    part-cut-bytes-start
+    part-cut-bytes-end
+    cut-bytes-requires
+    same-length
+    returns
+    returns-2
+    returns-3)

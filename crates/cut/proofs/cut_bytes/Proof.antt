@@ -1,0 +1,103 @@
+use borrow.Author.Needs.{needs}
+use Prim.Native.Nat.{_-_}
+use lib.ListN.{length}
+use Rattle.cut.proofs.AnswerLaws.{answer-laws, split-done}
+use Rattle.cut.proofs.cut_bytes.Statement.{statement}
+use Rattle.cut.proofs.cut_bytes.Tie as tie
+use Rattle.cut.proofs.cut_bytes.Reads as reads
+use Rattle.cut.proofs.cut_bytes.Lts as lts
+use Rattle.buffers.proofs.put_all.Reads as put-all-reads
+use Rattle.cut.proofs.first_width.Reads as first-width-reads
+use Rattle.cut.proofs.pour_rows.Reads as pour-rows-reads
+
+returns : tie.Need-returns
+returns c = search (needs, answer-laws)
+
+put-all-requires : tie.Need-put-all-requires
+put-all-requires c κs = search needs
+
+cast-t19 : tie.Need-cast-t19
+cast-t19 c = search needs
+
+same-length : tie.Need-same-length
+same-length c = search needs
+
+returns-2 : tie.Need-returns-2
+returns-2 c = search (needs, answer-laws)
+
+first-width-requires : tie.Need-first-width-requires
+first-width-requires c κs = search needs
+
+enum-told : tie.Need-enum-told
+enum-told c = search needs
+
+enum-known-w : tie.Need-enum-known-w
+enum-known-w c = search needs
+
+sub-total : tie.Need-sub-total
+sub-total c = search needs
+
+add-total : tie.Need-add-total
+add-total c = search (needs, answer-laws)
+
+returns-3 : tie.Need-returns-3
+returns-3 c = search (needs, answer-laws)
+
+sub-put-all : tie.Need-sub-put-all
+sub-put-all c = search needs
+
+part-put-all-start : tie.Need-part-put-all-start
+part-put-all-start c = search needs
+
+part-put-all-end : tie.Need-part-put-all-end
+part-put-all-end c = search needs
+
+put-all-requires-2 : tie.Need-put-all-requires-2
+put-all-requires-2 c κs = search (needs, answer-laws)
+
+pour-rows-requires : tie.Need-pour-rows-requires
+pour-rows-requires c κs = search (needs, answer-laws)
+
+cast-t31 : tie.Need-cast-t31
+cast-t31 c = search (needs, answer-laws)
+
+returns-4 : tie.Need-returns-4
+returns-4 c = search (needs, answer-laws)
+
+same-length-2 : tie.Need-same-length-2
+same-length-2 c = search needs
+
+returns-5 : tie.Need-returns-5
+returns-5 c =
+    split-done _
+    (c .before .before .before .before .before .before .before .before .before .before .before .before .before .before .before .before .before .before
+    .pre) (c .before .before .before .before .before .before .before .before .before .before .before .before .before .before .if1 .left)
+    (c .before .before .before .before .before .before .before .before .before .before .before .before .before .first-width .ensures)
+    (c .before .before .before .before .before .before .before .before .before .before .before .w .given .1)
+    (c .before .before .before .before .before .before .before .before .before .if3 .left)
+    (c .before .before .before .before .before .before .put-all2 .ensures) (c .before .before .pour-rows .ensures)
+
+pub cut-bytes-spec : {M : Type 1} → statement M
+cut-bytes-spec =
+    tie.close
+    (tie.spec
+    returns
+    put-all-requires
+    cast-t19
+    same-length
+    returns-2
+    first-width-requires
+    enum-told
+    enum-known-w
+    sub-total
+    add-total
+    returns-3
+    sub-put-all
+    part-put-all-start
+    part-put-all-end
+    put-all-requires-2
+    pour-rows-requires
+    cast-t31
+    returns-4
+    same-length-2
+    returns-5)

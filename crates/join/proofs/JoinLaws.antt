@@ -1,0 +1,425 @@
+-- The ways through joining: line 1 and the rows in the buffer, one piece or a set, the input's refusals, the check, the output. Assumes
+-- nothing.
+use Prim.Native.Nat.{ℕ, zero, suc, _+_, _-_, _≤_, _<_}
+use mathlib.Core.Path.{_≡_, refl, sym, ap, ap₂, _∙_, subst}
+use mathlib.Core.Bool.{Bool, true, false, cond, not, _&&_, Bool·beq, false≢true}
+use mathlib.Core.Option.{Option, none, some}
+use mathlib.Core.List.{List, [], _∷_, _++_}
+use native.Mathlib.Omega.{arith}
+use borrow.Author.Tests.{eq-eqb, ne-eqb, le-leb, lt-leb, not-true, not-false}
+use mir.Val.{Fits}
+use mir.Syntax.{w32}
+use lib.Dec.{leb, eqb}
+use lib.ListN.{length, getD, take, drop, replicate, length-replicate, getD-replicate, length-append}
+use lib.Seq.{length-take-le}
+use Rattle.lists.specs.Lists.{same, part, Res, ok, refused}
+use Rattle.lists.proofs.Tests.{both}
+use Rattle.characters.specs.Rows.{rows, flat}
+use Rattle.canonical.specs.Canonical.{headRow}
+use Rattle.buffers.specs.Buffers.{Wrote}
+use Rattle.buffers.proofs.Runs.{sets-all, then, front}
+use Rattle.notebook.specs.declared.Checked.{Checked}
+use Rattle.notebook.specs.declared.Checked.the-variants.{Accepted, Refused as NotAccepted}
+use Rattle.notebook.specs.Notebook.{Notebook, readFile}
+use Rattle.notebook.specs.Check.{checked, checkOf}
+use Rattle.pieces.specs.Pieces.{brokenLine, Piece, bodyOf, piecesIn, startsWell, splitRows, split, fileOf}
+use Rattle.pieces.proofs.RowLaws.{line1, head-true, head-false}
+use Rattle.join.specs.declared.Next.{Next}
+use Rattle.join.specs.declared.Next.the-variants.{Opens, Over}
+use Rattle.join.specs.declared.Lines.{Lines}
+use Rattle.join.specs.declared.Lines.the-variants.{Plain, Marked, Wrong}
+use Rattle.join.specs.declared.Filled.{Filled}
+use Rattle.join.specs.declared.Filled.the-variants.{Full, Large}
+use Rattle.join.specs.declared.Made.{Made}
+use Rattle.join.specs.declared.Made.the-variants.{Bytes, No}
+use Rattle.join.specs.declared.Joining.{Joining}
+use Rattle.join.specs.declared.Joining.the-variants.{Joined, Refused}
+use Rattle.join.specs.Join.{unmarked, Part, partOf, with, partsOf, agree, gather, whole, joinParts, joinPieces, orSet, joinSplit, joinedFile, checkedFile, thenChecked, joinFile, held, joinOf, bytesOf, bufferAfter, joinBuffer}
+use Rattle.join.specs.Spans.{Opened, NextMeans, NextIs, PlainLines, partWith, MarkedLines, WrongLines, LinesMean, LinesAre, like, isSet, Sizes, Blank, Collected, CollectMeans, CollectIs, taken, spans, FillMeans, FillIs, MadeMeans, MadeIs, Given, GivenSet, First, Input}
+use Rattle.join.proofs.BodyLaws.{part-length}
+use Rattle.join.proofs.SetLaws.{agree-self, Gathers, gathers}
+
+-- ---- line 1
+
+module _ (d : Bool) {D D₁ : List ℕ} {r : ℕ} where
+  pub head-provider : d ≡ true → Wrote D D₁ 0 r (74 ∷ 65 ∷ 72 ∷ 73 ∷ 83 ∷ 84 ∷ 67 ∷ 48 ∷ 52 ∷ 44 ∷ 49 ∷ 13 ∷ 10 ∷ []) → Wrote D D₁ 0 r (headRow d)
+  head-provider q w = subst (λ (l : List ℕ). Wrote D D₁ 0 r l) (sym (ap headRow q ∙ head-true)) w
+
+  pub head-patient : d ≡ false → Wrote D D₁ 0 r (74 ∷ 65 ∷ 72 ∷ 73 ∷ 83 ∷ 84 ∷ 67 ∷ 48 ∷ 52 ∷ 44 ∷ 50 ∷ 13 ∷ 10 ∷ []) → Wrote D D₁ 0 r (headRow d)
+  head-patient q w = subst (λ (l : List ℕ). Wrote D D₁ 0 r l) (sym (ap headRow q ∙ head-false)) w
+
+pub ruleset head-laws = (head-provider, head-patient)
+
+head-length : (d : Bool) → length (headRow d) ≡ 13
+head-length true = ap length head-true
+head-length false = ap length head-false
+
+-- ---- a file in the buffer
+
+too-large : (w : List ℕ) → 65536 < length w → thenChecked (ok w) ≡ refused 1 0
+unfolding readFile
+too-large w h = rw (lt-leb (length w) 65536 h)
+
+module _ {D D₁ : List ℕ} {o : ℕ} (d : Bool) (size : length D ≡ 65536) (w : Wrote D D₁ 0 o (headRow d)) (v : List ℕ) where
+  large : length D₁ < o + length v → thenChecked (ok (headRow d ++ v)) ≡ refused 1 0
+  large h = too-large (headRow d ++ v) (omega (arith, length-append (headRow d) v, w .next, w .size))
+
+  filled : {D₂ : List ℕ} {t : ℕ} → Wrote D₁ D₂ o t v → MadeIs (ok (headRow d ++ v)) D₂ (Bytes t)
+  filled {D₂} {t} x =
+      let y : Wrote D D₂ 0 t (headRow d ++ v) = then w x in
+      record {
+        means = (ap ok (sym (front y (omega (arith, y .next, y .high)))), omega (arith, y .high, y .size));
+        size = omega (arith, y .size);
+      }
+
+module _ {D D₁ s : List ℕ} {o from stop : ℕ} (d : Bool) (g : Given D s from stop) (w : Wrote D D₁ 0 o (headRow d)) where
+  one-length : length (part s from stop) ≡ stop - from
+  one-length = part-length s from stop (g .low) (g .high)
+
+  pub one-large : length D₁ - o < stop - from → MadeIs (ok (headRow d ++ part s from stop)) D₁ (No 1 0)
+  one-large h = record { means = large d (g .size) w (part s from stop) (omega (arith, one-length, w .high, w .size)); size = omega (arith, g .size, w .size) }
+
+  pub one-done : {D₂ : List ℕ} {t : ℕ} → Wrote D₁ D₂ o t (take (stop - from) (drop from s)) → MadeIs (ok (headRow d ++ part s from stop)) D₂ (Bytes t)
+  one-done x = filled d (g .size) w (part s from stop) x
+
+pub ruleset one-laws = (one-large, one-done)
+
+module _ {D D₁ D₂ s a b : List ℕ} {o n : ℕ} (d : Bool) (g : GivenSet D s a b n) (w : Wrote D D₁ 0 o (headRow d)) {r : Filled} (x : FillIs D₁ D₂ o (spans s a b n 1) r) where
+  pub spans-large : r ≡ Large → MadeIs (ok (headRow d ++ spans s a b n 1)) D₂ (No 1 0)
+  spans-large q = record { means = large d (g .size) w (spans s a b n 1) (subst (FillMeans D₁ D₂ o (spans s a b n 1)) q (x .means)); size = omega (arith, x .size, w .size, g .size) }
+
+  pub spans-done : {t : ℕ} → r ≡ Full t → MadeIs (ok (headRow d ++ spans s a b n 1)) D₂ (Bytes t)
+  spans-done q = filled d (g .size) w (spans s a b n 1) (subst (FillMeans D₁ D₂ o (spans s a b n 1)) q (x .means))
+
+pub ruleset spans-laws = (spans-large, spans-done)
+
+-- ---- a set like its first piece
+
+-- a part is compared by its direction, ID and count alone
+like-same : (p : Part) (ps : List Part) → agree p ps ≡ agree (like (p .provider) (p .mark .ident) (p .mark .count)) ps
+unfolding agree
+like-same p [] = refl
+like-same p (q ∷ ps) =
+    ap (λ (t : Bool). (Bool·beq (p .provider) (q .provider) && (same (p .mark .ident) (q .mark .ident) && eqb (p .mark .count) (q .mark .count))) && t) (like-same p ps)
+
+module _ {D s : List ℕ} {d : Bool} {last n : ℕ} (g : First D s d last n) where
+  abbrev test : List Part → Bool
+  test ps = agree (like d (part s (last + 4) (last + 18)) n) ps && (leb 2 n && eqb (suc (length ps)) n)
+
+  by-test : (o : Option (List Part)) (ps : List Part) → o ≡ some ps → joinParts (with (some (partWith s d last n (g .place) (g .lines))) o)
+      ≡ cond (test ps) (whole d (gather (partWith s d last n (g .place) (g .lines) ∷ ps) n 1)) none
+  by-test o ps e =
+      ap (λ (x : Option (List Part)). joinParts (with (some (partWith s d last n (g .place) (g .lines))) x)) e
+      ∙ ap (λ (t : Bool). cond (t && (leb 2 n && eqb (suc (length ps)) n)) (whole d (gather (partWith s d last n (g .place) (g .lines) ∷ ps) n 1)) none)
+      (like-same (partWith s d last n (g .place) (g .lines)) ps)
+
+  lost : {D₁ : List ℕ} → length D₁ ≡ 65536 → joinParts (partsOf (piecesIn (rows s))) ≡ none → MadeIs (orSet (joinParts (partsOf (piecesIn (rows s))))) D₁ (No 19 0)
+  lost z e = record { means = ap (λ (x : Option Piece). thenChecked (orSet x)) e; size = z }
+
+  pub set-few : n ≤ 1 → MadeIs (orSet (joinParts (partsOf (piecesIn (rows s))))) D (No 19 0)
+  set-few h = lost (g .size) (ap joinParts (g .is) ∙ go (g .others) refl)
+    where
+      go : (o : Option (List Part)) → g .others ≡ o → joinParts (with (some (partWith s d last n (g .place) (g .lines))) o) ≡ none
+      go none q = refl
+      go (some ps) q = by-test (some ps) ps refl ∙ no (agree (like d (part s (last + 4) (last + 18)) n) ps)
+        where
+          no : (t : Bool) → cond (t && (leb 2 n && eqb (suc (length ps)) n)) (whole d (gather (partWith s d last n (g .place) (g .lines) ∷ ps) n 1)) none ≡ none
+          no true = rw (lt-leb 2 n (omega arith))
+          no false = refl
+
+  pub set-blank : Blank s (replicate 1000 0) (replicate 1000 0)
+  set-blank = record {
+    small = g .small;
+    sizes = record { starts = length-replicate {A = ℕ} 1000 0; ends = length-replicate {A = ℕ} 1000 0 };
+    starts = λ k h. getD-replicate {A = ℕ} 1000 k 0 0 h;
+    ends = λ k h. getD-replicate {A = ℕ} 1000 k 0 0 h;
+  }
+
+  module _ {a b : List ℕ} {x : Bool} (v : CollectIs s d (take (last + 18 - (last + 4)) (drop (last + 4) s)) n a b x) where
+    -- no set: isSet says so of the same parts
+    pub set-lost : 1 < n → not x ≡ true → MadeIs (orSet (joinParts (partsOf (piecesIn (rows s))))) D (No 19 0)
+    set-lost h q =
+        let e : isSet d (part s (last + 4) (last + 18)) n (partsOf (piecesIn (rows s))) ≡ false = subst (CollectMeans s d (part s (last + 4) (last + 18)) n a b) (not-true x q) (v .means) in
+        lost (g .size) (ap joinParts (g .is) ∙ go (g .others) (ap (isSet d (part s (last + 4) (last + 18)) n) (sym (g .is)) ∙ e))
+      where
+        go : (o : Option (List Part)) → isSet d (part s (last + 4) (last + 18)) n (with (some (partWith s d last n (g .place) (g .lines))) o) ≡ false
+            → joinParts (with (some (partWith s d last n (g .place) (g .lines))) o) ≡ none
+        go none e = refl
+        go (some ps) e =
+            let f : (agree (like d (part s (last + 4) (last + 18)) n) ps && eqb (suc (length ps)) n) ≡ false =
+            ap (λ (t : Bool). t && eqb (suc (length ps)) n) (sym (agree-self d (part s (last + 4) (last + 18)) n (g .place) (g .lines) ps)) ∙ e in
+            let u : test ps ≡ false = rw (le-leb 2 n h) f in
+            by-test (some ps) ps refl ∙ ap (λ (t : Bool). cond t (whole d (gather (partWith s d last n (g .place) (g .lines) ∷ ps) n 1)) none) u
+
+    module _ (h : 1 < n) (q : not x ≡ false) where
+      collected : Collected s d (part s (last + 4) (last + 18)) n a b
+      collected = subst (CollectMeans s d (part s (last + 4) (last + 18)) n a b) (not-false x q) (v .means)
+
+      pub set-size : length a ≡ 1000
+      set-size = collected .sizes .starts
+
+      pub set-given : GivenSet D s a b n
+      set-given = record { size = g .size; sizes = collected .sizes; bounds = collected .bounds; count = g .count }
+
+      joins : joinParts (partsOf (piecesIn (rows s))) ≡ whole d (gather (collected .seen) n 1)
+      joins = ap joinParts (g .is) ∙ go (g .others) (sym (g .is) ∙ collected .parts)
+        where
+          go : (o : Option (List Part)) → with (some (partWith s d last n (g .place) (g .lines))) o ≡ some (collected .seen)
+              → joinParts (with (some (partWith s d last n (g .place) (g .lines))) o) ≡ whole d (gather (collected .seen) n 1)
+          go none e = let z : _≡_ {A = ℕ} 0 1 = cc in absurd (omega arith)
+          go (some ps) e =
+              let f : partWith s d last n (g .place) (g .lines) ∷ ps ≡ collected .seen = cc in
+              let t : agree (like d (part s (last + 4) (last + 18)) n) ps ≡ true =
+              sym (agree-self d (part s (last + 4) (last + 18)) n (g .place) (g .lines) ps) ∙ (ap (agree (like d (part s (last + 4) (last + 18)) n)) f ∙ collected .agrees) in
+              let c : eqb (suc (length ps)) n ≡ true = eq-eqb (suc (length ps)) n (ap length f ∙ collected .count) in
+              by-test (some ps) ps refl ∙ (rw (t, le-leb 2 n h, c) (ap (λ (z : List Part). whole d (gather z n 1)) f))
+
+      gathered : Gathers s a b n 1 (gather (collected .seen) n 1)
+      gathered = gathers (collected .slots) n 1 (omega (arith, g .count))
+
+      module _ {y : Bool} (w : y ≡ taken a n 1) where
+        pub set-missing : not y ≡ true → MadeIs (orSet (joinParts (partsOf (piecesIn (rows s))))) D (No 19 0)
+        set-missing z = lost (g .size) (joins ∙ go (gather (collected .seen) n 1) gathered)
+          where
+            go : (o : Option (List (List ℕ))) → Gathers s a b n 1 o → whole d o ≡ none
+            go none i = refl
+            go (some rs) i = absurd (false≢true (sym (not-true y z) ∙ (w ∙ i .0)))
+
+        pub set-done : {D₁ : List ℕ} {r : Made} → not y ≡ false → MadeIs (ok (headRow d ++ spans s a b n 1)) D₁ r
+            → MadeIs (orSet (joinParts (partsOf (piecesIn (rows s))))) D₁ r
+        unfolding fileOf
+        set-done {D₁} {r} z m = subst (λ (k : Res (List ℕ)). MadeIs k D₁ r) (sym (ap orSet joins ∙ go (gather (collected .seen) n 1) gathered)) m
+          where
+            go : (o : Option (List (List ℕ))) → Gathers s a b n 1 o → orSet (whole d o) ≡ ok (headRow d ++ spans s a b n 1)
+            go none i = absurd (false≢true (sym i ∙ (sym w ∙ not-false y z)))
+            go (some rs) i = ap (λ (u : List ℕ). ok (headRow d ++ u)) (i .1)
+
+pub ruleset set-laws = (set-few, set-blank, set-lost, set-size, set-given, set-missing, set-done)
+
+-- ---- one piece, or a set
+
+several : (x : Piece) (xs : List Piece) → unmarked (x .rows) ≡ false → joinPieces (x ∷ xs) ≡ joinParts (partsOf (x ∷ xs))
+unfolding joinPieces
+several x [] e = rw e
+several x (y ∷ xs) e = refl
+
+module _ {D s : List ℕ} (g : Input D s) {r : Next} (x : NextIs s 0 r) where
+  nineteen : joinPieces (piecesIn (rows s)) ≡ none → MadeIs (orSet (joinPieces (piecesIn (rows s)))) D (No 19 0)
+  nineteen e = record { means = ap (λ (o : Option Piece). thenChecked (orSet o)) e; size = g .size }
+
+  pub pieces-over : r ≡ Over → MadeIs (orSet (joinPieces (piecesIn (rows s)))) D (No 19 0)
+  unfolding joinPieces
+  pieces-over q = nineteen (ap joinPieces (subst (NextMeans s 0) q (x .means)))
+
+  module _ {e : ℕ} {d : Bool} (q : r ≡ Opens e d) where
+    opening : Opened s 0 e d
+    opening = subst (NextMeans s 0) q (x .means)
+
+    pub pieces-from : e ≤ length s
+    pieces-from = opening .high
+
+    by-parts : partsOf (piecesIn (rows s)) ≡ with (partOf d (bodyOf (rows (drop e s)))) (partsOf (piecesIn (rows (drop e s))))
+    unfolding partsOf
+    by-parts = ap partsOf (opening .is)
+
+    module _ {l : Lines} (v : LinesAre s e l) where
+      mean : {j : Lines} → l ≡ j → LinesMean s e j
+      mean t = subst (LinesMean s e) t (v .mean)
+
+      pub pieces-wrong : l ≡ Wrong → MadeIs (orSet (joinPieces (piecesIn (rows s)))) D (No 19 0)
+      unfolding partsOf
+      pieces-wrong t =
+          let w : WrongLines s e = mean t in
+          nineteen (ap joinPieces (opening .is)
+          ∙ (several (record { provider = d; rows = bodyOf (rows (drop e s)) }) (piecesIn (rows (drop e s))) (w .marked)
+          ∙ ap (λ (o : Option Part). joinParts (with o (partsOf (piecesIn (rows (drop e s)))))) (w .none d)))
+
+      module _ {last stop n k : ℕ} (t : l ≡ Marked last stop n k) where
+        marked : MarkedLines s e last stop n k
+        marked = mean t
+
+        pub pieces-first : First D s d last n
+        pieces-first = record {
+          size = g .size;
+          small = g .small;
+          ident = omega (arith, marked .ident, marked .high);
+          count = marked .count;
+          place = k;
+          lines = marked .lines;
+          others = partsOf (piecesIn (rows (drop e s)));
+          is = by-parts ∙ ap (λ (o : Option Part). with o (partsOf (piecesIn (rows (drop e s))))) (marked .is d);
+        }
+
+        pub pieces-set : {D₁ : List ℕ} {m : Made} → MadeIs (orSet (joinParts (partsOf (piecesIn (rows s))))) D₁ m → MadeIs (orSet (joinPieces (piecesIn (rows s)))) D₁ m
+        pieces-set {D₁} {m} y =
+            let z : joinPieces (piecesIn (rows s)) ≡ joinParts (partsOf (piecesIn (rows s))) =
+            ap joinPieces (opening .is) ∙ (several (record { provider = d; rows = bodyOf (rows (drop e s)) }) (piecesIn (rows (drop e s))) (marked .marked)
+            ∙ ap (λ (ps : List Piece). joinParts (partsOf ps)) (sym (opening .is))) in
+            subst (λ (o : Option Piece). MadeIs (orSet o) D₁ m) (sym z) y
+
+      module _ {stop : ℕ} (t : l ≡ Plain stop) where
+        plain : PlainLines s e stop
+        plain = mean t
+
+        pub pieces-stop : stop ≤ length s
+        pieces-stop = plain .high
+
+        pub pieces-given : Given D s e stop
+        pieces-given = record { size = g .size; low = plain .low; high = plain .high }
+
+        module _ {r₂ : Next} (y : NextIs s stop r₂) where
+          pub pieces-more : {e₂ : ℕ} {d₂ : Bool} → r₂ ≡ Opens e₂ d₂ → MadeIs (orSet (joinPieces (piecesIn (rows s)))) D (No 19 0)
+          unfolding joinPieces partsOf
+          pieces-more {e₂} {d₂} u =
+              let z : Opened s stop e₂ d₂ = subst (NextMeans s stop) u (y .means) in
+              let p : Piece = record { provider = d₂; rows = bodyOf (rows (drop e₂ s)) } in
+              let xs : List Piece = piecesIn (rows (drop e₂ s)) in
+              let w : piecesIn (rows s) ≡ record { provider = d; rows = bodyOf (rows (drop e s)) } ∷ p ∷ xs =
+              opening .is ∙ ap (λ (ps : List Piece). record { provider = d; rows = bodyOf (rows (drop e s)) } ∷ ps) (plain .next ∙ z .is) in
+              nineteen (ap joinPieces w ∙ ap (λ (o : Option Part). joinParts (with o (partsOf (p ∷ xs)))) (plain .none d))
+
+          pub pieces-one : {D₁ : List ℕ} {m : Made} → r₂ ≡ Over → MadeIs (ok (headRow d ++ part s e stop)) D₁ m → MadeIs (orSet (joinPieces (piecesIn (rows s)))) D₁ m
+          unfolding joinPieces fileOf
+          pieces-one {D₁} {m} u z =
+              let w : piecesIn (rows s) ≡ record { provider = d; rows = bodyOf (rows (drop e s)) } ∷ [] =
+              opening .is ∙ ap (λ (ps : List Piece). record { provider = d; rows = bodyOf (rows (drop e s)) } ∷ ps) (plain .next ∙ subst (NextMeans s stop) u (y .means)) in
+              let f : orSet (joinPieces (piecesIn (rows s))) ≡ ok (headRow d ++ part s e stop) =
+              ap (λ (ps : List Piece). orSet (joinPieces ps)) w ∙ rw (plain .plain) (ap (λ (b : List ℕ). ok (headRow d ++ b)) (plain .bytes)) in
+              subst (λ (k : Res (List ℕ)). MadeIs k D₁ m) (sym f) z
+
+pub ruleset pieces-laws = (pieces-over, pieces-from, pieces-wrong, pieces-first, pieces-set, pieces-stop, pieces-given, pieces-more, pieces-one)
+
+-- ---- the input
+
+by-rows : (s : List ℕ) → length s ≤ 131072
+    → joinedFile s ≡ joinSplit (cond (eqb (brokenLine (rows s)) 0) (cond (startsWell (rows s)) (ok (piecesIn (rows s))) (refused 19 0)) (refused 2 (brokenLine (rows s))))
+unfolding joinedFile split splitRows
+by-rows s h = rw (le-leb (length s) 131072 h)
+
+module _ (D s : List ℕ) (size : length D ≡ 65536) where
+  pub into-large : 131072 < length s → MadeIs (joinedFile s) D (No 1 0)
+  unfolding joinedFile
+  into-large h = record { means = rw (lt-leb (length s) 131072 h); size = size }
+
+  module _ (h : length s ≤ 131072) where
+    pub into-input : Input D s
+    into-input = record { size = size; small = h }
+
+    module _ {line : ℕ} (p : line ≡ brokenLine (rows s)) where
+      pub into-ends : (line ≡ 0 → ⊥) → MadeIs (joinedFile s) D (No 2 line)
+      into-ends q =
+          let f : joinedFile s ≡ refused 2 line = by-rows s h ∙ rw (ne-eqb (brokenLine (rows s)) 0 (λ e. q (p ∙ e))) (ap (λ (n : ℕ). refused 2 n) (sym p)) in
+          record { means = ap thenChecked f; size = size }
+
+      pub into-before : {y : Bool} → line ≡ 0 → y ≡ startsWell (rows s) → not y ≡ true → MadeIs (joinedFile s) D (No 19 0)
+      into-before {y} q t w =
+          let f : joinedFile s ≡ refused 19 0 = by-rows s h ∙ rw (eq-eqb (brokenLine (rows s)) 0 (sym p ∙ q), sym t ∙ not-true y w) in
+          record { means = ap thenChecked f; size = size }
+
+pub into-done : (s : List ℕ) {line : ℕ} {y : Bool} {D₁ : List ℕ} {m : Made} → length s ≤ 131072 → line ≡ brokenLine (rows s) → line ≡ 0 → y ≡ startsWell (rows s) → not y ≡ false
+    → MadeIs (orSet (joinPieces (piecesIn (rows s)))) D₁ m → MadeIs (joinedFile s) D₁ m
+into-done s {line} {y} {D₁} {m} h p q t w z =
+    let f : joinedFile s ≡ orSet (joinPieces (piecesIn (rows s))) = by-rows s h ∙ rw (eq-eqb (brokenLine (rows s)) 0 (sym p ∙ q), sym t ∙ not-false y w) in
+    subst (λ (k : Res (List ℕ)). MadeIs k D₁ m) (sym f) z
+
+pub ruleset into-laws = (into-large, into-ends, into-before, into-done, into-input)
+
+-- ---- the check, and the output
+
+refusal : (x : Res Notebook) {n line : ℕ} → checked x ≡ NotAccepted n line → x ≡ refused n line
+refusal (ok b) e = let z : _≡_ {A = ℕ} 0 1 = cc in absurd (omega arith)
+refusal (refused a b) e = cc
+
+accepted : (x : Res Notebook) {a b c : ℕ} (w : List ℕ) → checked x ≡ Accepted a b c → checkedFile w x ≡ ok w
+accepted (ok y) w e = refl
+accepted (refused n line) w e = let z : _≡_ {A = ℕ} 0 1 = cc in absurd (omega arith)
+
+module _ (s : List ℕ) {B : List ℕ} {m : Made} (x : MadeIs (joinedFile s) B m) where
+  -- a refusal of the joined file is the answer, and leaves the output
+  no-answer : {n line : ℕ} (room : ℕ) → joinFile s ≡ refused n line → Refused n line ≡ joinOf s room
+  unfolding joinOf
+  no-answer room e = sym (ap (λ (k : Res (List ℕ)). held k room) e)
+
+  no-buffer : {n line : ℕ} (d : List ℕ) → joinFile s ≡ refused n line → d ≡ joinBuffer s d
+  unfolding joinBuffer
+  no-buffer d e = sym (ap (λ (j : Joining). bufferAfter j (bytesOf (joinFile s)) d) (sym (no-answer (length d) e)))
+
+  module _ {n line : ℕ} (q : m ≡ No n line) where
+    refused-so : joinFile s ≡ refused n line
+    unfolding joinFile
+    refused-so = subst (MadeMeans (joinedFile s) B) q (x .means)
+
+    pub join-no-answer : (room : ℕ) → Refused n line ≡ joinOf s room
+    join-no-answer room = no-answer room refused-so
+
+    pub join-no-buffer : (d : List ℕ) → d ≡ joinBuffer s d
+    join-no-buffer d = no-buffer d refused-so
+
+  module _ {t : ℕ} (q : m ≡ Bytes t) where
+    made : (joinedFile s ≡ ok (take t B)) × (t ≤ length B)
+    made = subst (MadeMeans (joinedFile s) B) q (x .means)
+
+    pub join-end : t ≤ length B
+    join-end = made .1
+
+    pub join-fits : Fits w32 t
+    join-fits = omega (arith, made .1, x .size)
+
+    lent : take (t - 0) (drop 0 B) ≡ take t B
+    lent = let z : t - 0 ≡ t = omega arith in ap (λ (j : ℕ). take j B) z
+
+    by-check : joinFile s ≡ checkedFile (take t B) (readFile (take t B))
+    unfolding joinFile
+    by-check = ap thenChecked (made .0)
+
+    module _ {k : Checked} (c : k ≡ checkOf (take (t - 0) (drop 0 B))) where
+      answer-is : checked (readFile (take t B)) ≡ k
+      unfolding checkOf
+      answer-is = sym (c ∙ ap (λ (w : List ℕ). checked (readFile w)) lent)
+
+      module _ {n line : ℕ} (e : k ≡ NotAccepted n line) where
+        refused-by : joinFile s ≡ refused n line
+        refused-by = by-check ∙ ap (checkedFile (take t B)) (refusal (readFile (take t B)) (answer-is ∙ e))
+
+        pub join-refused-answer : (room : ℕ) → Refused n line ≡ joinOf s room
+        join-refused-answer room = no-answer room refused-by
+
+        pub join-refused-buffer : (d : List ℕ) → d ≡ joinBuffer s d
+        join-refused-buffer d = no-buffer d refused-by
+
+      module _ {n₁ n₂ n₃ : ℕ} (e : k ≡ Accepted n₁ n₂ n₃) (d : List ℕ) where
+        file-is : joinFile s ≡ ok (take t B)
+        file-is = by-check ∙ accepted (readFile (take t B)) (take t B) (answer-is ∙ e)
+
+        file-length : length (take t B) ≡ t
+        file-length = length-take-le t B (made .1)
+
+        by-room : joinOf s (length d) ≡ cond (leb (length (take t B)) (length d)) (Joined (length (take t B))) (Refused 20 0)
+        unfolding joinOf
+        by-room = ap (λ (k : Res (List ℕ)). held k (length d)) file-is
+
+        short-is : length d < t → joinOf s (length d) ≡ Refused 20 0
+        short-is h = by-room ∙ rw (lt-leb (length (take t B)) (length d) (omega (arith, file-length)))
+
+        pub join-short-answer : length d < t → Refused 20 0 ≡ joinOf s (length d)
+        join-short-answer h = sym (short-is h)
+
+        pub join-short-buffer : length d < t → d ≡ joinBuffer s d
+        unfolding joinBuffer
+        join-short-buffer h = sym (ap (λ (j : Joining). bufferAfter j (bytesOf (joinFile s)) d) (short-is h))
+
+        module _ (h : t ≤ length d) where
+          long-is : joinOf s (length d) ≡ Joined t
+          long-is = by-room ∙ rw (le-leb (length (take t B)) (length d) (omega (arith, file-length))) (ap Joined file-length)
+
+          pub join-answer : Joined t ≡ joinOf s (length d)
+          join-answer = sym long-is
+
+          pub join-buffer : {d₁ : List ℕ} {r : ℕ} → Wrote d d₁ 0 r (take (t - 0) (drop 0 B)) → d₁ ≡ joinBuffer s d
+          unfolding joinBuffer
+          join-buffer {d₁} {r} w =
+              let a : bufferAfter (joinOf s (length d)) (bytesOf (joinFile s)) d ≡ take t B ++ drop (length (take t B)) d =
+              ap₂ (λ (j : Joining) (k : Res (List ℕ)). bufferAfter j (bytesOf k) d) long-is file-is in
+              w .list ∙ (sets-all (take (t - 0) (drop 0 B)) d (omega (arith, w .next, w .high)) ∙ (ap (λ (u : List ℕ). u ++ drop (length u) d) lent ∙ sym a))
+
+pub ruleset join-laws = (join-no-answer, join-no-buffer, join-end, join-fits, join-refused-answer, join-refused-buffer, join-short-answer, join-short-buffer, join-answer, join-buffer)

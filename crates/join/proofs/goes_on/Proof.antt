@@ -1,0 +1,79 @@
+use borrow.Author.Needs.{needs}
+use Prim.Native.Nat.{_-_}
+use lib.ListN.{length}
+use Rattle.join.proofs.WalkLaws.{goes-laws}
+use Rattle.join.proofs.goes_on.Statement.{statement}
+use Rattle.join.proofs.goes_on.Tie as tie
+use Rattle.join.proofs.goes_on.Reads as reads
+use Rattle.join.proofs.goes_on.Lts as lts
+use Rattle.pieces.proofs.row_end.Reads as row-end-reads
+use Rattle.pieces.proofs.row_kind.Reads as row-kind-reads
+
+returns : tie.Need-returns
+returns c = search (needs, goes-laws)
+
+row-end-requires : tie.Need-row-end-requires
+row-end-requires c κs = search needs
+
+sub-row-kind : tie.Need-sub-row-kind
+sub-row-kind c = search needs
+
+part-row-kind-start : tie.Need-part-row-kind-start
+part-row-kind-start c = search needs
+
+part-row-kind-end : tie.Need-part-row-kind-end
+part-row-kind-end c = search needs
+
+row-kind-requires : tie.Need-row-kind-requires
+row-kind-requires c κs = search needs
+
+enum-told : tie.Need-enum-told
+enum-told c = search needs
+
+enum-told-2 : tie.Need-enum-told-2
+enum-told-2 c = search needs
+
+enum-told-3 : tie.Need-enum-told-3
+enum-told-3 c = search needs
+
+enum-told-4 : tie.Need-enum-told-4
+enum-told-4 c = search needs
+
+enum-told-5 : tie.Need-enum-told-5
+enum-told-5 c = search needs
+
+returns-2 : tie.Need-returns-2
+returns-2 c = search (needs, goes-laws)
+
+returns-3 : tie.Need-returns-3
+returns-3 c = search (needs, goes-laws)
+
+returns-4 : tie.Need-returns-4
+returns-4 c = search (needs, goes-laws)
+
+returns-5 : tie.Need-returns-5
+returns-5 c = search (needs, goes-laws)
+
+returns-6 : tie.Need-returns-6
+returns-6 c = search (needs, goes-laws)
+
+pub goes-on-spec : {M : Type 1} → statement M
+goes-on-spec =
+    tie.close
+    (tie.spec
+    returns
+    row-end-requires
+    sub-row-kind
+    part-row-kind-start
+    part-row-kind-end
+    row-kind-requires
+    enum-told
+    enum-told-2
+    enum-told-3
+    enum-told-4
+    enum-told-5
+    returns-2
+    returns-3
+    returns-4
+    returns-5
+    returns-6)

@@ -1,0 +1,266 @@
+-- Pieces by positions in the input, as the code of joining carries them: a body is the bytes from a position to a position, and the spans
+-- of the parts lie in two tables by place. The laws in proofs/ show that they stand for the lists of rows of Join.antt; the call's own
+-- contract names Join.antt alone.
+use Prim.Native.Nat.{ℕ, zero, suc, _+_, _≤_, _<_}
+use mathlib.Core.Path.{_≡_}
+use mathlib.Core.Bool.{Bool, true, false, cond, _&&_}
+use mathlib.Core.Option.{Option, none, some}
+use mathlib.Core.List.{List, [], _∷_, _++_}
+use lib.Dec.{eqb}
+use lib.ListN.{length, take, drop, getD, set}
+use Rattle.lists.specs.Lists.{part, Res, ok, refused}
+use Rattle.characters.specs.Text.{text}
+use Rattle.characters.specs.Rows.{rows, flat, isLine}
+use Rattle.buffers.specs.Buffers.{Wrote}
+use Rattle.pieces.specs.Marks.{Mark, readMark}
+use Rattle.pieces.specs.Pieces.{Kind, head, endHead, body, end, broken, kindOf, Piece, bodyOf, piecesIn}
+use Rattle.pieces.specs.Answers.{RowAt}
+use Rattle.join.specs.declared.Next.{Next}
+use Rattle.join.specs.declared.Next.the-variants.{Opens, Over}
+use Rattle.join.specs.declared.Lines.{Lines}
+use Rattle.join.specs.declared.Lines.the-variants.{Plain, Marked, Wrong}
+use Rattle.join.specs.declared.Member.{Member}
+use Rattle.join.specs.declared.Member.the-variants.{Of, Foreign}
+use Rattle.join.specs.declared.Filled.{Filled}
+use Rattle.join.specs.declared.Filled.the-variants.{Full, Large}
+use Rattle.join.specs.declared.Made.{Made}
+use Rattle.join.specs.declared.Made.the-variants.{Bytes, No}
+use Rattle.join.specs.Join.{unmarked, Part, lastMark, partOf, with, partsOf, agree, find, orSet, joinParts, thenChecked}
+
+-- ---- the next piece from a position on: its line 1 ends at e
+
+pub record Opened (s : List ℕ) (from e : ℕ) (d : Bool) : Type 0 where
+  pub low : from < e
+  pub high : e ≤ length s
+  pub is : piecesIn (rows (drop from s)) ≡ record { provider = d; rows = bodyOf (rows (drop e s)) } ∷ piecesIn (rows (drop e s))
+
+abbrev pub NextMeans : List ℕ → ℕ → Next → Type 0
+NextMeans s from (Opens e d) = Opened s from e d
+NextMeans s from Over = piecesIn (rows (drop from s)) ≡ []
+
+pub record NextIs (s : List ℕ) (from : ℕ) (r : Next) : Type 0 where
+  pub means : NextMeans s from r
+
+-- ---- the rows of a piece, from behind its line 1 on
+
+-- whether the first row is one of a piece's
+abbrev pub isBody : Kind → Bool
+isBody (head d) = false
+isBody (endHead d) = false
+isBody body = true
+isBody end = false
+isBody broken = false
+
+abbrev pub goesOn : List (List ℕ) → Bool
+goesOn [] = false
+goesOn (r ∷ rs) = isBody (kindOf r)
+
+-- a row that is a line
+pub record LineAt (s : List ℕ) (at e : ℕ) : Type 0 where
+  pub row : RowAt s at e
+  pub line : isLine (part s at e) ≡ true
+
+-- no record 911: the rows end at stop
+pub record PlainLines (s : List ℕ) (from stop : ℕ) : Type 0 where
+  pub low : from ≤ stop
+  pub high : stop ≤ length s
+  pub plain : unmarked (bodyOf (rows (drop from s))) ≡ true
+  pub none : (d : Bool) → partOf d (bodyOf (rows (drop from s))) ≡ none
+  pub bytes : flat (bodyOf (rows (drop from s))) ≡ part s from stop
+  pub next : piecesIn (rows (drop from s)) ≡ piecesIn (rows (drop stop s))
+
+-- n and k of a record 911 from last to stop, and the rows before it
+abbrev pub partWith : List ℕ → Bool → ℕ → ℕ → ℕ → List (List ℕ) → Part
+partWith s d last n k rs = record { provider = d; mark = record { ident = part s (last + 4) (last + 18); count = n; place = k }; rows = rs }
+
+pub record MarkedLines (s : List ℕ) (from last stop n k : ℕ) : Type 0 where
+  pub low : from ≤ last
+  pub ident : last + 18 ≤ stop
+  pub high : stop ≤ length s
+  pub count : n ≤ 999
+  pub place : k ≤ 999
+  pub marked : unmarked (bodyOf (rows (drop from s))) ≡ false
+  pub lines : List (List ℕ)
+  pub is : (d : Bool) → partOf d (bodyOf (rows (drop from s))) ≡ some (partWith s d last n k lines)
+  pub bytes : flat lines ≡ part s from last
+  pub next : piecesIn (rows (drop from s)) ≡ piecesIn (rows (drop stop s))
+
+pub record WrongLines (s : List ℕ) (from : ℕ) : Type 0 where
+  pub marked : unmarked (bodyOf (rows (drop from s))) ≡ false
+  pub none : (d : Bool) → partOf d (bodyOf (rows (drop from s))) ≡ none
+
+-- the record 911 from at to e, and what is behind it
+pub record LastMark (s : List ℕ) (at e n k : ℕ) : Type 0 where
+  pub ident : at + 18 ≤ e
+  pub count : n ≤ 999
+  pub place : k ≤ 999
+  pub read : readMark (text (part s at e)) ≡ some (record { ident = part s (at + 4) (at + 18); count = n; place = k })
+  pub last : goesOn (rows (drop e s)) ≡ false
+
+abbrev pub LastMeans : List ℕ → ℕ → ℕ → Lines → Type 0
+LastMeans s at e (Plain stop) = ⊥
+LastMeans s at e (Marked a b n k) = (a ≡ at) × (b ≡ e) × LastMark s at e n k
+LastMeans s at e Wrong = (d : Bool) → lastMark d (bodyOf (rows (drop e s))) (readMark (text (part s at e))) ≡ none
+
+pub record LastIs (s : List ℕ) (at e : ℕ) (r : Lines) : Type 0 where
+  pub means : LastMeans s at e r
+
+abbrev pub LinesMean : List ℕ → ℕ → Lines → Type 0
+LinesMean s from (Plain stop) = PlainLines s from stop
+LinesMean s from (Marked last stop n k) = MarkedLines s from last stop n k
+LinesMean s from Wrong = WrongLines s from
+
+pub record LinesAre (s : List ℕ) (from : ℕ) (r : Lines) : Type 0 where
+  pub mean : LinesMean s from r
+
+-- ---- parts that agree with a direction, an ID and a count
+
+abbrev pub like : Bool → List ℕ → ℕ → Part
+like d i n = record { provider = d; mark = record { ident = i; count = n; place = 0 }; rows = [] }
+
+abbrev pub agreed : Bool → List ℕ → ℕ → Option (List Part) → Bool
+agreed d i n none = false
+agreed d i n (some ps) = agree (like d i n) ps
+
+-- n parts
+abbrev pub isSet : Bool → List ℕ → ℕ → Option (List Part) → Bool
+isSet d i n none = false
+isSet d i n (some ps) = agree (like d i n) ps && eqb (length ps) n
+
+-- a position in an input within the limit
+pub record Within (s : List ℕ) (e : ℕ) : Type 0 where
+  pub high : e ≤ length s
+  pub small : length s ≤ 131072
+
+-- the piece whose line 1 of direction side ends at e, as a part of such a set
+pub record MemberAt (s : List ℕ) (e : ℕ) (side d : Bool) (i : List ℕ) (n last stop k : ℕ) : Type 0 where
+  pub low : e ≤ last
+  pub mid : last ≤ stop
+  pub high : stop ≤ length s
+  pub place : k ≤ 999
+  pub lines : List (List ℕ)
+  pub is : partOf side (bodyOf (rows (drop e s))) ≡ some (record { provider = d; mark = record { ident = i; count = n; place = k }; rows = lines })
+  pub bytes : flat lines ≡ part s e last
+  pub next : piecesIn (rows (drop e s)) ≡ piecesIn (rows (drop stop s))
+
+pub record ForeignAt (s : List ℕ) (e : ℕ) (side d : Bool) (i : List ℕ) (n : ℕ) : Type 0 where
+  pub none : (ps : Option (List Part)) → agreed d i n (with (partOf side (bodyOf (rows (drop e s)))) ps) ≡ false
+
+abbrev pub MemberMeans : List ℕ → ℕ → Bool → Bool → List ℕ → ℕ → Member → Type 0
+MemberMeans s e side d i n (Of last stop k) = MemberAt s e side d i n last stop k
+MemberMeans s e side d i n Foreign = ForeignAt s e side d i n
+
+pub record MemberIs (s : List ℕ) (e : ℕ) (side d : Bool) (i : List ℕ) (n : ℕ) (r : Member) : Type 0 where
+  pub means : MemberMeans s e side d i n r
+
+-- ---- the tables: at index k the span of the first part with place k, 0 for none
+
+pub record Sizes (a b : List ℕ) : Type 0 where
+  pub starts : length a ≡ 1000
+  pub ends : length b ≡ 1000
+
+-- the bytes from a[k] to b[k] lie in s
+pub record Bounds (s a b : List ℕ) : Type 0 where
+  pub low : (k : ℕ) → k < 1000 → getD a k 0 ≤ getD b k 0
+  pub high : (k : ℕ) → k < 1000 → getD b k 0 ≤ length s
+
+abbrev pub Slot : List ℕ → ℕ → ℕ → Option Part → Type 0
+Slot s from to none = from ≡ 0
+Slot s from to (some p) = (1 ≤ from) × (flat (p .rows) ≡ part s from to)
+
+pub record Slots (s a b : List ℕ) (ps : List Part) : Type 0 where
+  pub at : (k : ℕ) → k < 1000 → Slot s (getD a k 0) (getD b k 0) (find k ps)
+
+-- tables that are free at every place
+pub record Blank (s a b : List ℕ) : Type 0 where
+  pub small : length s ≤ 131072
+  pub sizes : Sizes a b
+  pub starts : (k : ℕ) → k < 1000 → getD a k 0 ≡ 0
+  pub ends : (k : ℕ) → k < 1000 → getD b k 0 ≡ 0
+
+-- a span stored at a place that is free
+pub record Stored (a b : List ℕ) (k from to : ℕ) (a′ b′ : List ℕ) : Type 0 where
+  pub starts : a′ ≡ cond (eqb (getD a k 0) 0) (set a k from) a
+  pub ends : b′ ≡ cond (eqb (getD a k 0) 0) (set b k to) b
+
+pub record Collected (s : List ℕ) (d : Bool) (i : List ℕ) (n : ℕ) (a b : List ℕ) : Type 0 where
+  pub seen : List Part
+  pub parts : partsOf (piecesIn (rows s)) ≡ some seen
+  pub agrees : agree (like d i n) seen ≡ true
+  pub count : length seen ≡ n
+  pub sizes : Sizes a b
+  pub bounds : Bounds s a b
+  pub slots : Slots s a b seen
+
+abbrev pub CollectMeans : List ℕ → Bool → List ℕ → ℕ → List ℕ → List ℕ → Bool → Type 0
+CollectMeans s d i n a b true = Collected s d i n a b
+CollectMeans s d i n a b false = isSet d i n (partsOf (piecesIn (rows s))) ≡ false
+
+pub record CollectIs (s : List ℕ) (d : Bool) (i : List ℕ) (n : ℕ) (a b : List ℕ) (r : Bool) : Type 0 where
+  pub means : CollectMeans s d i n a b r
+
+-- f places from k on are all taken
+unfoldable pub taken : List ℕ → ℕ → ℕ → Bool
+taken a zero k = true
+taken a (suc f) k = cond (eqb (getD a k 0) 0) false (taken a f (suc k))
+
+-- the bytes of f places from k on
+unfoldable pub spans : List ℕ → List ℕ → List ℕ → ℕ → ℕ → List ℕ
+spans s a b zero k = []
+spans s a b (suc f) k = part s (getD a k 0) (getD b k 0) ++ spans s a b f (suc k)
+
+-- ---- the buffer: w from index at on, or w does not fit
+
+abbrev pub FillMeans : List ℕ → List ℕ → ℕ → List ℕ → Filled → Type 0
+FillMeans d d′ at w (Full r) = Wrote d d′ at r w
+FillMeans d d′ at w Large = length d < at + length w
+
+pub record FillIs (d d′ : List ℕ) (at : ℕ) (w : List ℕ) (r : Filled) : Type 0 where
+  pub means : FillMeans d d′ at w r
+  pub size : length d′ ≡ length d
+
+pub record FillRoom (d : List ℕ) (at : ℕ) (s a b : List ℕ) (n : ℕ) : Type 0 where
+  pub sizes : Sizes a b
+  pub bounds : Bounds s a b
+  pub count : n ≤ 999
+  pub room : at ≤ length d
+  pub small : length d ≤ 65536
+
+-- ---- the joined file in a buffer of 65,536 bytes, or the refusal
+
+abbrev pub MadeMeans : Res (List ℕ) → List ℕ → Made → Type 0
+MadeMeans x d (Bytes t) = (x ≡ ok (take t d)) × (t ≤ length d)
+MadeMeans x d (No n line) = thenChecked x ≡ refused n line
+
+pub record MadeIs (x : Res (List ℕ)) (d : List ℕ) (r : Made) : Type 0 where
+  pub means : MadeMeans x d r
+  pub size : length d ≡ 65536
+
+-- the buffer, and a span of the input
+pub record Given (d s : List ℕ) (from stop : ℕ) : Type 0 where
+  pub size : length d ≡ 65536
+  pub low : from ≤ stop
+  pub high : stop ≤ length s
+
+-- the buffer, and the tables of a set of n pieces
+pub record GivenSet (d s a b : List ℕ) (n : ℕ) : Type 0 where
+  pub size : length d ≡ 65536
+  pub sizes : Sizes a b
+  pub bounds : Bounds s a b
+  pub count : n ≤ 999
+
+-- the buffer, and the first of a set: its record 911 begins at last
+pub record First (d s : List ℕ) (side : Bool) (last n : ℕ) : Type 0 where
+  pub size : length d ≡ 65536
+  pub small : length s ≤ 131072
+  pub ident : last + 18 ≤ length s
+  pub count : n ≤ 999
+  pub place : ℕ
+  pub lines : List (List ℕ)
+  pub others : Option (List Part)
+  pub is : partsOf (piecesIn (rows s)) ≡ with (some (partWith s side last n place lines)) others
+
+-- the buffer, and an input within the limit
+pub record Input (d s : List ℕ) : Type 0 where
+  pub size : length d ≡ 65536
+  pub small : length s ≤ 131072

@@ -1,0 +1,222 @@
+-- The row at a position, and the ways through the tests of a row's kind. Assumes nothing.
+use Prim.Native.Nat.{ℕ, zero, suc, _+_, _-_, _≤_, _<_}
+use native.Mathlib.Nat.{add-sub-cancel-left}
+use mathlib.Core.Path.{_≡_, refl, sym, ap, ap₂, _∙_, subst}
+use mathlib.Core.Bool.{Bool, true, false, cond, not, _&&_, _||_, false≢true}
+use mathlib.Core.List.{List, [], _∷_, _++_}
+use native.Mathlib.Omega.{arith}
+use native.Mathlib.Numerals.{add-one}
+use borrow.Author.Tests.{eq-eqb, ne-eqb, eqb-true, not-true, not-false}
+use lib.Dec.{eqb, leb}
+use lib.ListN.{length, take, drop, getD, length-take, length-drop}
+use lib.Seq.{drop-drop, take-all}
+use Rattle.lists.specs.Lists.{bytes, same, part, upTo, is, findFrom}
+use Rattle.lists.proofs.Tests.{same-true, same-refl}
+use Rattle.lists.proofs.Cuts.{drop-end, rest-all, upTo-hit, upTo-go, upTo-out, upTo-le, upTo-split}
+use Rattle.lists.proofs.Loops.{find-low, find-high, same-length}
+use Rattle.characters.specs.Text.{isStop, text}
+use Rattle.characters.specs.Rows.{consRow, rows, lineEnd, isLine, endMark}
+use Rattle.records.specs.Records.{header}
+use Rattle.canonical.specs.Canonical.{headRow}
+use Rattle.pieces.specs.declared.Row.{Row}
+use Rattle.pieces.specs.declared.Row.the-variants.{Head, EndHead, Body, End, Broken}
+use Rattle.pieces.specs.Pieces.{Kind, head, endHead, body, end, broken, kindOf}
+use Rattle.pieces.specs.Answers.{RowAt, asKind, KindIs}
+
+-- ---- the first row, by where the first 0Ah stands
+
+rows-feed : (l : List ℕ) → length (upTo (is 0x0a) l) < length l
+    → rows l ≡ take (suc (length (upTo (is 0x0a) l))) l ∷ rows (drop (suc (length (upTo (is 0x0a) l))) l)
+rows-feed [] h = absurd (omega arith)
+rows-feed (a ∷ l) h = go (eqb a 0x0a) (rows-feed l) h
+  where
+    go : (b : Bool) → (length (upTo (is 0x0a) l) < length l → rows l ≡ take (suc (length (upTo (is 0x0a) l))) l ∷ rows (drop (suc (length (upTo (is 0x0a) l))) l))
+        → length (cond b [] (a ∷ upTo (is 0x0a) l)) < suc (length l)
+        → cond b ((a ∷ []) ∷ rows l) (consRow a (rows l))
+        ≡ take (suc (length (cond b [] (a ∷ upTo (is 0x0a) l)))) (a ∷ l) ∷ rows (drop (suc (length (cond b [] (a ∷ upTo (is 0x0a) l)))) (a ∷ l))
+    go true i h = refl
+    go false i h = ap (consRow a) (i (omega arith))
+
+rows-rest : (a : ℕ) (l : List ℕ) → length (a ∷ l) ≤ length (upTo (is 0x0a) (a ∷ l)) → rows (a ∷ l) ≡ (a ∷ l) ∷ []
+rows-rest a [] h = go (eqb a 0x0a)
+  where
+    go : (b : Bool) → cond b ((a ∷ []) ∷ []) ((a ∷ []) ∷ []) ≡ (a ∷ []) ∷ []
+    go true = refl
+    go false = refl
+rows-rest a (b ∷ l) h = go (eqb a 0x0a) (rows-rest b l) h
+  where
+    go : (x : Bool) → (length (b ∷ l) ≤ length (upTo (is 0x0a) (b ∷ l)) → rows (b ∷ l) ≡ (b ∷ l) ∷ [])
+        → length (a ∷ b ∷ l) ≤ length (cond x [] (a ∷ upTo (is 0x0a) (b ∷ l)))
+        → cond x ((a ∷ []) ∷ rows (b ∷ l)) (consRow a (rows (b ∷ l))) ≡ (a ∷ b ∷ l) ∷ []
+    go true i h = absurd (omega arith)
+    go false i h = ap (consRow a) (i (omega arith))
+
+rest-is : (l : List ℕ) → 0 < length l → length l ≤ length (upTo (is 0x0a) l) → rows l ≡ l ∷ []
+rest-is [] h g = absurd (omega arith)
+rest-is (a ∷ l) h g = rows-rest a l g
+
+module _ (s : List ℕ) {at i : ℕ} (h : at < length s) (p : i ≡ findFrom 0x0a s at) where
+  by-length : i ≡ at + length (upTo (is 0x0a) (drop at s))
+  unfolding findFrom
+  by-length = p
+
+  pub row-feed : i < length s → RowAt s at (i + 1)
+  row-feed g =
+      let n : ℕ = length (upTo (is 0x0a) (drop at s)) in
+      let e : suc n ≡ i + 1 - at = omega (arith, by-length) in
+      let f : at + suc n ≡ i + 1 = omega (arith, by-length) in
+      let c : rows (drop at s) ≡ take (suc n) (drop at s) ∷ rows (drop (suc n) (drop at s)) = rows-feed (drop at s) (omega (arith, by-length, length-drop at s)) in
+      let d : drop (suc n) (drop at s) ≡ drop (i + 1) s = drop-drop (suc n) at s ∙ ap (λ (j : ℕ). drop j s) f in
+      record {
+        more = omega (arith, by-length);
+        inside = omega arith;
+        cut = c ∙ ap₂ (λ (x y : List ℕ). x ∷ rows y) (ap (λ (j : ℕ). take j (drop at s)) e) d;
+      }
+
+  pub row-rest : length s ≤ i → RowAt s at i
+  row-rest g =
+      let z : i ≤ length s = omega (arith, p, find-high 0x0a s at (omega arith)) in
+      let q : drop i s ≡ [] = drop-end s i g in
+      let t : take (i - at) (drop at s) ≡ drop at s = take-all (i - at) (drop at s) (omega (arith, length-drop at s)) in
+      record {
+        more = omega arith;
+        inside = z;
+        cut = rest-is (drop at s) (omega (arith, length-drop at s)) (omega (arith, by-length, length-drop at s)) ∙ rw (t, q);
+      }
+
+pub ruleset row-laws = (row-feed, row-rest)
+
+-- ---- the text of a row
+
+pub record Scanned (r : List ℕ) (i : ℕ) : Type 0 where
+  pub left : length (text r) ≡ i + length (text (drop i r))
+
+pub scan-start : (r : List ℕ) → Scanned r 0
+scan-start r = record { left = omega arith }
+
+module _ {r : List ℕ} {i : ℕ} (v : Scanned r i) where
+  stops : i < length r → isStop (getD r i 0) ≡ true → i ≡ length (text r)
+  stops h t = omega (arith, v .left, ap length (upTo-hit isStop r i h t))
+
+  pub scan-return : i < length r → getD r i 0 ≡ 0x0d → i ≡ length (text r)
+  scan-return h e = stops h (rw e)
+
+  pub scan-feed : i < length r → getD r i 0 ≡ 0x0a → i ≡ length (text r)
+  scan-feed h e = stops h (rw e)
+
+  pub scan-mark : i < length r → getD r i 0 ≡ 0x1a → i ≡ length (text r)
+  scan-mark h e = stops h (rw e)
+
+  pub scan-go : i < length r → (getD r i 0 ≡ 0x0d → ⊥) → (getD r i 0 ≡ 0x0a → ⊥) → (getD r i 0 ≡ 0x1a → ⊥) → Scanned r (i + 1)
+  scan-go h a b c =
+      let t : isStop (getD r i 0) ≡ false = rw (ne-eqb (getD r i 0) 0x0d a, ne-eqb (getD r i 0) 0x0a b, ne-eqb (getD r i 0) 0x1a c) in
+      record { left = omega (arith, v .left, ap length (upTo-go isStop r i h t)) }
+
+  pub scan-out : length r ≤ i → i ≡ length (text r)
+  scan-out h = omega (arith, v .left, ap length (upTo-out isStop r i h))
+
+pub ruleset scan-laws = (scan-start, scan-return, scan-feed, scan-mark, scan-go, scan-out)
+
+-- ---- a line: its text, and 0Dh 0Ah
+
+same-behind : (t x y : List ℕ) → same (t ++ x) (t ++ y) ≡ same x y
+same-behind [] x y = refl
+same-behind (a ∷ t) x y = rw (eq-eqb a a refl) (same-behind t x y)
+
+pub line-start : (r : List ℕ) {e : ℕ} → e ≡ length (text r) → e ≤ length r
+line-start r p = omega (arith, p, upTo-le isStop r)
+
+pub line-end : (r : List ℕ) {e : ℕ} {x : Bool} → e ≡ length (text r) → x ≡ same (take (length r - e) (drop e r)) (0x0d ∷ 0x0a ∷ []) → x ≡ isLine r
+unfolding isLine
+line-end r {e} p q =
+    let d : text r ++ drop e r ≡ r = ap (λ (j : ℕ). text r ++ drop j r) p ∙ upTo-split isStop r in
+    let s : same r (text r ++ lineEnd) ≡ same (drop e r) lineEnd = ap (λ (z : List ℕ). same z (text r ++ lineEnd)) (sym d) ∙ same-behind (text r) (drop e r) lineEnd in
+    q ∙ ap (λ (z : List ℕ). same z lineEnd) (rest-all e r) ∙ sym s
+
+pub ruleset line-laws = (line-start, line-end)
+
+-- ---- kinds
+
+-- line 1 with its line end, as the code's literals have it
+abbrev pub line1 : ℕ → List ℕ
+line1 d = 74 ∷ 65 ∷ 72 ∷ 73 ∷ 83 ∷ 84 ∷ 67 ∷ 48 ∷ 52 ∷ 44 ∷ d ∷ 13 ∷ 10 ∷ []
+
+pub head-true : headRow true ≡ line1 49
+unfolding header bytes
+head-true = refl
+
+pub head-false : headRow false ≡ line1 50
+unfolding header bytes
+head-false = refl
+
+by-literals : (r : List ℕ) → kindOf r ≡
+    cond (same r (line1 49)) (head true) (cond (same r (line1 50)) (head false)
+    (cond (isLine r) body (cond (same r endMark) end
+    (cond (same r (0x1a ∷ line1 49)) (endHead true) (cond (same r (0x1a ∷ line1 50)) (endHead false) broken)))))
+unfolding kindOf header bytes
+by-literals r = refl
+
+module _ (r : List ℕ) {x : Bool} (p : x ≡ same r (line1 49)) where
+  pub kind-head-1 : x ≡ true → KindIs r (Head true)
+  kind-head-1 q = record { is = by-literals r ∙ rw (sym p ∙ q) }
+
+  module _ (q : x ≡ false) {y : Bool} (u : y ≡ same r (line1 50)) where
+    pub kind-head-2 : y ≡ true → KindIs r (Head false)
+    kind-head-2 t = record { is = by-literals r ∙ rw (sym p ∙ q, sym u ∙ t) }
+
+    module _ (t : y ≡ false) {z : Bool} (w : z ≡ isLine r) where
+      pub kind-body : z ≡ true → KindIs r Body
+      kind-body v = record { is = by-literals r ∙ rw (sym p ∙ q, sym u ∙ t, sym w ∙ v) }
+
+      module _ (v : z ≡ false) where
+        no-line : kindOf r ≡ cond (same r endMark) end (cond (same r (0x1a ∷ line1 49)) (endHead true) (cond (same r (0x1a ∷ line1 50)) (endHead false) broken))
+        no-line = by-literals r ∙ rw (sym p ∙ q, sym u ∙ t, sym w ∙ v)
+
+        pub kind-empty : length r ≡ 0 → KindIs r Broken
+        kind-empty h = record { is = no-line ∙ go r h }
+          where
+            go : (r : List ℕ) → length r ≡ 0 → cond (same r endMark) end (cond (same r (0x1a ∷ line1 49)) (endHead true) (cond (same r (0x1a ∷ line1 50)) (endHead false) broken)) ≡ broken
+            go [] h = refl
+            go (a ∷ r) h = absurd (omega arith)
+
+        pub kind-other : (length r ≡ 0 → ⊥) → (getD r 0 0 ≡ 0x1a → ⊥) → KindIs r Broken
+        kind-other h g = record { is = no-line ∙ go r h g }
+          where
+            go : (r : List ℕ) → (length r ≡ 0 → ⊥) → (getD r 0 0 ≡ 0x1a → ⊥)
+                → cond (same r endMark) end (cond (same r (0x1a ∷ line1 49)) (endHead true) (cond (same r (0x1a ∷ line1 50)) (endHead false) broken)) ≡ broken
+            go [] h g = absurd (h refl)
+            go (a ∷ r) h g = rw (ne-eqb a 0x1a g)
+
+        module _ (g : getD r 0 0 ≡ 0x1a) where
+          pub kind-end : length r ≡ 1 → KindIs r End
+          kind-end h = record { is = no-line ∙ go r g h }
+            where
+              go : (r : List ℕ) → getD r 0 0 ≡ 0x1a → length r ≡ 1
+                  → cond (same r endMark) end (cond (same r (0x1a ∷ line1 49)) (endHead true) (cond (same r (0x1a ∷ line1 50)) (endHead false) broken)) ≡ end
+              go [] g h = absurd (omega arith)
+              go (a ∷ []) g h = rw (eq-eqb a 0x1a g)
+              go (a ∷ b ∷ r) g h = absurd (omega arith)
+
+          module _ (n : length r ≡ 0 → ⊥) (h : length r ≡ 1 → ⊥) where
+            after-mark : kindOf r ≡ cond (same (take (length r - 1) (drop 1 r)) (line1 49)) (endHead true) (cond (same (take (length r - 1) (drop 1 r)) (line1 50)) (endHead false) broken)
+            after-mark = no-line ∙ go r g n h
+              where
+                go : (r : List ℕ) → getD r 0 0 ≡ 0x1a → (length r ≡ 0 → ⊥) → (length r ≡ 1 → ⊥)
+                    → cond (same r endMark) end (cond (same r (0x1a ∷ line1 49)) (endHead true) (cond (same r (0x1a ∷ line1 50)) (endHead false) broken))
+                    ≡ cond (same (take (length r - 1) (drop 1 r)) (line1 49)) (endHead true) (cond (same (take (length r - 1) (drop 1 r)) (line1 50)) (endHead false) broken)
+                go [] g n h = absurd (n refl)
+                go (a ∷ []) g n h = absurd (h refl)
+                go (a ∷ b ∷ r) g n h = rw (eq-eqb a 0x1a g, rest-all 1 (a ∷ b ∷ r))
+
+            module _ {c : Bool} (i : c ≡ same (take (length r - 1) (drop 1 r)) (line1 49)) where
+              pub kind-end-head-1 : c ≡ true → KindIs r (EndHead true)
+              kind-end-head-1 j = record { is = after-mark ∙ rw (sym i ∙ j) }
+
+              module _ (j : c ≡ false) {d : Bool} (k : d ≡ same (take (length r - 1) (drop 1 r)) (line1 50)) where
+                pub kind-end-head-2 : d ≡ true → KindIs r (EndHead false)
+                kind-end-head-2 l = record { is = after-mark ∙ rw (sym i ∙ j, sym k ∙ l) }
+
+                pub kind-broken : d ≡ false → KindIs r Broken
+                kind-broken l = record { is = after-mark ∙ rw (sym i ∙ j, sym k ∙ l) }
+
+pub ruleset kind-laws = (kind-head-1, kind-head-2, kind-body, kind-empty, kind-other, kind-end, kind-end-head-1, kind-end-head-2, kind-broken)

@@ -1,0 +1,58 @@
+-- What the code of this crate answers, in the words of Marks.antt and Pieces.antt: the row at a position, a row's kind, a record 911.
+use Prim.Native.Nat.{ℕ, _≤_, _<_}
+use mathlib.Core.Path.{_≡_}
+use mathlib.Core.Bool.{cond, _&&_}
+use mathlib.Core.Option.{Option, none, some}
+use mathlib.Core.List.{List, _∷_}
+use lib.ListN.{length, drop}
+use Rattle.lists.specs.Lists.{same, part}
+use Rattle.characters.specs.Rows.{rows}
+use Rattle.records.specs.Split.{itemsFrom}
+use Rattle.records.specs.Records.{t911}
+use Rattle.pieces.specs.declared.Row.{Row}
+use Rattle.pieces.specs.declared.Row.the-variants.{Head, EndHead, Body, End, Broken}
+use Rattle.pieces.specs.declared.Numbers.{Numbers}
+use Rattle.pieces.specs.declared.Numbers.the-variants.{Read, Unread}
+use Rattle.pieces.specs.Marks.{Mark, validID, markOf, readMark}
+use Rattle.pieces.specs.Pieces.{Kind, head, endHead, body, end, broken, kindOf}
+
+-- the row from at to e, and the rows behind it
+pub record RowAt (s : List ℕ) (at e : ℕ) : Type 0 where
+  pub more : at < e
+  pub inside : e ≤ length s
+  pub cut : rows (drop at s) ≡ part s at e ∷ rows (drop e s)
+
+abbrev pub asKind : Row → Kind
+asKind (Head d) = head d
+asKind (EndHead d) = endHead d
+asKind Body = body
+asKind End = end
+asKind Broken = broken
+
+pub record KindIs (r : List ℕ) (k : Row) : Type 0 where
+  pub is : kindOf r ≡ asKind k
+
+-- n and k of a record 911; the ID is its bytes 4 to 17
+abbrev pub asMark : List ℕ → Numbers → Option Mark
+asMark i (Read n k) = some (record { ident = i; count = n; place = k })
+asMark i Unread = none
+
+-- one to three digits are at most 999
+abbrev pub Most : Numbers → Type 0
+Most (Read n k) = (n ≤ 999) × (k ≤ 999)
+Most Unread = Unit {0}
+
+-- the items from a position on, as the third and fourth of a record 911
+pub record NumbersIs (l : List ℕ) (at : ℕ) (m : Numbers) : Type 0 where
+  pub is : (a i : List ℕ) → markOf (a ∷ i ∷ itemsFrom l at) ≡ cond (same a t911 && validID i) (asMark i m) none
+  pub most : Most m
+
+-- the ID of a record 911 that is read lies inside it
+abbrev pub Reaches : List ℕ → Numbers → Type 0
+Reaches l (Read n k) = 18 ≤ length l
+Reaches l Unread = Unit {0}
+
+pub record MarkIs (l : List ℕ) (m : Numbers) : Type 0 where
+  pub is : readMark l ≡ asMark (part l 4 18) m
+  pub most : Most m
+  pub reaches : Reaches l m

@@ -1,0 +1,959 @@
+"""The cases of index, canonical, cut and join, for the test program `calls`.
+
+make_cases.py calls write(). A case is a frame and the line that the program
+has to write for it: the reply and the whole buffer after the call. As in
+make_cases.py, the answers are written by hand or given by how a family is
+built, and the oracle has to agree with each. Only the cases made by told()
+have the oracle's own answer.
+"""
+
+import collections
+import itertools
+import os
+import struct
+import sys
+import zlib
+
+import make_cases
+import oracle
+from make_cases import (
+    ADVICE, DATE, DOCTOR, GOOD, HOSPITAL, KEEPER, NUMBERS, PATIENT, PHARMACY, PRESCRIBER,
+    drug, file, note, raw, to_patient, to_provider, usage)
+
+# The calls that the program answers. A call that the gateway does not export
+# yet is left out here; its families then make no frames.
+LETTERS = {"index": "i", "canonical": "c", "cut": "k", "join": "j"}
+ANSWERED = ["index", "canonical", "cut", "join"]
+
+MOST_BYTES = 140000
+MOST_NUMBERS = 12000
+MOST_INPUT = 131200
+SHOWN = 200
+
+# The buffers before a call.
+BYTES = bytes((7 * i + 3) % 251 for i in range(MOST_BYTES))
+INTS = [(7919 * i + 13) % 1000003 for i in range(MOST_NUMBERS)]
+
+ID = b"12345678901234"
+UNBOUNDED = 2**64 - 1
+
+Frame = collections.namedtuple(
+    "Frame", "call label room capacity ident content answer after told")
+FRAMES = []
+
+
+# =============================================================================
+# Frames
+# =============================================================================
+
+
+def before(call, room):
+    return INTS[:room] if call == "index" else BYTES[:room]
+
+
+def frame(call, label, content, room, answer, after, capacity=0, ident=b"", told=False):
+    FRAMES.append(Frame(call, "%s: %s" % (call, label), room, capacity, ident, content,
+                        answer, after, told))
+
+
+def by_oracle(call, content, capacity, ident, out):
+    if call == "cut":
+        answer, after = oracle.cut(content, capacity, ident, out)
+    else:
+        answer, after = getattr(oracle, call)(content, out)
+    return " ".join(str(part) for part in answer), after
+
+
+def refused(call, label, content, answer, room=20, **rest):
+    """A refusal, which leaves the buffer as it was."""
+    frame(call, label, content, room, answer, before(call, room), **rest)
+
+
+def accepted(call, label, content, values, result, spare=3, **rest):
+    """A buffer that is longer than the result: what lies behind stays."""
+    room = len(result) + spare
+    frame(call, label, content, room, "ok " + values,
+          result + before(call, room)[len(result) :], **rest)
+
+
+def in_buffers(call, label, content, values, result, **rest):
+    """Buffers that are longer, exactly long enough, one short, and empty."""
+    accepted(call, label, content, values, result, **rest)
+    accepted(call, label + ", exactly", content, values, result, spare=0, **rest)
+    refused(call, label + ", one short", content, "no 20 0", room=len(result) - 1, **rest)
+    refused(call, label + ", no buffer", content, "no 20 0", room=0, **rest)
+
+
+def told(call, label, content, room, capacity=0, ident=b""):
+    """A case with the oracle's own answer."""
+    answer, after = by_oracle(call, content, capacity, ident, before(call, room))
+    frame(call, label, content, room, answer, after, capacity, ident, told=True)
+
+
+def spread(cases, most):
+    """At most so many of a list, from all over it."""
+    step = max(1, -(-len(cases) // most))
+    return cases[::step]
+
+
+def check_cases(short=3000):
+    """The cases of check that are not large, by answer: "ok" or a number."""
+    found = collections.defaultdict(list)
+    for label, content, answer in make_cases.CASES:
+        words = answer.split()
+        if len(content) <= short:
+            found["ok" if words[0] == "ok" else int(words[1])].append((label, content, answer))
+    return found
+
+
+def check_case(label):
+    return next(content for name, content, _ in make_cases.CASES if name == label)
+
+
+def of_check(call, **rest):
+    """Files that check refuses: 1 to 16, each with check's line."""
+    by_answer = check_cases()
+    for number in range(2, 17):
+        for label, content, answer in spread(by_answer[number], 8):
+            refused(call, "%d, %s" % (number, label), content, answer, **rest)
+        # A fault of the file comes before a buffer that is too short.
+        label, content, answer = by_answer[number][-1]
+        refused(call, "%d, no buffer" % number, content, answer, room=0, **rest)
+    refused(call, "1", check_case("65536 bytes and 1A"), "no 1 0", **rest)
+    refused(call, "1, no buffer", b"\xff" * 65537, "no 1 0", room=0, **rest)
+
+
+# =============================================================================
+# Files that several calls are given
+# =============================================================================
+
+SMALL = to_provider(PATIENT) + b"\x1a"
+SMALL_CANONICAL = to_provider("1,A,1,H010108,,,,,,,")
+
+# The examples of 15-106 that check accepts, as make_cases has them, with lines
+# counted by hand: ranges of lines in a group, with a doctor, with a drug.
+EXAMPLES = [
+    ("example 1", [(3, 12, 1)], [], []),
+    ("example 2", [(3, 20, 1)], [], []),
+    ("example 3, code kind 2", [(3, 26, 1)], [(8, 25, 7)], [(9, 9, 8), (11, 11, 10)]),
+    ("example 4", [(3, 26, 1)], [(8, 20, 7), (22, 25, 21)], []),
+    ("example 5", [(3, 11, 1)], [], []),
+    ("example 6", [(3, 11, 1)], [], []),
+    ("example 7, with a contact", [(7, 16, 1)], [(12, 15, 11)], [(13, 13, 12)]),
+    ("example 8", [(3, 6, 1)], [], []),
+    ("example 9", [(3, 10, 1), (11, 20, 2)], [], []),
+    ("example 10", [(3, 12, 1)], [], []),
+    ("example 11, the 401 moved, with a contact", [(10, 18, 1), (19, 32, 2)], [],
+     [(15, 15, 14), (24, 24, 23)]),
+]
+
+# One day in both calendars: the ends of the day type and of every era.
+DAYS = """
+18730101 M060101   18730102 M060102   19120728 M450728   19120729 M450729
+19120730 T010730   19121231 T011231   19130101 T020101   19261224 T151224
+19261225 S011225   19261231 S011231   19270101 S020101   19881231 S631231
+19890101 S640101   19890107 S640107   19890108 H010108   19891231 H011231
+19900101 H020101   20000229 H120229   20160411 H280411   20190430 H310430
+20190501 H310501   20871230 H991230   20871231 H991231   18991231 M321231
+""".split()
+DAYS = list(zip(DAYS[::2], DAYS[1::2]))
+
+
+def every_day(one):
+    """A file with this day in every item of kind D."""
+    return to_provider(
+        "1,A,1,%s,,,,,,," % one, "3,x,%s,%s,2" % (one, one), "3,x,%s,,2" % one,
+        "3,x,,%s,2" % one, "3,x,,,2", "4,x,%s,2" % one, "4,x,,2", "5,%s,1" % one,
+        "601,x,%s" % one, "601,x,", "701,x,x,x,%s,%s,1" % (one, one),
+        "701,x,x,x,,%s,1" % one, "701,x,x,x,%s,,1" % one)
+
+
+def every_postal_code(one):
+    return to_provider("1,A,1,H010108,%s,,,,,," % one, "5,H280411,1",
+                       "11,x,,,,%s,,,1" % one)
+
+
+def every_value(rp, quantity):
+    """A file with this RP value and quantity in every item of kind R."""
+    return to_provider(
+        "1,A,1,H010108,,,,,,,", "5,H280411,1", drug(rp), note(281, rp), note(291, rp),
+        "301,%s,x,%s,日分,1,1,,1" % (rp, quantity), note(311, rp), note(391, rp))
+
+
+# Items of other kinds that look like days, postal codes and values with zeros.
+ALIKE = to_provider(
+    "1,19890108,1,H010108,0000000,105-0004,03-0004,001,010,0.5,007",
+    "2,1,19890108,2", "3,001,,,2", "4,20160411,,2", "5,H280411,1",
+    "11,105-0004,01,1,0000001,0010004,002,001,1", "15,001,01,1", "51,001,09,1,0000123,1",
+    "55,01,02,1", "201,1,001,0.25,01,2,007,1", "281,1,01,1", "291,1,002,1",
+    "301,1,001,10,002,,2,0003,1", "311,1,01,1", "391,1,01,1", "401,01,1", "411,02,30,1",
+    "501,19890108,1", "601,105-0004,", "701,001,02,105-0004,,,1")
+
+
+# =============================================================================
+# Index
+# =============================================================================
+
+
+def at_line(ranges, line):
+    return sum(value for first, last, value in ranges if first <= line <= last)
+
+
+def entries(content, groups, doctors=(), drugs=()):
+    """The index, with these ranges of lines for what a line alone does not tell."""
+    found, offset = [], 0
+    for line, text in enumerate(content.split(b"\r\n")[:-1], 1):
+        if line > 1:
+            found += [int(text.partition(b",")[0]), offset, len(text),
+                      at_line(groups, line), at_line(doctors, line), at_line(drugs, line)]
+        offset += len(text) + 2
+    return found
+
+
+def index():
+    def given(label, content, groups, doctors=(), drugs=(), each=in_buffers):
+        result = entries(content, groups, doctors, drugs)
+        each("index", label, content, "%d" % (len(result) // 6), result)
+
+    in_buffers("index", "37 bytes", SMALL, "1", [1, 13, 21, 0, 0, 0])
+    in_buffers("index", "35 bytes", SMALL_CANONICAL, "1", [1, 13, 20, 0, 0, 0])
+    in_buffers("index", "three records", to_provider(PATIENT, DATE, "601,x,"), "3",
+               [1, 13, 21, 0, 0, 0, 5, 36, 12, 1, 0, 0, 601, 50, 6, 1, 0, 0])
+    for label, groups, doctors, drugs in EXAMPLES:
+        given(label, check_case(label), groups, doctors, drugs)
+    for room in (1, 5, 6, 7, 11):
+        refused("index", "two records, %d numbers" % room,
+                to_provider(PATIENT, "4,x,,2"), "no 20 0", room=room)
+
+    # Doctors, drugs and groups, line by line.
+    rp = [drug(), note(281), note(291), usage(), note(311), note(391)]
+    given("every record of an RP", to_provider(PATIENT, DATE, DOCTOR, *rp),
+          [(3, 10, 1)], [(5, 10, 4)], [(6, 7, 5)])
+    given("no doctor", to_provider(PATIENT, DATE, *rp), [(3, 9, 1)], [], [(5, 6, 4)])
+    given("a doctor in group 1 only",
+          to_provider(PATIENT, DATE, DOCTOR, *rp, DATE, *rp),
+          [(3, 10, 1), (11, 17, 2)], [(5, 10, 4)], [(6, 7, 5), (13, 14, 12)])
+    given("a doctor in group 2 only",
+          to_provider(PATIENT, DATE, *rp, DATE, DOCTOR, *rp),
+          [(3, 9, 1), (10, 17, 2)], [(12, 17, 11)], [(5, 6, 4), (13, 14, 12)])
+    given("an RP keeps the doctor of the one before",
+          to_provider(PATIENT, DATE, DOCTOR, drug(1), usage(1), drug(2), usage(2), DOCTOR,
+                      drug(3), usage(3), drug(4)),
+          [(3, 12, 1)], [(5, 8, 4), (10, 12, 9)])
+    given("the last drug of several",
+          to_provider(PATIENT, DATE, drug(), drug(), note(281), note(281), note(291), drug(),
+                      note(291), drug(2), note(281, 2)),
+          [(3, 12, 1)], [], [(6, 8, 5), (10, 10, 9), (12, 12, 11)])
+    given("the last drug, group by group",
+          to_provider(PATIENT, DATE, drug(), note(281), DATE, drug(), note(281), DATE,
+                      drug(), note(291)),
+          [(3, 5, 1), (6, 8, 2), (9, 11, 3)], [], [(5, 5, 4), (8, 8, 7), (11, 11, 10)])
+    given("groups with nothing in them", to_provider(PATIENT, DATE, DATE, DATE, KEEPER),
+          [(3, 3, 1), (4, 4, 2), (5, 5, 3)])
+    given("701s after a group with a doctor",
+          to_provider(PATIENT, DATE, DOCTOR, drug(), KEEPER, KEEPER),
+          [(3, 5, 1)], [(5, 5, 4)])
+    given("after the prescriptions",
+          to_provider(PATIENT, DATE, DOCTOR, drug(), "401,x,1", ADVICE, "501,x,1", "601,x,"),
+          [(3, 9, 1)], [(5, 5, 4)])
+    for direction in (1, 2):
+        given("every record, direction %d" % direction,
+              file(direction, *(GOOD[number] for number in NUMBERS)),
+              [(6, 20, 1)], [(11, 16, 10)], [(12, 13, 11)])
+    given("direction 1 without record 1", to_patient(DATE, HOSPITAL, ADVICE), [(2, 4, 1)])
+    given("a pharmacy's groups",
+          to_patient(DATE, PHARMACY, PRESCRIBER, DOCTOR, drug(), usage(), DATE, PHARMACY,
+                     PRESCRIBER, drug(), usage(), KEEPER),
+          [(2, 7, 1), (8, 12, 2)], [(6, 7, 5)])
+
+    # Spellings: offsets and lengths are the file's own.
+    for western, era in DAYS:
+        for one in (western, era):
+            given("every day is %s" % one, every_day(one), [(9, 11, 1)], each=accepted)
+    for content, label in [(every_postal_code("105-0004"), "hyphen"),
+                           (every_postal_code("1050004"), "no hyphen")]:
+        given("postal codes with " + label, content, [(3, 4, 1)], each=accepted)
+    for rp in ("1", "01", "001"):
+        given("every RP is %s" % rp, every_value(rp, "5"), [(3, 9, 1)], [], [(5, 6, 4)],
+              each=accepted)
+    given("items that look like days", ALIKE, [(6, 20, 1)], [(11, 16, 10)], [(12, 13, 11)])
+    for content, label in [(ALIKE, "with"), (to_provider(PATIENT, DATE), "small, with")]:
+        groups = [(6, 20, 1)] if content == ALIKE else [(3, 3, 1)]
+        doctors, drugs = ([(11, 16, 10)], [(12, 13, 11)]) if content == ALIKE else ([], [])
+        given(label + " 1A", content + b"\x1a", groups, doctors, drugs, each=accepted)
+    for size in (1, 2, 61, 62):
+        given("%d bytes of wide text" % (2 * size),
+              to_provider(PATIENT, "4," + "薬" * size + ",,2", "4,x,,2"), [], each=accepted)
+
+    # Many records, and the largest file.
+    many = to_provider(PATIENT, DATE, *(drug(n) for n in range(1, 1000)))
+    given("999 prescriptions", many, [(3, 1002, 1)])
+    notes = to_provider(PATIENT, DATE, DOCTOR, drug(), *[note(281)] * 500, *[note(291)] * 500)
+    given("1000 remarks", notes, [(3, 1005, 1)], [(5, 1005, 4)], [(6, 1005, 5)],
+          each=accepted)
+    groups = to_provider(PATIENT, *[DATE, DOCTOR, drug()] * 300)
+    given("300 groups", groups, [(3 * g, 3 * g + 2, g) for g in range(1, 301)],
+          [(3 * g + 2, 3 * g + 2, 3 * g + 1) for g in range(1, 301)], each=accepted)
+    given("65536 bytes", check_case("65536 bytes"), [], each=accepted)
+
+    of_check("index")
+    for label, content, _ in spread(check_cases()["ok"], 160):
+        told("index", "check's %s" % label, content, 6 * content.count(b"\n"))
+
+
+# =============================================================================
+# Canonical
+# =============================================================================
+
+
+def canonical():
+    def given(label, content, result, each=accepted):
+        each("canonical", label, content, "%d" % len(result), result)
+
+    given("37 bytes", SMALL, b"JAHISTC04,2\r\n1,A,1,H010108,,,,,,,\r\n", in_buffers)
+    given("36 bytes", SMALL[:-1], SMALL_CANONICAL, in_buffers)
+    given("35 bytes", SMALL_CANONICAL, SMALL_CANONICAL, in_buffers)
+    given("35 bytes and 1A", SMALL_CANONICAL + b"\x1a", SMALL_CANONICAL, in_buffers)
+    for room in (1, 12, 13, 14, 33, 34):
+        refused("canonical", "37 bytes, buffer of %d" % room, SMALL, "no 20 0", room=room)
+    for room in (36, 37, 100, 199, 200, 201, 1000):
+        accepted("canonical", "37 bytes, buffer of %d" % room, SMALL, "35", SMALL_CANONICAL,
+                 spare=room - 35)
+    # The examples have these two spellings that are not canonical.
+    for label, _, _, _ in EXAMPLES:
+        content = check_case(label)
+        result = content.replace(b"19580303", b"S330303").replace(b"105-0004", b"1050004")
+        given(label, content, result, in_buffers)
+        given(label + ", 1A", content + b"\x1a", result)
+
+    for western, era in DAYS:
+        given("every day is %s" % western, every_day(western), every_day(era))
+        given("every day is %s" % era, every_day(era), every_day(era))
+    given("postal codes with hyphen", every_postal_code("105-0004"),
+          every_postal_code("1050004"), in_buffers)
+    given("postal codes of zeros", every_postal_code("000-0000"),
+          every_postal_code("0000000"))
+    for one in ("1050004", "0000001", ""):
+        given("postal codes '%s'" % one, every_postal_code(one), every_postal_code(one))
+    for rp in ("1", "01", "001"):
+        for spelled, value in [("1", "1"), ("5", "5"), ("05", "5"), ("005", "5"), ("10", "10"),
+                               ("010", "10"), ("100", "100"), ("099", "99"), ("999", "999"),
+                               ("", "")]:
+            given("RP %s, quantity '%s'" % (rp, spelled), every_value(rp, spelled),
+                  every_value("1", value))
+    for digits in ("%d", "%02d", "%03d"):
+        content = to_provider(PATIENT, DATE, *(drug(digits % n) for n in range(1, 113)))
+        result = to_provider("1,A,1,H010108,,,,,,,", "5,H280411,1",
+                             *(drug("%d" % n) for n in range(1, 113)))
+        given("112 prescriptions, written " + digits, content, result)
+    # All spellings of one file.
+    for birth, code, rp, end in itertools.product(
+            ("19890107", "S640107"), ("105-0004", "1050004", ""), ("1", "01", "001"),
+            (b"", b"\x1a")):
+        def one_file(birth, code, rp):
+            return to_provider("1,A,1,%s,%s,,,,,," % (birth, code), "5,H280411,1",
+                               "11,x,,,,%s,,,1" % code, drug(rp), usage(rp))
+        given("spelled %s, '%s', %s%s" % (birth, code, rp, ", 1A" if end else ""),
+              one_file(birth, code, rp) + end, one_file("S640107", code.replace("-", ""), "1"))
+    given("items that look like days", ALIKE, ALIKE, in_buffers)
+    given("items that look like days, 1A", ALIKE + b"\x1a", ALIKE)
+    for direction in (1, 2):
+        content = file(direction, *(GOOD[number] for number in NUMBERS))
+        result = content.replace(b"19890108", b"H010108").replace(b"20160411", b"H280411")
+        given("every record, direction %d" % direction, content, result, in_buffers)
+    text = "4," + "薬表ソ" * 60 + ",20160411,2"
+    given("wide text", to_provider(PATIENT, text),
+          to_provider("1,A,1,H010108,,,,,,,", text.replace("20160411", "H280411")))
+
+    # The largest files: the canonical one is a byte shorter for the birth day.
+    full = check_case("65536 bytes")
+    result = full.replace(b"19890108", b"H010108")
+    assert len(result) == 65535
+    given("65536 bytes", full, result)
+    refused("canonical", "65536 bytes, one short", full, "no 20 0", room=65534)
+    full = check_case("65535 bytes and 1A")
+    result = full[:-1].replace(b"19890108", b"H010108")
+    accepted("canonical", "65535 bytes and 1A", full, "65534", result, spare=0)
+
+    of_check("canonical")
+    for label, content, _ in spread(check_cases()["ok"], 160):
+        told("canonical", "check's %s" % label, content, len(content) + 2)
+
+
+# =============================================================================
+# Cut
+# =============================================================================
+
+ONE = "1,A,1,H010108,,,,,,,"  # 22 bytes with its line end
+MEMO = "4,x,,2"  # 8 bytes with its line end
+
+
+def one_piece(direction, lines, n, k, ident=ID, end=b""):
+    return file(direction, *lines, b"911,%s,%s,%s" % (raw(ident), raw(str(n)), raw(str(k)))) + end
+
+
+def list_of(direction, runs, ident=ID):
+    return [one_piece(direction, run, len(runs), k, ident) for k, run in enumerate(runs, 1)]
+
+
+def memo_runs(memos, size, capacity):
+    """How many records each piece has: record 1 of 22 bytes, then memos of one
+    size, so that a division tells. None where no width serves."""
+    for width in (1, 2, 3):
+        counts, left = [], 1 + memos
+        while left:
+            k = len(counts) + 1
+            # All but the records: line 1, and a 911 with three commas, 14 digits
+            # and a line end.
+            room = capacity - 13 - (3 + 3 + 14 + width + len(str(k)) + 2)
+            found = min(left, room // size if k > 1 else 1 + (room - 22) // size)
+            if found < 1 or k == 10**width:
+                break
+            counts.append(found)
+            left -= found
+        if left == 0 and len(str(len(counts))) == width:
+            return counts
+    return None
+
+
+def memo_cut(label, memos, memo, capacity, content=None, each=accepted, expected=None):
+    """Record 1 and equal memos. `expected` is the count written by hand, 18 for
+    the refusal."""
+    lines = [ONE] + [memo] * memos
+    if content is None:
+        content = to_provider(*lines)
+    size = len(memo) + 2
+    if 13 + 22 + memos * size <= capacity:
+        result = [to_provider(*lines)]
+    else:
+        counts = memo_runs(memos, size, capacity)
+        if counts is None:
+            assert expected in (None, "18")
+            refused("cut", label, content, "no 18 0", capacity=capacity, ident=ID)
+            return
+        ends = list(itertools.accumulate(counts, initial=0))
+        assert ends[-1] == len(lines)
+        result = list_of(2, [lines[a:b] for a, b in zip(ends, ends[1:])])
+        assert max(len(one) for one in result) <= capacity
+    values = "%d %d" % (len(result), sum(len(one) for one in result))
+    assert expected in (None, values, values.split()[0])
+    each("cut", label, content, values, b"".join(result), capacity=capacity, ident=ID)
+
+
+def cut():
+    def given(label, content, capacity, result, ident=ID, each=in_buffers):
+        each("cut", label, content, "%d %d" % (len(result), sum(map(len, result))),
+             b"".join(result), capacity=capacity, ident=ident)
+
+    def no(label, content, capacity, answer, ident=ID, room=40):
+        refused("cut", label, content, answer, room=room, capacity=capacity, ident=ident)
+
+    # The paper's cases.
+    def paper(memos):
+        return to_provider(PATIENT, *[MEMO] * memos) + b"\x1a"
+
+    result = list_of(2, [[ONE, MEMO]] + [[MEMO] * 4] * 4 + [[MEMO] * 3])
+    assert len(result) == 6 and sum(map(len, result)) == 404
+    given("the paper's 20 memos, 69", paper(20), 69, result)
+    result = list_of(2, [[ONE]] + [[MEMO] * 2] * 9)
+    assert len(result) == 10 and sum(map(len, result)) == 547
+    given("the paper's 18 memos, 60", paper(18), 60, result)
+    no("the paper's 18 memos, 59", paper(18), 59, "no 18 0", room=600)
+    given("the paper's 2 memos, 51", paper(2), 51, [to_provider(ONE, MEMO, MEMO)])
+    no("the paper's 2 memos, 50", paper(2), 50, "no 18 0", room=600)
+
+    # The small file: 37 bytes, canonical 35; it can't be cut in two.
+    for capacity in (35, 36, 37, 1000, 65536, 2**32, 2**63, UNBOUNDED - 1, UNBOUNDED):
+        given("37 bytes, %d" % capacity, SMALL, capacity, [SMALL_CANONICAL],
+              each=in_buffers if capacity in (35, UNBOUNDED) else accepted)
+    for capacity in (0, 1, 2, 13, 34):
+        no("37 bytes, %d" % capacity, SMALL, capacity, "no 18 0")
+        no("37 bytes, %d, no buffer" % capacity, SMALL, capacity, "no 18 0", room=0)
+
+    # Every capacity up to where one piece serves.
+    for capacity in range(0, 199):
+        memo_cut("20 memos, canonical, %d" % capacity, 20, MEMO, capacity)
+    dated = to_provider(PATIENT, *["4,x,19890108,2"] * 5) + b"\x1a"
+    for capacity in range(0, 114):
+        memo_cut("5 memos with dates, %d" % capacity, 5, "4,x,H010108,2", capacity, dated)
+    for memos in range(1, 8):
+        total = 13 + 22 + 8 * memos
+        for capacity in (total - 1, total):
+            memo_cut("%d memos, %d" % (memos, capacity), memos, MEMO, capacity,
+                     each=in_buffers)
+
+    # One, two and three digits. A memo of 12 bytes has a piece to itself from
+    # capacity 60 to 62; at 63 two fit where k has one digit.
+    long = "4,xxxxx,,2"
+    for memos, capacity, expected in [
+        (8, 59, "9"), (8, 60, "9"), (9, 60, "10"), (9, 59, "18"), (9, 61, "6"),
+        (98, 60, "99"), (99, 60, "18"), (99, 61, "100"), (99, 62, "92"), (106, 62, "99"),
+        (107, 62, "108"), (99, 59, "18"), (500, 61, "501"),
+        (998, 61, "999"), (998, 62, "999"), (999, 61, "18"), (999, 62, "18"), (999, 63, "992"),
+        (1006, 63, "999"), (1007, 63, "18"),
+    ]:
+        memo_cut("%d long memos, %d" % (memos, capacity), memos, long, capacity,
+                 expected=expected)
+    # Piece 9 can hold the big memo, piece 10 can't.
+    big = "4," + "x" * 15 + ",,2"
+    no("big memo in piece 10", to_provider(ONE, *[long] * 8, big), 60, "no 18 0")
+    given("big memo in piece 9", to_provider(ONE, *[long] * 7, big, long), 60,
+          list_of(2, [[ONE]] + [[long]] * 7 + [[big], [long]]))
+    given("big memo in piece 10, one more byte", to_provider(ONE, *[long] * 8, big), 61,
+          list_of(2, [[ONE]] + [[long, long]] * 4 + [[big]]))
+    # Records keep their order: a short one does not fill an earlier piece. At 67
+    # a piece has 30 bytes for records, a big memo has 22 and a short one 8.
+    given("short memos behind big ones", to_provider(ONE, big, MEMO, big, MEMO), 67,
+          list_of(2, [[ONE], [big, MEMO], [big, MEMO]]))
+    given("short memos behind big ones, 66", to_provider(ONE, big, MEMO, big, MEMO), 66,
+          list_of(2, [[ONE], [big], [MEMO], [big], [MEMO]]))
+    given("a short memo before big ones", to_provider(ONE, MEMO, big, big, MEMO), 67,
+          list_of(2, [[ONE, MEMO], [big], [big, MEMO]]))
+    given("short memos last", to_provider(ONE, big, big, MEMO, MEMO), 68,
+          list_of(2, [[ONE], [big], [big, MEMO], [MEMO]]))
+    # The last record alone is too long.
+    no("a last record that fits no piece", to_provider(ONE, MEMO, "4,%s,,2" % ("x" * 400)),
+       300, "no 18 0", room=800)
+    no("a first record that fits no piece",
+       to_provider("1,A,1,H010108,,%s,,,,," % ("x" * 300), MEMO), 300, "no 18 0", room=800)
+
+    # Direction 1.
+    group = ["5,H280411,1", HOSPITAL, ADVICE]
+    visit = to_patient(DATE, HOSPITAL, ADVICE)
+    assert [len(line) + 2 for line in group] == [13, 17, 12]
+    given("direction 1, whole", visit, 55, [to_patient(*group)])
+    given("direction 1, each record alone", visit, 54, list_of(1, [[line] for line in group]))
+    no("direction 1, one byte less", visit, 53, "no 18 0")
+    visits = to_patient(*[DATE, HOSPITAL, ADVICE] * 3)
+    given("direction 1, three groups", visits, 79, list_of(1, [group] * 3))
+    given("direction 1, three groups, one byte less", visits, 78,
+          list_of(1, [group[:2], [group[2], group[0]], group[1:], group[:2], group[2:]]))
+    fourth = check_case("example 4")
+    for capacity in (110, 111, 112, 150, 200, 256, 300, 500, 600, 700, 1000, 1200, 1300, 1400,
+                     65536):
+        told("cut", "example 4, %d" % capacity, fourth, 4000, capacity, ID)
+    for label, _, _, _ in EXAMPLES:
+        content = check_case(label)
+        whole = content.replace(b"19580303", b"S330303").replace(b"105-0004", b"1050004")
+        given(label + ", whole", content, len(whole), [whole])
+        for capacity in (len(whole) - 1, len(whole) // 2 + 40, 180):
+            told("cut", "%s, %d" % (label, capacity), content, 4000, capacity, ID)
+
+    # The ID: 17 wherever the file is good, before 18 and 20.
+    wrong = [b"", b"1", b"1" * 13, b"1" * 15, b"1" * 28, b"1" * 255, b"1234567890123a",
+             b"a2345678901234", b"1234567 901234", b"12345678901234 ", b" 2345678901234",
+             b"-2345678901234", b"1234567890123/", b"1234567890123:", b"\x00" * 14,
+             b"1234567890123\n", b"1234567890123,", b"12345678901234\r", b"\xb1" * 14,
+             "１２３４５６７".encode("shift_jis"), b"12345678901234\x00", b"1.345678901234"]
+    for ident in wrong:
+        shown = ident.hex() if len(ident) < 16 else "of %d" % len(ident)
+        no("ID %s" % shown, SMALL, UNBOUNDED, "no 17 0", ident)
+        no("ID %s, no cutting" % shown, SMALL, 0, "no 17 0", ident)
+        no("ID %s, no buffer" % shown, to_provider(ONE, *[MEMO] * 20), 69, "no 17 0", ident, 0)
+        no("ID %s, refused file" % shown, to_provider(DATE), 100, "no 14 2", ident)
+    for ident in (b"0" * 14, b"9" * 14, b"00000000000001", b"98765432109876"):
+        given("ID %s" % ident.decode(), paper(4), 60,
+              list_of(2, [[ONE], [MEMO, MEMO], [MEMO, MEMO]], ident), ident, accepted)
+
+    of_check("cut", capacity=UNBOUNDED, ident=ID)
+    by_answer = check_cases()
+    for number in range(2, 17):
+        label, content, answer = by_answer[number][0]
+        no("%d and a wrong ID" % number, content, 0, answer, b"x")
+    for label, content, _ in spread(by_answer["ok"], 160):
+        told("cut", "check's %s" % label, content, 3 * len(content), len(content) - 8, ID)
+        told("cut", "check's %s, half" % label, content, 3 * len(content),
+             len(content) // 2 + 40, ID)
+
+
+# =============================================================================
+# Join
+# =============================================================================
+
+
+def whole_lines(content):
+    """The lines of a file that joining lets pass to check: no stray byte, no
+    record 911 and no second line 1. None for another file."""
+    content = content[:-1] if content.endswith(b"\r\n\x1a") else content
+    *lines, rest = content.split(b"\r\n")
+    bad = [line for line in lines[1:]
+           if line.startswith((b"911", b"JAHISTC04,")) or set(line) & set(b"\r\n\x1a")]
+    if rest or bad or lines[:1] not in ([b"JAHISTC04,1"], [b"JAHISTC04,2"]):
+        return None
+    return lines
+
+
+def pieces_at(lines, ends, order):
+    """The file of these lines as pieces that end behind these records, in this
+    order; behind every other piece stands a 1Ah."""
+    direction, records = int(lines[0][-1:]), lines[1:]
+    bounds = [0] + ends + [len(records)]
+    pieces = list_of(direction, [records[a:b] for a, b in zip(bounds, bounds[1:])])
+    return b"".join(pieces[k] + b"\x1a" * (at % 2) for at, k in enumerate(order))
+
+
+def any_pieces(lines, number):
+    """Two, three or four pieces: where they end and their order goes by number."""
+    n = 2 + number % 3
+    orders = list(itertools.permutations(range(n)))
+    ends = sorted((number * (3 + 2 * i)) % len(lines) for i in range(n - 1))
+    return pieces_at(lines, ends, orders[number % len(orders)])
+
+
+def join():
+    def given(label, content, result, each=accepted):
+        each("join", label, content, "%d" % len(result), result)
+
+    def no(label, content, answer, **rest):
+        refused("join", label, content, answer, **rest)
+
+    memo = MEMO.encode()
+
+    # One piece without a 911: the file as it is, but for the 1Ah.
+    given("37 bytes", SMALL, SMALL[:-1], in_buffers)
+    given("36 bytes", SMALL[:-1], SMALL[:-1], in_buffers)
+    given("items that look like days", ALIKE, ALIKE, in_buffers)
+    for western, _ in DAYS[::4]:
+        given("every day is %s" % western, every_day(western), every_day(western))
+    given("postal codes with hyphen", every_postal_code("105-0004"),
+          every_postal_code("105-0004"))
+    given("every RP is 001", every_value("001", "005"), every_value("001", "005"))
+    no("only line 1", b"JAHISTC04,2\r\n", "no 14 2")
+    no("only line 1 and 1A", b"JAHISTC04,2\r\n\x1a", "no 14 2")
+
+    # Two pieces.
+    first, second = list_of(2, [[PATIENT], [MEMO]])
+    both = to_provider(PATIENT, MEMO)
+    given("two pieces", first + second, both, in_buffers)
+    given("two pieces, turned", second + first, both, in_buffers)
+    given("direction 1",
+          b"".join(list_of(1, [[DATE, HOSPITAL], [ADVICE]])), to_patient(DATE, HOSPITAL, ADVICE))
+    for ident in (b"0" * 14, b"9" * 14):
+        given("ID %s" % ident.decode(),
+              b"".join(list_of(2, [[PATIENT], [MEMO]], ident)), both)
+    # n and k by value.
+    for n, m in itertools.product(("2", "02", "002"), repeat=2):
+        for k, l in [("1", "2"), ("01", "02"), ("001", "2"), ("1", "002")]:
+            given("n %s %s, k %s %s" % (n, m, k, l),
+                  one_piece(2, [MEMO], m, l) + one_piece(2, [PATIENT], n, k), both)
+    ten = [[PATIENT]] + [["4,%d,,2" % k] for k in range(2, 11)]
+    for digits in ("%d", "%02d", "%03d"):
+        content = b"".join(one_piece(2, run, 10, digits % k) for k, run in enumerate(ten, 1))
+        given("ten pieces, written " + digits, content, to_provider(*itertools.chain(*ten)))
+
+    # 15-106 3.2.10: its two pieces are example 4.
+    parts = [check_case("3.2.10, piece 1"), check_case("3.2.10, piece 2")]
+    given("3.2.10", b"".join(parts), check_case("example 4"), in_buffers)
+    given("3.2.10, turned", b"".join(parts[::-1]), check_case("example 4"), in_buffers)
+
+    # All orders of three and four pieces; a 1Ah behind any of three.
+    three = [[PATIENT, "2,1,x,2"], [MEMO], [DATE, "601,x,"]]
+    joined = to_provider(*itertools.chain(*three))
+    for order in itertools.permutations(range(3)):
+        for ends in itertools.product((b"", b"\x1a"), repeat=3):
+            content = b"".join(list_of(2, three)[k] + end for k, end in zip(order, ends))
+            given("order %d%d%d, 1A %d%d%d" % (*order, *map(len, ends)), content, joined)
+    four = [[PATIENT], [], [MEMO, "4,20160411,,2"], [DATE]]
+    joined = to_provider(*itertools.chain(*four))
+    for order in itertools.permutations(range(4)):
+        content = [list_of(2, four)[k] for k in order]
+        given("order %d%d%d%d" % order, b"".join(content), joined)
+        given("order %d%d%d%d, 1A" % order, b"\x1a".join(content) + b"\x1a", joined)
+    given("all records in the last piece",
+          b"".join(list_of(2, [[], [], [PATIENT, MEMO]])), both)
+    given("all records in the first piece",
+          b"".join(list_of(2, [[PATIENT, MEMO], [], []])), both)
+    no("no records at all", b"".join(list_of(2, [[], [], []])), "no 14 2")
+
+    # 19: a line before the first piece, or no piece.
+    for label, line in [
+        ("an empty line", b""), ("x", b"x"), ("a record", memo), ("a 911", b"911," + ID + b",2,1"),
+        ("another version", b"JAHISTC03,2"), ("direction 3", b"JAHISTC04,3"),
+        ("small letters", b"jahistc04,2"), ("a final space", b"JAHISTC04,2 "),
+        ("a final comma", b"JAHISTC04,2,"), ("no direction", b"JAHISTC04"), ("FF", b"\xff"),
+    ]:
+        no("%s before two pieces" % label, line + b"\r\n" + first + second, "no 19 0")
+        no("%s before a file" % label, line + b"\r\n" + both, "no 19 0")
+        no("%s alone" % label, line + b"\r\n", "no 19 0")
+        no("%s alone, no buffer" % label, line + b"\r\n", "no 19 0", room=0)
+    no("two empty lines", b"\r\n\r\n", "no 19 0")
+
+    # 19: the 911 of a piece. `mark` stands in piece 1 and, with k 2, in piece 2.
+    def marks(label, line):
+        """Piece 1 with this last line: beside a good piece 2, alone, with room."""
+        no("piece 1 has " + label, file(2, PATIENT, line) + second, "no 19 0")
+        no("piece 1 of two lies last and has " + label, second + file(2, PATIENT, line),
+           "no 19 0", room=100)
+        no("the only piece has " + label, file(2, PATIENT, line), "no 19 0")
+
+    for items in ["", ",", ",%s", ",%s,2", ",%s,2,", ",%s,,1", ",,2,1", ",%s,2,1,", ",%s,2,1,1",
+                  ",,,", ",%s,,", ",,,,,,", ",%s;2;1"]:
+        line = "911" + (items % ID.decode() if "%s" in items else items)
+        marks("the line " + line, line)
+    for label, ident in [
+        ("13 digits", "1234567890123"), ("15 digits", "123456789012345"),
+        ("a letter", "1234567890123a"), ("a space", "1234567890123 "),
+        ("a first space", " 2345678901234"), ("a sign", "-2345678901234"),
+        ("no digits", ""), ("a slash", "1234567890123/"), ("a colon", "1234567890123:"),
+        ("7 wide digits", "１２３４５６７"), ("14 wide digits", "１２３４５６７８９０１２３４"),
+    ]:
+        no("ID of %s in both" % label,
+           b"".join(list_of(2, [[PATIENT], [MEMO]], raw(ident))), "no 19 0")
+        no("ID of %s in piece 2" % label,
+           first + one_piece(2, [MEMO], 2, 2, raw(ident)), "no 19 0")
+    no("ID of FF in both", b"".join(list_of(2, [[PATIENT], [MEMO]], b"\xff" * 14)), "no 19 0")
+    for n in ["0", "00", "000", "1", "01", "001", "1000", "0002", "0000", "2a", "a", "+2", "-2",
+              " 2", "2 ", "2.0", "２", "999", "3", "20", "9999999999999999999999"]:
+        no("n %s in both" % raw(n).hex(),
+           one_piece(2, [PATIENT], n, 1) + one_piece(2, [MEMO], n, 2), "no 19 0")
+        no("n %s in piece 1" % raw(n).hex(), one_piece(2, [PATIENT], n, 1) + second, "no 19 0")
+        no("n %s, one piece" % raw(n).hex(), one_piece(2, [PATIENT, MEMO], n, 1), "no 19 0")
+    for k in ["0", "00", "000", "3", "1", "001", "0002", "002a", "a", "+2", " 2", "2 ", "2.0",
+              "２", "1002", "999", "258", "18446744073709551618"]:
+        no("k %s in piece 2" % raw(k).hex(), first + one_piece(2, [MEMO], 2, k), "no 19 0")
+    no("k 0 and 1", one_piece(2, [PATIENT], 2, 0) + one_piece(2, [MEMO], 2, 1), "no 19 0")
+
+    # 19: which pieces there are.
+    one, two, last = list_of(2, three)
+    for label, content in [
+        ("piece 1 of 2 alone", first), ("piece 2 of 2 alone", second),
+        ("piece 1 twice", first + first), ("piece 2 twice", second + second),
+        ("piece 1 twice and piece 2", first + second + first),
+        ("both pieces twice", first + second + first + second),
+        ("1 and 2 of 3", one + two), ("1 and 3 of 3", one + last), ("2 and 3 of 3", two + last),
+        ("1, 1 and 3 of 3", one + one + last), ("1, 2 and 2 of 3", one + two + two),
+        ("1, 2, 3 and 3 of 3", one + two + last + last),
+        ("3 beside two of 2", first + second + one_piece(2, [MEMO], 2, 3)),
+        ("two of 2 and one of 3", first + second + last),
+        ("n 2 and 3", first + one_piece(2, [MEMO], 3, 2)),
+        ("n 3 and 2", one_piece(2, [PATIENT], 3, 1) + second),
+        ("n 2, 3 and 3", one_piece(2, [PATIENT], 2, 1) + two + last),
+        ("n 3, 3 and 2", one + two + one_piece(2, [DATE], 2, 3)),
+        ("another ID", first + one_piece(2, [MEMO], 2, 2, b"12345678901235")),
+        ("another ID, first digit", first + one_piece(2, [MEMO], 2, 2, b"22345678901234")),
+        ("another ID in the last of 3", one + two + one_piece(2, [DATE], 3, 3, b"0" * 14)),
+        ("another line 1", first + one_piece(1, [MEMO], 2, 2)),
+        ("another line 1 in piece 1", one_piece(1, [PATIENT], 2, 1) + second),
+        ("another line 1 in the last of 3", one + two + one_piece(1, [DATE], 3, 3)),
+        ("a piece without a 911 behind", first + second + to_provider(MEMO)),
+        ("a piece without a 911 between", first + to_provider(MEMO) + second),
+        ("a piece without a 911 in front", to_provider(PATIENT) + first + second),
+        ("a piece without a 911 for piece 1", to_provider(PATIENT) + second),
+        ("a piece without a 911 for piece 2", first + to_provider(MEMO)),
+        ("only line 1 for piece 2", first + to_provider()),
+        ("two pieces without a 911", to_provider(PATIENT) + to_provider(MEMO)),
+        ("a file twice", both + both), ("a file with 1A twice", SMALL + SMALL),
+        ("line 1 twice", to_provider() + both),
+        ("two 911s in piece 1", file(2, PATIENT, b"911," + ID + b",2,1",
+                                     b"911," + ID + b",2,1") + second),
+        ("the 911s of both in one", file(2, PATIENT, MEMO, b"911," + ID + b",2,1",
+                                         b"911," + ID + b",2,2")),
+        ("a 911 in the middle too", file(2, b"911", PATIENT, b"911," + ID + b",2,1") + second),
+        ("a 911 that is not last", file(2, PATIENT, b"911," + ID + b",2,1", MEMO) + second),
+        ("a 911 that is first", file(2, b"911," + ID + b",2,1", PATIENT) + second),
+        ("an empty line behind the 911", first + b"\r\n" + second),
+        ("an empty line behind the last 911", first + second + b"\r\n"),
+        ("a record behind the last 911", first + second + memo + b"\r\n"),
+        ("a file with a 911 inside", to_provider(PATIENT, "911", MEMO)),
+        ("a file with a 911 of no items", to_provider(PATIENT, "911")),
+    ]:
+        no(label, content, "no 19 0", room=100)
+        no(label + ", no buffer", content, "no 19 0", room=0)
+
+    # Lines that are no record 911: 5, in the joined file.
+    for line in ["9110", "9110,%s,2,1", "0911,%s,2,1", " 911,%s,2,1", "911 ,%s,2,1", "911;%s;2;1",
+                 "91,%s,2,1", "９１１,%s,2,1", "JAHISTC04,3", "JAHISTC03,2", "JAHISTC04,2 "]:
+        line = line % ID.decode() if "%s" in line else line
+        shown_line = raw(line).hex()[:24]
+        no("a file with the line %s" % shown_line, to_provider(PATIENT, line), "no 5 3")
+        no("piece 1 with the line %s" % shown_line,
+           second + one_piece(2, [PATIENT, line], 2, 1), "no 5 3")
+        no("piece 2 with the line %s" % shown_line,
+           one_piece(2, [MEMO, line], 2, 2) + first, "no 5 4")
+
+    # 2, judged over all of the input before 19. Each piece here has three lines.
+    end = b"\x1a"
+    for label, content, line in [
+        ("empty input", b"", 1), ("1A alone", end, 1), ("1A twice alone", end + end, 1),
+        ("1A in front", end + first + second, 1), ("1A in front of a file", end + both, 1),
+        ("1A twice between", first + end + end + second, 4),
+        ("1A twice at the end", first + second + end + end, 7),
+        ("1A twice behind a file", both + end + end, 4),
+        ("1A on a line of its own", first + end + b"\r\n" + second, 4),
+        ("1A on a last line of its own", first + second + end + b"\r\n", 7),
+        ("1A and line end before the end", both + end + b"\r\n", 4),
+        ("1A behind line 1", b"JAHISTC04,2\r\n" + end + raw(PATIENT) + b"\r\n", 2),
+        ("1A in line 1", b"JAHISTC04,2" + end + b"\r\n" + raw(PATIENT) + b"\r\n", 1),
+        ("1A in the second line 1", first + second.replace(b",2\r\n", b",2\x1a\r\n", 1), 4),
+        ("1A in an item", first + second.replace(b"x", b"x\x1a"), 5),
+        ("1A at a line's end", first + second.replace(b"4,x,,2", b"4,x,,2\x1a"), 5),
+        ("1A at a line's start", first + second.replace(b"4,x,,2", b"\x1a4,x,,2"), 5),
+        ("1A before a 911", first + second.replace(b"911", b"\x1a911"), 6),
+        ("1A in a 911", first.replace(b",2,1", b",2,1\x1a") + second, 3),
+        ("1A for a line end", first[:-2] + end + second, 3),
+        ("1A between 0D and 0A", first[:-1] + end + b"\n" + second, 3),
+        ("1A for the last line end", first + second[:-2] + end, 6),
+        ("1A before a line that is no line 1", first + end + b"JAHISTC04,3\r\n" + second, 4),
+        ("1A before a longer line 1", first + end + second.replace(b",2\r\n", b",2 \r\n", 1), 4),
+        ("1A before a shorter line 1", first + end + b"JAHISTC04,\r\n" + second, 4),
+        ("1A before a line 1 cut short", first + end + b"JAHISTC04,2", 4),
+        ("1A before a line 1 with 0D", first + end + b"JAHISTC04,2\r", 4),
+        ("1A before a line 1 with 0A", first + end + b"JAHISTC04,2\n", 4),
+        ("1A before a record", first + end + memo + b"\r\n" + second, 4),
+        ("1A before an x at the end", first + end + b"x", 4),
+        ("1A behind a line before the pieces", b"x\r\n" + end + first + second, 2),
+        ("1A behind a line and no piece", b"x\r\n" + end, 2),
+        ("1A behind an empty line", b"\r\n" + end, 2),
+        ("no last line end", first + second[:-2], 6),
+        ("0D for the last line end", first + second[:-1], 6),
+        ("0A for the last line end", first + second[:-2] + b"\n", 6),
+        ("x at the end", first + second + b"x", 7),
+        ("0D at the end", first + second + b"\r", 7),
+        ("0A at the end", first + second + b"\n", 7),
+        ("00 at the end", first + second + b"\x00", 7),
+        ("0D inside", first + second.replace(b"x", b"x\r"), 5),
+        ("0A inside", first + second.replace(b"x", b"x\n"), 5),
+        ("0D 0D 0A", first.replace(b"\r\n", b"\r\r\n") + second, 1),
+        ("0D 0A 0A", first + b"\n" + second, 4),
+        ("0A for all line ends", (first + second).replace(b"\r\n", b"\n"), 1),
+        ("0D for all line ends", (first + second).replace(b"\r\n", b"\r"), 1),
+        ("line 1 without its end", b"JAHISTC04,2", 1),
+        ("2 behind 19: a line in front", b"x\r\n" + first + second + b"x", 8),
+        ("2 behind 19: one piece of 2", first + b"x", 4),
+        ("2 behind 19: no piece", b"x\r\nx", 2),
+        ("2 behind 19: 911 not last", first + memo + b"\r\n" + second.replace(b"x", b"\n"), 6),
+        ("2 behind 5", to_provider(PATIENT, "6", b"4,\r,,2"), 4),
+        ("2 behind 4", first.replace(b",A,", b",\xff,") + second + end + end, 7),
+        ("2 twice, the first line", first.replace(b",A,", b",\r,") + second + b"x", 2),
+    ]:
+        no("2, " + label, content, "no 2 %d" % line, room=100)
+    no("2, no buffer", first + second + b"x", "no 2 7", room=0)
+    given("1A between and at the end", first + end + second + end, both, in_buffers)
+    no("1A and another direction", first + end + one_piece(1, [MEMO], 2, 2), "no 19 0")
+    no("1A between two line 1s", b"JAHISTC04,2\r\n\x1aJAHISTC04,2\r\n", "no 19 0")
+
+    # Faults of the joined file, with its lines: whichever way the pieces lie.
+    lines = [b"JAHISTC04,2", raw(PATIENT), memo, memo, b"4,x,7,2", raw(DATE), b"6"]
+    for order in itertools.permutations(range(3)):
+        no("11 in line 5, order %d%d%d" % order, pieces_at(lines, [2, 4], order), "no 11 5")
+    no("14 at the end", b"".join(list_of(2, [[PATIENT, DATE], [DOCTOR]])), "no 14 5")
+    no("14 at the end, turned", b"".join(list_of(2, [[PATIENT, DATE], [DOCTOR]])[::-1]),
+       "no 14 5")
+    no("14 without record 1", b"".join(list_of(2, [[DATE], [PATIENT]])), "no 14 2")
+    no("16 across pieces",
+       b"".join(list_of(2, [[PATIENT, "5,20160410,1"], ["5,20160411,1"]])), "no 16 4")
+    given("dates in order once joined",
+          b"".join(list_of(2, [[PATIENT, "5,20160411,1"], ["5,20160410,1"]])[::-1]),
+          to_provider(PATIENT, "5,20160411,1", "5,20160410,1"))
+    no("4 in piece 2", one_piece(2, [b"4,\xff,,2"], 2, 2) + first, "no 4 3")
+    no("a fault and no buffer", one_piece(2, [b"4,\xff,,2"], 2, 2) + first, "no 4 3", room=0)
+    by_answer = check_cases()
+    for number in [4, 5] + list(range(7, 17)):
+        usable = [(label, whole_lines(content), answer)
+                  for label, content, answer in by_answer[number] if whole_lines(content)]
+        for at, (label, lines, answer) in enumerate(spread(usable, 8)):
+            no("%d in one piece, %s" % (number, label), b"\r\n".join(lines) + b"\r\n", answer)
+            no("%d in pieces, %s" % (number, label), any_pieces(lines, at), answer)
+    usable = [(label, whole_lines(content)) for label, content, _ in by_answer["ok"]]
+    for at, (label, lines) in enumerate(spread([one for one in usable if one[1]], 120)):
+        given("check's %s" % label, any_pieces(lines, at), b"\r\n".join(lines) + b"\r\n")
+
+    # What cutting makes of the examples, from the last piece to the first.
+    for label, _, _, _ in EXAMPLES:
+        content = check_case(label)
+        whole = content.replace(b"19580303", b"S330303").replace(b"105-0004", b"1050004")
+        for capacity in (len(whole) - 1, 180):
+            cutting = oracle.pieces_of(content, capacity, ID)
+            given("%s, cut for %d" % (label, capacity), b"".join(cutting[::-1]), whole)
+
+    # 999 pieces; each but one without a record.
+    def many(n, count):
+        return [one_piece(2, [ONE] if k == 500 else [], n, k) for k in range(1, count + 1)]
+
+    given("999 pieces", b"".join(many(999, 999)), SMALL_CANONICAL)
+    given("999 pieces, turned, 1A behind each", b"\x1a".join(many(999, 999)[::-1]) + b"\x1a",
+          SMALL_CANONICAL)
+    no("998 pieces of 999", b"".join(many(999, 998)), "no 19 0")
+    no("999 pieces and one of them again", b"".join(many(999, 999) + many(999, 1)), "no 19 0")
+    no("1000 pieces of 1000", b"".join(many(1000, 1000)), "no 19 0")
+    long = "4,xxxxx,,2"
+    given("999 pieces with a record each",
+          b"".join(list_of(2, [[ONE]] + [[long]] * 998)), to_provider(ONE, *[long] * 998))
+
+    # 1: of the input, and of the joined file.
+    no("1, 131073 bytes", b"\r\n" * 65536 + b"\r", "no 1 0")
+    no("131072 bytes of line ends", b"\r\n" * 65536, "no 19 0")
+    full = check_case("65536 bytes")
+    given("65536 bytes and 1A", full + b"\x1a", full)
+    no("65536 bytes, one short", full, "no 20 0", room=65535)
+    lines = full.split(b"\r\n")[:-1]
+    given("65536 bytes in three pieces", pieces_at(lines, [50, 99], (2, 0, 1)), full)
+    longer = check_case("65537 bytes")
+    no("1, joined file of 65537 bytes", longer, "no 1 0")
+    no("1, joined file of 65537 bytes in pieces",
+       pieces_at(longer.split(b"\r\n")[:-1], [50, 99], (2, 0, 1)), "no 1 0")
+    # Number 1 of the joined file comes before what its lines have.
+    no("1 before 11 in the joined file",
+       pieces_at(longer.replace(b",1,19890108", b",7,19890108").split(b"\r\n")[:-1], [50], (0, 1)),
+       "no 1 0")
+
+
+# =============================================================================
+# Writing
+# =============================================================================
+
+FAMILIES = {"index": index, "canonical": canonical, "cut": cut, "join": join}
+
+
+def shown(call, after):
+    """The buffer as the program writes it."""
+    if call == "index":
+        if len(after) <= SHOWN:
+            return "".join(" %d" % n for n in after)
+        after_bytes = b"".join(struct.pack(">I", n) for n in after)
+    else:
+        if len(after) <= SHOWN:
+            return " " + after.hex() if after else ""
+        after_bytes = after
+    return " %d %08x" % (len(after), zlib.adler32(after_bytes))
+
+
+def packed(one):
+    label = one.label.encode("ascii")
+    assert len(label) < 100 and len(one.ident) < 256 and len(one.content) <= MOST_INPUT
+    assert one.room <= (MOST_NUMBERS if one.call == "index" else MOST_BYTES)
+    return b"".join([
+        LETTERS[one.call].encode(), bytes([len(label)]), label, struct.pack(">I", one.room),
+        struct.pack(">Q", one.capacity), bytes([len(one.ident)]), one.ident,
+        struct.pack(">I", len(one.content)), one.content])
+
+
+def write(out_dir):
+    """make_cases.all_cases() has run."""
+    for call in ANSWERED:
+        FAMILIES[call]()
+    labels = collections.Counter(one.label for one in FRAMES)
+    twice = [label for label, n in labels.items() if n > 1]
+    assert twice == [], twice
+
+    stdin, stdout, disagreements = [], [], 0
+    for one in FRAMES:
+        found = by_oracle(one.call, one.content, one.capacity, one.ident,
+                          before(one.call, one.room))
+        assert len(one.after) == one.room, one.label
+        if found != (one.answer, one.after):
+            disagreements += 1
+            print("%s: here %s, oracle %s%s" % (
+                one.label, one.answer, found[0],
+                "" if found[1] == one.after else ", another buffer"), file=sys.stderr)
+        stdin.append(packed(one))
+        stdout.append("%s: %s;%s\n" % (one.label, one.answer, shown(one.call, one.after)))
+    assert disagreements == 0
+    stdin, stdout = b"".join(stdin), "".join(stdout).encode("ascii")
+    make_cases.write(os.path.join(out_dir, "calls", "stdin"), stdin)
+    make_cases.write(os.path.join(out_dir, "calls", "stdout"), stdout)
+    for call in ANSWERED:
+        mine = [one for one in FRAMES if one.call == call]
+        print("%s: %d cases, %d bytes, %d ok, %d with the oracle's answer" % (
+            call, len(mine), sum(len(packed(one)) for one in mine),
+            sum(one.answer.startswith("ok") for one in mine), sum(one.told for one in mine)))
