@@ -1,0 +1,24 @@
+use borrow.Author.Needs.{needs}
+use Prim.Native.Nat.{_-_}
+use lib.ListN.{length}
+use Rattle.gateway.proofs.notebook_cut.Statement.{statement}
+use Rattle.gateway.proofs.notebook_cut.Tie as tie
+use Rattle.gateway.proofs.notebook_cut.Reads as reads
+use Rattle.gateway.proofs.notebook_cut.Lts as lts
+use Rattle.cut.proofs.cut.Reads as cut-reads
+use Rattle.gateway.proofs.cut_answer.Reads as cut-answer-reads
+
+cut-requires : tie.Need-cut-requires
+cut-requires c κs = search needs
+
+cut-answer-requires : tie.Need-cut-answer-requires
+cut-answer-requires c κs = search needs
+
+same-length : tie.Need-same-length
+same-length c = search needs
+
+returns : tie.Need-returns
+returns c = (cc, search needs)
+
+pub notebook-cut-spec : {M : Type 1} → statement M
+notebook-cut-spec = tie.close (tie.spec cut-requires cut-answer-requires same-length returns)
