@@ -18,7 +18,8 @@ use Rattle.packing.specs.Widths.{Plan, split, digitsOf, over, serves, orNext, t
 use Rattle.packing.proofs.Packing.{pack-stay, pack-next, pack-none}
 use Rattle.packing.proofs.Widths.{digits-most}
 use Rattle.cut.specs.declared.Chosen.the-variants.{Count, NoWidth}
-use Rattle.cut.specs.Loops.{RowTo, OverOf, runsAt, lastPiece, packed, countFor, overheads, chosenBy, chosenFrom, chosen, Small}
+use Rattle.pieces.specs.Answers.{RowAt}
+use Rattle.cut.specs.Loops.{OverOf, runsAt, lastPiece, packed, countFor, overheads, chosenBy, chosenFrom, chosen, Small}
 use Rattle.cut.proofs.RowLaws.{rows-done, part-length}
 
 -- ---- the small functions
@@ -39,7 +40,7 @@ served w n e =
 
 -- ---- one row: it stays, it opens the next piece, or it fits nowhere
 
-module _ (s : List ℕ) (c w k u i e : ℕ) (x : RowTo s i e) where
+module _ (s : List ℕ) (c w k u i e : ℕ) (x : RowAt s i e) where
   pub row-size : length (part s i e) ≡ e - i
   row-size = part-length s i e (x .inside) (omega (arith, x .more))
 
@@ -80,7 +81,7 @@ last-next k r none = refl
 last-next k r (some []) = refl
 last-next k r (some (x ∷ xs)) = ap some (omega arith)
 
-module _ (s : List ℕ) (c w k u i e : ℕ) (x : RowTo s i e) where
+module _ (s : List ℕ) (c w k u i e : ℕ) (x : RowAt s i e) where
   pub packed-stay : u + (e - i) ≤ c → packed s c w k u i ≡ packed s c w k (u + (e - i)) e
   unfolding packed
   packed-stay g = ap (lastPiece k) (runs-stay s c w k u i e x g) ∙ last-put k (part s i e) (runsAt s c w k (u + (e - i)) e)
@@ -209,7 +210,7 @@ module _ (s : List ℕ) (c w₀ w t k u i : ℕ) (v : Packing s c w₀ w t k u i
       let e : countFor s c w ≡ some k = sym (v .same) ∙ packed-done s c w k u i h in
       again (from-other s c w (v .wide) k e (sym p ∙ q))
 
-  module _ {e : ℕ} (x : RowTo s i e) where
+  module _ {e : ℕ} (x : RowAt s i e) where
     pub row-stays : u + (e - i) ≤ c → Packing s c w₀ w t k (u + (e - i)) e
     row-stays g = record {
       trying = v .trying;

@@ -21,7 +21,8 @@ use Rattle.buffers.proofs.Runs.{then, carry}
 use Rattle.packing.specs.Packing.{put}
 use Rattle.packing.specs.Widths.{over}
 use Rattle.pieces.specs.Marks.{markLine, markRow}
-use Rattle.cut.specs.Loops.{RowTo, OverOf, runsAt, lastPiece, packed, countFor, numberedAs, behindHead, poured, restOf, MarkRoom, OpenRoom, Ready}
+use Rattle.pieces.specs.Answers.{RowAt}
+use Rattle.cut.specs.Loops.{OverOf, runsAt, lastPiece, packed, countFor, numberedAs, behindHead, poured, restOf, MarkRoom, OpenRoom, Ready}
 use Rattle.cut.proofs.RowLaws.{part-length}
 use Rattle.cut.proofs.CountLaws.{no-some, row-size, runs-stay, runs-next, runs-done, packed-stay, packed-next, packed-none}
 
@@ -66,7 +67,7 @@ module _ (head id : List ℕ) (n : ℕ) where
   behind-next k m r (some []) e = rw (add-one k) (simp (append-assoc, append-nil))
   behind-next k m r (some (x ∷ xs)) e = rw (add-one k) (simp append-assoc)
 
-module _ (s : List ℕ) (c w : ℕ) (id : List ℕ) (n k u i e m : ℕ) (x : RowTo s i e) where
+module _ (s : List ℕ) (c w : ℕ) (id : List ℕ) (n k u i e m : ℕ) (x : RowAt s i e) where
   poured-stay : (g : u + (e - i) ≤ c) → packed s c w k u i ≡ some m
       → poured s c w id n k u i ≡ part s i e ++ poured s c w id n k (u + (e - i)) e
   unfolding poured packed
@@ -140,7 +141,7 @@ module _ {d₀ d : List ℕ} {at : ℕ} {s : List ℕ} {c w n : ℕ} {id : List 
         high = omega (arith, p .high, v .size);
       }
 
-  module _ {e : ℕ} (x : RowTo s i e) where
+  module _ {e : ℕ} (x : RowAt s i e) where
     part-size : length (part s i e) ≡ e - i
     part-size = row-size s c w k u i e x
 

@@ -17,20 +17,12 @@ use Rattle.cut.specs.declared.Cutting.{Cutting}
 use Rattle.cut.specs.declared.Chosen.{Chosen}
 use Rattle.cut.specs.declared.Chosen.the-variants.{Count, NoWidth}
 
--- ---- a row
-
--- the row that begins at a position ends before r
-pub record RowTo (s : List ℕ) (at r : ℕ) : Type 0 where
-  pub cut : rows (drop at s) ≡ part s at r ∷ rows (drop r s)
-  pub more : at < r
-  pub inside : r ≤ length s
+-- ---- the count
 
 -- what piece k holds besides its records; the bound keeps the sums small
 pub record OverOf (w k r : ℕ) : Type 0 where
   pub is : r ≡ over w k
   pub most : r ≤ 42
-
--- ---- the count
 
 -- the rows from position i on, packed where piece k has u bytes taken
 unfoldable pub runsAt : List ℕ → ℕ → ℕ → ℕ → ℕ → ℕ → Option (List (List (List ℕ)))

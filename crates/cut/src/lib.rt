@@ -4,14 +4,14 @@
 // `markRow` (pieces), `overhead` and `put_mark`.
 ghost use mathlib.Core.Path.{_≡_};
 ghost use mathlib.Core.List.{_++_};
-ghost use Prim.Native.Nat.{_≤_, _<_};
+ghost use Prim.Native.Nat.{_≤_};
 ghost use lib.ListN.{length};
 ghost use Rattle.lists.specs.Lists.{part};
 ghost use Rattle.buffers.specs.Buffers.{Wrote};
 ghost use Rattle.packing.specs.Widths.{digitsOf, serves};
 ghost use Rattle.pieces.specs.Marks.{markRow};
 ghost use Rattle.cut.specs.Cut.{cutOf, cutBuffer};
-ghost use Rattle.cut.specs.Loops.{RowTo, OverOf, Small, chosen, restOf, MarkRoom, OpenRoom, Ready, Given, CutBytes};
+ghost use Rattle.cut.specs.Loops.{OverOf, Small, chosen, restOf, MarkRoom, OpenRoom, Ready, Given, CutBytes};
 
 // The count of pieces and their total length; or a refusal's number and line, and the output as it was.
 pub enum Cutting {
@@ -23,15 +23,6 @@ pub enum Cutting {
 pub enum Chosen {
     Count(usize, u32, usize),
     NoWidth,
-}
-
-// Where the row that begins at a position ends: behind its 0Ah, or at the end of the bytes.
-fn row_end(s: &[u8], at: usize) -> usize
-    requires { ⌜ at < length (now s) ⌝ }
-    ensures { λ r. ⌜ RowTo (now (s .entry)) at r ⌝ }
-{
-    let e = lists::find_byte(s, at, 10);
-    if e < s.len() { e + 1 } else { e }
 }
 
 // The digits of a number below 1,000; 4 for any above.
@@ -88,7 +79,7 @@ fn first_width(s: &[u8], c: usize) -> Chosen
                 w += 1;
                 continue 'widths;
             }
-            let e = row_end(s, i);
+            let e = pieces::row_end(s, i);
             let r = e - i;
             i = e;
             if u + r <= c {
@@ -143,7 +134,7 @@ fn pour_rows(out: &mut [u8], at: usize, s: &[u8], c: usize, w: usize, n: u32, id
     let mut u = overhead(w, k);
     let mut i: usize = 13;
     while i < s.len() {
-        let e = row_end(s, i);
+        let e = pieces::row_end(s, i);
         let r = e - i;
         if u + r <= c {
             o = buffers::put_all(out, o, &s[i..e]);

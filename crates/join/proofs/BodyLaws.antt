@@ -1,5 +1,5 @@
 -- The rows of a piece as a run of bytes, with or without a record 911 at its end. Assumes nothing.
-use Prim.Native.Nat.{ℕ, zero, suc, _+_, _-_, _≤_, _<_}
+use Prim.Native.Nat.{ℕ, zero, suc, _+_, _-_, _≤_}
 use mathlib.Core.Path.{_≡_, refl, sym, ap, ap₂, _∙_, subst}
 use mathlib.Core.Bool.{Bool, true, false, cond, not, _&&_, Bool·beq, false≢true, and-false}
 use mathlib.Core.Option.{Option, none, some}
@@ -10,7 +10,7 @@ use mir.Val.{Fits}
 use mir.Syntax.{w64}
 use lib.Dec.{eqb}
 use lib.ListN.{length, take, drop, length-take, length-drop, length-append}
-use lib.Seq.{take-nil, take-take, take-add, drop-drop, take-at, length-take-le}
+use lib.Seq.{take-nil, take-take, take-add, drop-drop}
 use Rattle.lists.specs.Lists.{same, part}
 use Rattle.lists.proofs.Tests.{both, same-true}
 use Rattle.lists.proofs.Cuts.{take-upTo}
@@ -23,15 +23,14 @@ use Rattle.pieces.specs.declared.Row.the-variants.{Head, EndHead, Body, End, Br
 use Rattle.pieces.specs.declared.Numbers.{Numbers}
 use Rattle.pieces.specs.declared.Numbers.the-variants.{Read, Unread}
 use Rattle.pieces.specs.Marks.{Mark, readMark}
-use Rattle.pieces.specs.Pieces.{Kind, head, endHead, body, end, broken, kindOf, Piece, bodyStep, bodyOf, opened, piecesIn}
+use Rattle.pieces.specs.Pieces.{Kind, head, endHead, body, end, broken, kindOf, bodyStep, bodyOf, opened, piecesIn}
 use Rattle.pieces.specs.Answers.{RowAt, asKind, KindIs, asMark, Most, Reaches, MarkIs}
 use Rattle.join.specs.declared.Lines.{Lines}
 use Rattle.join.specs.declared.Lines.the-variants.{Plain, Marked, Wrong}
-use Rattle.join.specs.declared.Member.{Member}
 use Rattle.join.specs.declared.Member.the-variants.{Of, Foreign}
 use Rattle.join.specs.Join.{unmarked, Part, before, lastMark, partOf, with, agree}
-use Rattle.join.specs.Spans.{isBody, goesOn, LineAt, PlainLines, partWith, MarkedLines, WrongLines, LastMark, LastMeans, LastIs, LinesMean, LinesAre, like, agreed, Within, MemberIs}
-use Rattle.join.proofs.WalkLaws.{row-bounds, rows-over, goes-over, goes-head, goes-end-head, goes-end, goes-broken}
+use Rattle.join.specs.Spans.{isBody, goesOn, LineAt, partBy, identAt, MarkedLines, LastMeans, LastIs, LinesMean, LinesAre, agreed, Within, MemberIs}
+use Rattle.join.proofs.WalkLaws.{row-bounds, goes-over, goes-head, goes-end-head, goes-end, goes-broken}
 
 -- ---- parts of a list
 
@@ -66,9 +65,11 @@ part-part s a e i j h g =
 
 pub body-line : (r : List ℕ) → isBody (kindOf r) ≡ true → isLine r ≡ true
 unfolding kindOf
-body-line r e = go (same r (headRow true)) (same r (headRow false)) (isLine r) (same r endMark) (same r (0x1a ∷ headRow true)) (same r (0x1a ∷ headRow false)) e
+body-line r e =
+    go (same r (headRow true)) (same r (headRow false)) (isLine r) (same r endMark) (same r (0x1a ∷ headRow true)) (same r (0x1a ∷ headRow false)) e
   where
-    go : (a b c d x y : Bool) → isBody (cond a (head true) (cond b (head false) (cond c body (cond d end (cond x (endHead true) (cond y (endHead false) broken)))))) ≡ true → c ≡ true
+    go : (a b c d x y : Bool)
+        → isBody (cond a (head true) (cond b (head false) (cond c body (cond d end (cond x (endHead true) (cond y (endHead false) broken)))))) ≡ true → c ≡ true
     go true b c d x y e = absurd (false≢true e)
     go false true c d x y e = absurd (false≢true e)
     go false false true d x y e = refl
@@ -151,7 +152,7 @@ module _ {s : List ℕ} {at e : ℕ} (x : LineAt s at e) {m : Numbers} (p : Mark
         let c : (n ≤ 999) × (k ≤ 999) = subst Most q (p .most) in
         let h : 18 ≤ length (part s at (e - 2)) = subst (Reaches (part s at (e - 2))) q (p .reaches) in
         let l : length (part s at (e - 2)) ≡ e - 2 - at = part-length s at (e - 2) (line-before x) (line-high x) in
-        let w : part (part s at (e - 2)) 4 18 ≡ part s (at + 4) (at + 18) = part-part s at (e - 2) 4 18 (omega arith) (omega (arith, line-room x)) in
+        let w : part (part s at (e - 2)) 4 18 ≡ identAt s at = part-part s at (e - 2) 4 18 (omega arith) (omega (arith, line-room x)) in
         record {
           means = (
             refl,
@@ -333,19 +334,22 @@ module _ {s : List ℕ} {from at : ℕ} (v : Before s from at) where
         module _ (t : y ≡ true) where
           marked-body : bodyOf (rows (drop from s)) ≡ v .front ++ part s at e ∷ bodyOf (rows (drop e s))
           unfolding bodyOf
-          marked-body = whole-body ∙ ap (λ (w : List (List ℕ)). v .front ++ w) (ap bodyOf (x .cut) ∙ ap (bodyStep (part s at e) (bodyOf (rows (drop e s)))) (p .is ∙ ap asKind q))
+          marked-body =
+              whole-body ∙ ap (λ (w : List (List ℕ)). v .front ++ w) (ap bodyOf (x .cut) ∙ ap (bodyStep (part s at e) (bodyOf (rows (drop e s)))) (p .is ∙ ap asKind q))
 
           not-plain : unmarked (bodyOf (rows (drop from s))) ≡ false
           unfolding unmarked
           not-plain = ap unmarked marked-body ∙ (unmarked-front (v .front) (part s at e ∷ bodyOf (rows (drop e s))) (v .plain) ∙ rw (mark-of ∙ t))
 
-          by-last : (d : Bool) → partOf d (bodyOf (rows (drop from s))) ≡ infront (v .front) (lastMark d (bodyOf (rows (drop e s))) (readMark (text (part s at e))))
+          by-last : (d : Bool)
+              → partOf d (bodyOf (rows (drop from s))) ≡ infront (v .front) (lastMark d (bodyOf (rows (drop e s))) (readMark (text (part s at e))))
           unfolding partOf
           by-last d = ap (partOf d) marked-body ∙ (part-front d (v .front) (part s at e ∷ bodyOf (rows (drop e s))) (v .plain) ∙ rw (mark-of ∙ t))
 
           next-pieces : piecesIn (rows (drop from s)) ≡ piecesIn (rows (drop e s))
           unfolding piecesIn
-          next-pieces = whole-pieces ∙ (ap piecesIn (x .cut) ∙ ap (opened (bodyOf (rows (drop e s))) (piecesIn (rows (drop e s)))) (p .is ∙ ap asKind q))
+          next-pieces =
+              whole-pieces ∙ (ap piecesIn (x .cut) ∙ ap (opened (bodyOf (rows (drop e s))) (piecesIn (rows (drop e s)))) (p .is ∙ ap asKind q))
 
           last-is : (r : Lines) → LastMeans s at e r → LinesMean s from r
           last-is (Plain stop) m = absurd m
@@ -359,9 +363,10 @@ module _ {s : List ℕ} {from at : ℕ} (v : Before s from at) where
                 place = m .place;
                 marked = not-plain;
                 lines = v .front;
-                is = λ d. by-last d ∙ (ap₂ (λ (w : List (List ℕ)) (o : Option Mark). infront (v .front) (lastMark d w o)) (body-over (rows (drop e s)) (m .last)) (m .read)
-                    ∙ (front-some (v .front) [] d (record { ident = part s (at + 4) (at + 18); count = n; place = j })
-                    ∙ ap (λ (w : List (List ℕ)). some (partWith s d at n j w)) (append-nil (v .front))));
+                is =
+                    λ d. by-last d ∙ (ap₂ (λ (w : List (List ℕ)) (o : Option Mark). infront (v .front) (lastMark d w o)) (body-over (rows (drop e s)) (m .last)) (m .read)
+                    ∙ (front-some (v .front) [] d (record { ident = identAt s at; count = n; place = j })
+                    ∙ ap (λ (w : List (List ℕ)). some (partBy d (identAt s at) n j w)) (append-nil (v .front))));
                 bytes = v .bytes;
                 next = next-pieces;
               }))
@@ -369,7 +374,8 @@ module _ {s : List ℕ} {from at : ℕ} (v : Before s from at) where
           pub lines-last : {r : Lines} → LastIs s at e r → LinesAre s from r
           lines-last {r} m = record { mean = last-is r (m .means) }
 
-pub ruleset lines-laws = (row-bounds, lines-start, lines-out, lines-head, lines-end-head, lines-end, lines-broken, lines-line, lines-two, lines-before, lines-high, lines-go, lines-last)
+pub ruleset lines-laws =
+    (row-bounds, lines-start, lines-out, lines-head, lines-end-head, lines-end, lines-broken, lines-line, lines-two, lines-before, lines-high, lines-go, lines-last)
 
 -- ---- a piece of a set
 
@@ -388,7 +394,7 @@ same-flip (a ∷ x) (b ∷ y) = ap₂ _&&_ (eqb-flip a b) (same-flip x y)
 
 -- the test of a part
 abbrev test : List ℕ → Bool → Bool → List ℕ → ℕ → ℕ → ℕ → Bool
-test s side d i n last m = Bool·beq d side && (same i (part s (last + 4) (last + 18)) && eqb n m)
+test s side d i n last m = Bool·beq d side && (same i (identAt s last) && eqb n m)
 
 lines : {s : List ℕ} {e : ℕ} {r : Lines} → LinesAre s e r → {last stop m k : ℕ} → r ≡ Marked last stop m k → MarkedLines s e last stop m k
 lines {s} {e} v q = subst (LinesMean s e) q (v .mean)
@@ -421,14 +427,14 @@ module _ {s : List ℕ} {e : ℕ} {side d : Bool} {i : List ℕ} {n : ℕ} {r : 
     unfolding agree
     foreign t = record { means = record { none = λ ps. ap (λ (o : Option Part). agreed d i n (with o ps)) ((lines v q) .is side) ∙ go ps } }
       where
-        go : (ps : Option (List Part)) → agreed d i n (with (some (partWith s side last m k ((lines v q) .lines))) ps) ≡ false
+        go : (ps : Option (List Part)) → agreed d i n (with (some (partBy side (identAt s last) m k ((lines v q) .lines))) ps) ≡ false
         go none = refl
         go (some ps) = rw t
 
     pub member-side : not (Bool·beq side d) ≡ true → MemberIs s e side d i n Foreign
     member-side t = foreign (go side d (not-true (Bool·beq side d) t))
       where
-        go : (a b : Bool) → Bool·beq a b ≡ false → (Bool·beq b a && (same i (part s (last + 4) (last + 18)) && eqb n m)) ≡ false
+        go : (a b : Bool) → Bool·beq a b ≡ false → (Bool·beq b a && (same i (identAt s last) && eqb n m)) ≡ false
         go true true e = absurd (false≢true (sym e))
         go true false e = refl
         go false true e = refl
@@ -438,17 +444,17 @@ module _ {s : List ℕ} {e : ℕ} {side d : Bool} {i : List ℕ} {n : ℕ} {r : 
       pub member-count : (m ≡ n → ⊥) → MemberIs s e side d i n Foreign
       member-count u =
           let z : eqb n m ≡ false = ne-eqb n m (λ w. u (sym w)) in
-          foreign (rw z (ap (λ (b : Bool). Bool·beq d side && b) (and-false (same i (part s (last + 4) (last + 18)))) ∙ and-false (Bool·beq d side)))
+          foreign (rw z (ap (λ (b : Bool). Bool·beq d side && b) (and-false (same i (identAt s last))) ∙ and-false (Bool·beq d side)))
 
       module _ (u : m ≡ n) {y : Bool} (w : y ≡ same (take (last + 18 - (last + 4)) (drop (last + 4) s)) i) where
         pub member-id : not y ≡ true → MemberIs s e side d i n Foreign
         member-id z =
-            let f : same i (part s (last + 4) (last + 18)) ≡ false = same-flip (part s (last + 4) (last + 18)) i ∙ (sym w ∙ not-true y z) in
+            let f : same i (identAt s last) ≡ false = same-flip (identAt s last) i ∙ (sym w ∙ not-true y z) in
             foreign (rw f (and-false (Bool·beq d side)))
 
         pub member-is : not y ≡ false → MemberIs s e side d i n (Of last stop k)
         member-is z =
-            let f : part s (last + 4) (last + 18) ≡ i = same-true (part s (last + 4) (last + 18)) i (sym w ∙ not-false y z) in
+            let f : identAt s last ≡ i = same-true (identAt s last) i (sym w ∙ not-false y z) in
             let g : side ≡ d = go side d (not-false (Bool·beq side d) t) in
             record {
               means = record {
@@ -469,8 +475,8 @@ module _ {s : List ℕ} {e : ℕ} {side d : Bool} {i : List ℕ} {n : ℕ} {r : 
             go false true e = absurd (false≢true e)
             go false false e = refl
 
-            same-part : side ≡ d → part s (last + 4) (last + 18) ≡ i → m ≡ n
-                → some (partWith s side last m k ((lines v q) .lines)) ≡ some (record { provider = d; mark = record { ident = i; count = n; place = k }; rows = (lines v q) .lines })
+            same-part : side ≡ d → identAt s last ≡ i → m ≡ n
+                → some (partBy side (identAt s last) m k ((lines v q) .lines)) ≡ some (partBy d i n k ((lines v q) .lines))
             same-part g f u = cc
 
 pub ruleset member-laws = (member-plain, member-wrong, member-ident, member-at, member-from, member-to, member-side, member-count, member-id, member-is)

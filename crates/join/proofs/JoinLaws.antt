@@ -1,6 +1,6 @@
 -- The ways through joining: line 1 and the rows in the buffer, one piece or a set, the input's refusals, the check, the output. Assumes
 -- nothing.
-use Prim.Native.Nat.{ℕ, zero, suc, _+_, _-_, _≤_, _<_}
+use Prim.Native.Nat.{ℕ, suc, _+_, _-_, _≤_, _<_}
 use mathlib.Core.Path.{_≡_, refl, sym, ap, ap₂, _∙_, subst}
 use mathlib.Core.Bool.{Bool, true, false, cond, not, _&&_, Bool·beq, false≢true}
 use mathlib.Core.Option.{Option, none, some}
@@ -10,11 +10,10 @@ use borrow.Author.Tests.{eq-eqb, ne-eqb, le-leb, lt-leb, not-true, not-false}
 use mir.Val.{Fits}
 use mir.Syntax.{w32}
 use lib.Dec.{leb, eqb}
-use lib.ListN.{length, getD, take, drop, replicate, length-replicate, getD-replicate, length-append}
+use lib.ListN.{length, take, drop, replicate, length-replicate, getD-replicate, length-append}
 use lib.Seq.{length-take-le}
 use Rattle.lists.specs.Lists.{same, part, Res, ok, refused}
-use Rattle.lists.proofs.Tests.{both}
-use Rattle.characters.specs.Rows.{rows, flat}
+use Rattle.characters.specs.Rows.{rows}
 use Rattle.canonical.specs.Canonical.{headRow}
 use Rattle.buffers.specs.Buffers.{Wrote}
 use Rattle.buffers.proofs.Runs.{sets-all, then, front}
@@ -23,7 +22,7 @@ use Rattle.notebook.specs.declared.Checked.the-variants.{Accepted, Refused as N
 use Rattle.notebook.specs.Notebook.{Notebook, readFile}
 use Rattle.notebook.specs.Check.{checked, checkOf}
 use Rattle.pieces.specs.Pieces.{brokenLine, Piece, bodyOf, piecesIn, startsWell, splitRows, split, fileOf}
-use Rattle.pieces.proofs.RowLaws.{line1, head-true, head-false}
+use Rattle.pieces.proofs.RowLaws.{head-true, head-false}
 use Rattle.join.specs.declared.Next.{Next}
 use Rattle.join.specs.declared.Next.the-variants.{Opens, Over}
 use Rattle.join.specs.declared.Lines.{Lines}
@@ -35,7 +34,7 @@ use Rattle.join.specs.declared.Made.the-variants.{Bytes, No}
 use Rattle.join.specs.declared.Joining.{Joining}
 use Rattle.join.specs.declared.Joining.the-variants.{Joined, Refused}
 use Rattle.join.specs.Join.{unmarked, Part, partOf, with, partsOf, agree, gather, whole, joinParts, joinPieces, orSet, joinSplit, joinedFile, checkedFile, thenChecked, joinFile, held, joinOf, bytesOf, bufferAfter, joinBuffer}
-use Rattle.join.specs.Spans.{Opened, NextMeans, NextIs, PlainLines, partWith, MarkedLines, WrongLines, LinesMean, LinesAre, like, isSet, Sizes, Blank, Collected, CollectMeans, CollectIs, taken, spans, FillMeans, FillIs, MadeMeans, MadeIs, Given, GivenSet, First, Input}
+use Rattle.join.specs.Spans.{Opened, NextMeans, NextIs, PlainLines, partBy, identAt, MarkedLines, WrongLines, LinesMean, LinesAre, like, isSet, Blank, Collected, CollectMeans, CollectIs, taken, spans, FillMeans, FillIs, MadeMeans, MadeIs, Given, GivenSet, First, Input}
 use Rattle.join.proofs.BodyLaws.{part-length}
 use Rattle.join.proofs.SetLaws.{agree-self, Gathers, gathers}
 
@@ -77,7 +76,8 @@ module _ {D D₁ s : List ℕ} {o from stop : ℕ} (d : Bool) (g : Given D s fro
   one-length = part-length s from stop (g .low) (g .high)
 
   pub one-large : length D₁ - o < stop - from → MadeIs (ok (headRow d ++ part s from stop)) D₁ (No 1 0)
-  one-large h = record { means = large d (g .size) w (part s from stop) (omega (arith, one-length, w .high, w .size)); size = omega (arith, g .size, w .size) }
+  one-large h =
+      record { means = large d (g .size) w (part s from stop) (omega (arith, one-length, w .high, w .size)); size = omega (arith, g .size, w .size) }
 
   pub one-done : {D₂ : List ℕ} {t : ℕ} → Wrote D₁ D₂ o t (take (stop - from) (drop from s)) → MadeIs (ok (headRow d ++ part s from stop)) D₂ (Bytes t)
   one-done x = filled d (g .size) w (part s from stop) x
@@ -86,7 +86,8 @@ pub ruleset one-laws = (one-large, one-done)
 
 module _ {D D₁ D₂ s a b : List ℕ} {o n : ℕ} (d : Bool) (g : GivenSet D s a b n) (w : Wrote D D₁ 0 o (headRow d)) {r : Filled} (x : FillIs D₁ D₂ o (spans s a b n 1) r) where
   pub spans-large : r ≡ Large → MadeIs (ok (headRow d ++ spans s a b n 1)) D₂ (No 1 0)
-  spans-large q = record { means = large d (g .size) w (spans s a b n 1) (subst (FillMeans D₁ D₂ o (spans s a b n 1)) q (x .means)); size = omega (arith, x .size, w .size, g .size) }
+  spans-large q =
+      record { means = large d (g .size) w (spans s a b n 1) (subst (FillMeans D₁ D₂ o (spans s a b n 1)) q (x .means)); size = omega (arith, x .size, w .size, g .size) }
 
   pub spans-done : {t : ℕ} → r ≡ Full t → MadeIs (ok (headRow d ++ spans s a b n 1)) D₂ (Bytes t)
   spans-done q = filled d (g .size) w (spans s a b n 1) (subst (FillMeans D₁ D₂ o (spans s a b n 1)) q (x .means))
@@ -102,28 +103,32 @@ like-same p [] = refl
 like-same p (q ∷ ps) =
     ap (λ (t : Bool). (Bool·beq (p .provider) (q .provider) && (same (p .mark .ident) (q .mark .ident) && eqb (p .mark .count) (q .mark .count))) && t) (like-same p ps)
 
+abbrev firstOf : {D s : List ℕ} {d : Bool} {last n : ℕ} → First D s d last n → Part
+firstOf {D} {s} {d} {last} {n} g = partBy d (identAt s last) n (g .place) (g .lines)
+
 module _ {D s : List ℕ} {d : Bool} {last n : ℕ} (g : First D s d last n) where
   abbrev test : List Part → Bool
-  test ps = agree (like d (part s (last + 4) (last + 18)) n) ps && (leb 2 n && eqb (suc (length ps)) n)
+  test ps = agree (like d (identAt s last) n) ps && (leb 2 n && eqb (suc (length ps)) n)
 
-  by-test : (o : Option (List Part)) (ps : List Part) → o ≡ some ps → joinParts (with (some (partWith s d last n (g .place) (g .lines))) o)
-      ≡ cond (test ps) (whole d (gather (partWith s d last n (g .place) (g .lines) ∷ ps) n 1)) none
+  by-test : (o : Option (List Part)) (ps : List Part) → o ≡ some ps → joinParts (with (some (firstOf g)) o)
+      ≡ cond (test ps) (whole d (gather (firstOf g ∷ ps) n 1)) none
   by-test o ps e =
-      ap (λ (x : Option (List Part)). joinParts (with (some (partWith s d last n (g .place) (g .lines))) x)) e
-      ∙ ap (λ (t : Bool). cond (t && (leb 2 n && eqb (suc (length ps)) n)) (whole d (gather (partWith s d last n (g .place) (g .lines) ∷ ps) n 1)) none)
-      (like-same (partWith s d last n (g .place) (g .lines)) ps)
+      ap (λ (x : Option (List Part)). joinParts (with (some (firstOf g)) x)) e
+      ∙ ap (λ (t : Bool). cond (t && (leb 2 n && eqb (suc (length ps)) n)) (whole d (gather (firstOf g ∷ ps) n 1)) none)
+      (like-same (firstOf g) ps)
 
-  lost : {D₁ : List ℕ} → length D₁ ≡ 65536 → joinParts (partsOf (piecesIn (rows s))) ≡ none → MadeIs (orSet (joinParts (partsOf (piecesIn (rows s))))) D₁ (No 19 0)
+  lost : {D₁ : List ℕ} → length D₁ ≡ 65536 → joinParts (partsOf (piecesIn (rows s))) ≡ none
+      → MadeIs (orSet (joinParts (partsOf (piecesIn (rows s))))) D₁ (No 19 0)
   lost z e = record { means = ap (λ (x : Option Piece). thenChecked (orSet x)) e; size = z }
 
   pub set-few : n ≤ 1 → MadeIs (orSet (joinParts (partsOf (piecesIn (rows s))))) D (No 19 0)
   set-few h = lost (g .size) (ap joinParts (g .is) ∙ go (g .others) refl)
     where
-      go : (o : Option (List Part)) → g .others ≡ o → joinParts (with (some (partWith s d last n (g .place) (g .lines))) o) ≡ none
+      go : (o : Option (List Part)) → g .others ≡ o → joinParts (with (some (firstOf g)) o) ≡ none
       go none q = refl
-      go (some ps) q = by-test (some ps) ps refl ∙ no (agree (like d (part s (last + 4) (last + 18)) n) ps)
+      go (some ps) q = by-test (some ps) ps refl ∙ no (agree (like d (identAt s last) n) ps)
         where
-          no : (t : Bool) → cond (t && (leb 2 n && eqb (suc (length ps)) n)) (whole d (gather (partWith s d last n (g .place) (g .lines) ∷ ps) n 1)) none ≡ none
+          no : (t : Bool) → cond (t && (leb 2 n && eqb (suc (length ps)) n)) (whole d (gather (firstOf g ∷ ps) n 1)) none ≡ none
           no true = rw (lt-leb 2 n (omega arith))
           no false = refl
 
@@ -139,21 +144,21 @@ module _ {D s : List ℕ} {d : Bool} {last n : ℕ} (g : First D s d last n) whe
     -- no set: isSet says so of the same parts
     pub set-lost : 1 < n → not x ≡ true → MadeIs (orSet (joinParts (partsOf (piecesIn (rows s))))) D (No 19 0)
     set-lost h q =
-        let e : isSet d (part s (last + 4) (last + 18)) n (partsOf (piecesIn (rows s))) ≡ false = subst (CollectMeans s d (part s (last + 4) (last + 18)) n a b) (not-true x q) (v .means) in
-        lost (g .size) (ap joinParts (g .is) ∙ go (g .others) (ap (isSet d (part s (last + 4) (last + 18)) n) (sym (g .is)) ∙ e))
+        let e : isSet d (identAt s last) n (partsOf (piecesIn (rows s))) ≡ false = subst (CollectMeans s d (identAt s last) n a b) (not-true x q) (v .means) in
+        lost (g .size) (ap joinParts (g .is) ∙ go (g .others) (ap (isSet d (identAt s last) n) (sym (g .is)) ∙ e))
       where
-        go : (o : Option (List Part)) → isSet d (part s (last + 4) (last + 18)) n (with (some (partWith s d last n (g .place) (g .lines))) o) ≡ false
-            → joinParts (with (some (partWith s d last n (g .place) (g .lines))) o) ≡ none
+        go : (o : Option (List Part)) → isSet d (identAt s last) n (with (some (firstOf g)) o) ≡ false
+            → joinParts (with (some (firstOf g)) o) ≡ none
         go none e = refl
         go (some ps) e =
-            let f : (agree (like d (part s (last + 4) (last + 18)) n) ps && eqb (suc (length ps)) n) ≡ false =
-            ap (λ (t : Bool). t && eqb (suc (length ps)) n) (sym (agree-self d (part s (last + 4) (last + 18)) n (g .place) (g .lines) ps)) ∙ e in
+            let f : (agree (like d (identAt s last) n) ps && eqb (suc (length ps)) n) ≡ false =
+            ap (λ (t : Bool). t && eqb (suc (length ps)) n) (sym (agree-self d (identAt s last) n (g .place) (g .lines) ps)) ∙ e in
             let u : test ps ≡ false = rw (le-leb 2 n h) f in
-            by-test (some ps) ps refl ∙ ap (λ (t : Bool). cond t (whole d (gather (partWith s d last n (g .place) (g .lines) ∷ ps) n 1)) none) u
+            by-test (some ps) ps refl ∙ ap (λ (t : Bool). cond t (whole d (gather (firstOf g ∷ ps) n 1)) none) u
 
     module _ (h : 1 < n) (q : not x ≡ false) where
-      collected : Collected s d (part s (last + 4) (last + 18)) n a b
-      collected = subst (CollectMeans s d (part s (last + 4) (last + 18)) n a b) (not-false x q) (v .means)
+      collected : Collected s d (identAt s last) n a b
+      collected = subst (CollectMeans s d (identAt s last) n a b) (not-false x q) (v .means)
 
       pub set-size : length a ≡ 1000
       set-size = collected .sizes .starts
@@ -164,13 +169,13 @@ module _ {D s : List ℕ} {d : Bool} {last n : ℕ} (g : First D s d last n) whe
       joins : joinParts (partsOf (piecesIn (rows s))) ≡ whole d (gather (collected .seen) n 1)
       joins = ap joinParts (g .is) ∙ go (g .others) (sym (g .is) ∙ collected .parts)
         where
-          go : (o : Option (List Part)) → with (some (partWith s d last n (g .place) (g .lines))) o ≡ some (collected .seen)
-              → joinParts (with (some (partWith s d last n (g .place) (g .lines))) o) ≡ whole d (gather (collected .seen) n 1)
+          go : (o : Option (List Part)) → with (some (firstOf g)) o ≡ some (collected .seen)
+              → joinParts (with (some (firstOf g)) o) ≡ whole d (gather (collected .seen) n 1)
           go none e = let z : _≡_ {A = ℕ} 0 1 = cc in absurd (omega arith)
           go (some ps) e =
-              let f : partWith s d last n (g .place) (g .lines) ∷ ps ≡ collected .seen = cc in
-              let t : agree (like d (part s (last + 4) (last + 18)) n) ps ≡ true =
-              sym (agree-self d (part s (last + 4) (last + 18)) n (g .place) (g .lines) ps) ∙ (ap (agree (like d (part s (last + 4) (last + 18)) n)) f ∙ collected .agrees) in
+              let f : firstOf g ∷ ps ≡ collected .seen = cc in
+              let t : agree (like d (identAt s last) n) ps ≡ true =
+              sym (agree-self d (identAt s last) n (g .place) (g .lines) ps) ∙ (ap (agree (like d (identAt s last) n)) f ∙ collected .agrees) in
               let c : eqb (suc (length ps)) n ≡ true = eq-eqb (suc (length ps)) n (ap length f ∙ collected .count) in
               by-test (some ps) ps refl ∙ (rw (t, le-leb 2 n h, c) (ap (λ (z : List Part). whole d (gather z n 1)) f))
 
@@ -250,7 +255,8 @@ module _ {D s : List ℕ} (g : Input D s) {r : Next} (x : NextIs s 0 r) where
           is = by-parts ∙ ap (λ (o : Option Part). with o (partsOf (piecesIn (rows (drop e s))))) (marked .is d);
         }
 
-        pub pieces-set : {D₁ : List ℕ} {m : Made} → MadeIs (orSet (joinParts (partsOf (piecesIn (rows s))))) D₁ m → MadeIs (orSet (joinPieces (piecesIn (rows s)))) D₁ m
+        pub pieces-set : {D₁ : List ℕ} {m : Made} → MadeIs (orSet (joinParts (partsOf (piecesIn (rows s))))) D₁ m
+            → MadeIs (orSet (joinPieces (piecesIn (rows s)))) D₁ m
         pieces-set {D₁} {m} y =
             let z : joinPieces (piecesIn (rows s)) ≡ joinParts (partsOf (piecesIn (rows s))) =
             ap joinPieces (opening .is) ∙ (several (record { provider = d; rows = bodyOf (rows (drop e s)) }) (piecesIn (rows (drop e s))) (marked .marked)
@@ -278,7 +284,8 @@ module _ {D s : List ℕ} (g : Input D s) {r : Next} (x : NextIs s 0 r) where
               opening .is ∙ ap (λ (ps : List Piece). record { provider = d; rows = bodyOf (rows (drop e s)) } ∷ ps) (plain .next ∙ z .is) in
               nineteen (ap joinPieces w ∙ ap (λ (o : Option Part). joinParts (with o (partsOf (p ∷ xs)))) (plain .none d))
 
-          pub pieces-one : {D₁ : List ℕ} {m : Made} → r₂ ≡ Over → MadeIs (ok (headRow d ++ part s e stop)) D₁ m → MadeIs (orSet (joinPieces (piecesIn (rows s)))) D₁ m
+          pub pieces-one : {D₁ : List ℕ} {m : Made} → r₂ ≡ Over → MadeIs (ok (headRow d ++ part s e stop)) D₁ m
+              → MadeIs (orSet (joinPieces (piecesIn (rows s)))) D₁ m
           unfolding joinPieces fileOf
           pieces-one {D₁} {m} u z =
               let w : piecesIn (rows s) ≡ record { provider = d; rows = bodyOf (rows (drop e s)) } ∷ [] =
@@ -316,7 +323,8 @@ module _ (D s : List ℕ) (size : length D ≡ 65536) where
           let f : joinedFile s ≡ refused 19 0 = by-rows s h ∙ rw (eq-eqb (brokenLine (rows s)) 0 (sym p ∙ q), sym t ∙ not-true y w) in
           record { means = ap thenChecked f; size = size }
 
-pub into-done : (s : List ℕ) {line : ℕ} {y : Bool} {D₁ : List ℕ} {m : Made} → length s ≤ 131072 → line ≡ brokenLine (rows s) → line ≡ 0 → y ≡ startsWell (rows s) → not y ≡ false
+pub into-done : (s : List ℕ) {line : ℕ} {y : Bool} {D₁ : List ℕ} {m : Made} → length s ≤ 131072 → line ≡ brokenLine (rows s) → line ≡ 0
+    → y ≡ startsWell (rows s) → not y ≡ false
     → MadeIs (orSet (joinPieces (piecesIn (rows s)))) D₁ m → MadeIs (joinedFile s) D₁ m
 into-done s {line} {y} {D₁} {m} h p q t w z =
     let f : joinedFile s ≡ orSet (joinPieces (piecesIn (rows s))) = by-rows s h ∙ rw (eq-eqb (brokenLine (rows s)) 0 (sym p ∙ q), sym t ∙ not-false y w) in
@@ -422,4 +430,5 @@ module _ (s : List ℕ) {B : List ℕ} {m : Made} (x : MadeIs (joinedFile s) B m
               ap₂ (λ (j : Joining) (k : Res (List ℕ)). bufferAfter j (bytesOf k) d) long-is file-is in
               w .list ∙ (sets-all (take (t - 0) (drop 0 B)) d (omega (arith, w .next, w .high)) ∙ (ap (λ (u : List ℕ). u ++ drop (length u) d) lent ∙ sym a))
 
-pub ruleset join-laws = (join-no-answer, join-no-buffer, join-end, join-fits, join-refused-answer, join-refused-buffer, join-short-answer, join-short-buffer, join-answer, join-buffer)
+pub ruleset join-laws =
+    (join-no-answer, join-no-buffer, join-end, join-fits, join-refused-answer, join-refused-buffer, join-short-answer, join-short-buffer, join-answer, join-buffer)

@@ -1,30 +1,28 @@
 -- The parts of a set as spans in two tables by place. Assumes nothing.
 use Prim.Native.Nat.{ℕ, zero, suc, _+_, _-_, _≤_, _<_}
 use mathlib.Core.Path.{_≡_, refl, sym, ap, ap₂, _∙_, subst}
-use mathlib.Core.Bool.{Bool, true, false, cond, not, _&&_, Bool·beq, false≢true, and-false}
+use mathlib.Core.Bool.{Bool, true, false, cond, _&&_, Bool·beq, and-false}
 use mathlib.Core.Option.{Option, none, some}
 use mathlib.Core.List.{List, [], _∷_, _++_, append-assoc, append-nil}
 use native.Mathlib.Omega.{arith}
 use native.Mathlib.Numerals.{add-one}
-use borrow.Author.Tests.{eq-eqb, ne-eqb, eqb-true, eqb-false, not-true, not-false}
+use borrow.Author.Tests.{eq-eqb, ne-eqb, eqb-true, eqb-false}
 use lib.Dec.{eqb}
 use lib.ListN.{length, getD, set, take, drop, length-set, length-append}
 use lib.Seq.{sets, getD-set-same, getD-set-other}
 use Rattle.lists.specs.Lists.{same, part}
-use Rattle.lists.proofs.Tests.{both, same-refl}
+use Rattle.lists.proofs.Tests.{same-refl}
 use Rattle.characters.specs.Rows.{rows, flat}
 use Rattle.buffers.specs.Buffers.{Room, Wrote}
 use Rattle.buffers.proofs.Runs.{carry}
-use Rattle.pieces.specs.Marks.{Mark}
 use Rattle.pieces.specs.Pieces.{Piece, bodyOf, piecesIn}
 use Rattle.join.specs.declared.Next.{Next}
 use Rattle.join.specs.declared.Next.the-variants.{Opens, Over}
 use Rattle.join.specs.declared.Member.{Member}
 use Rattle.join.specs.declared.Member.the-variants.{Of, Foreign}
-use Rattle.join.specs.declared.Filled.{Filled}
 use Rattle.join.specs.declared.Filled.the-variants.{Full, Large}
 use Rattle.join.specs.Join.{Part, partOf, with, partsOf, agree, find, behind, gather}
-use Rattle.join.specs.Spans.{Opened, NextMeans, NextIs, like, agreed, isSet, Within, MemberAt, MemberMeans, MemberIs, Sizes, Bounds, Slot, Slots, Blank, Stored, Collected, CollectMeans, CollectIs, taken, spans, FillIs, FillRoom}
+use Rattle.join.specs.Spans.{partBy, Opened, NextMeans, NextIs, like, agreed, isSet, Within, MemberAt, MemberMeans, MemberIs, Sizes, Bounds, Slot, Slots, Blank, Stored, CollectMeans, CollectIs, taken, spans, FillIs, FillRoom}
 use Rattle.join.proofs.BodyLaws.{part-length, flat-append}
 
 -- ---- storing
@@ -55,13 +53,15 @@ after-with seen p (some ps) = ap some (sym (append-assoc seen (p ∷ []) ps))
 pub agree-append : (q : Part) (xs ys : List Part) → agree q (xs ++ ys) ≡ (agree q xs && agree q ys)
 unfolding agree
 agree-append q [] ys = refl
-agree-append q (x ∷ xs) ys = go (Bool·beq (q .provider) (x .provider) && (same (q .mark .ident) (x .mark .ident) && eqb (q .mark .count) (x .mark .count))) (agree-append q xs ys)
+agree-append q (x ∷ xs) ys =
+    go (Bool·beq (q .provider) (x .provider) && (same (q .mark .ident) (x .mark .ident) && eqb (q .mark .count) (x .mark .count))) (agree-append q xs ys)
   where
     go : (t : Bool) → agree q (xs ++ ys) ≡ (agree q xs && agree q ys) → (t && agree q (xs ++ ys)) ≡ ((t && agree q xs) && agree q ys)
     go true i = i
     go false i = refl
 
-agreed-after : (d : Bool) (i : List ℕ) (n : ℕ) (seen : List Part) (o : Option (List Part)) → agree (like d i n) seen ≡ true → agreed d i n (after seen o) ≡ agreed d i n o
+agreed-after : (d : Bool) (i : List ℕ) (n : ℕ) (seen : List Part) (o : Option (List Part)) → agree (like d i n) seen ≡ true
+    → agreed d i n (after seen o) ≡ agreed d i n o
 agreed-after d i n seen none e = refl
 agreed-after d i n seen (some ps) e = agree-append (like d i n) seen ps ∙ rw e
 
@@ -77,7 +77,7 @@ too-many d i n seen (some ps) h =
     ap (λ (b : Bool). agree (like d i n) (seen ++ ps) && b) (ne-eqb (length (seen ++ ps)) n z) ∙ and-false (agree (like d i n) (seen ++ ps))
 
 pub agree-self : (d : Bool) (i : List ℕ) (n k : ℕ) (rs : List (List ℕ)) (ps : List Part)
-    → agree (like d i n) (record { provider = d; mark = record { ident = i; count = n; place = k }; rows = rs } ∷ ps) ≡ agree (like d i n) ps
+    → agree (like d i n) (partBy d i n k rs ∷ ps) ≡ agree (like d i n) ps
 unfolding agree
 agree-self d i n k rs ps = rw (go d, same-refl i, eq-eqb n n refl)
   where
@@ -125,7 +125,8 @@ module _ {s a b : List ℕ} {seen : List Part} (sz : Sizes a b) (v : Slots s a b
       none-yet none w = refl
       none-yet (some q) w = absurd (omega (arith, w .0))
 
-      go : (j : ℕ) → j < 1000 → Dec (p .mark .place ≡ j) → Slot s (getD (set a (p .mark .place) e) j 0) (getD (set b (p .mark .place) last) j 0) (find j (seen ++ p ∷ []))
+      go : (j : ℕ) → j < 1000 → Dec (p .mark .place ≡ j)
+          → Slot s (getD (set a (p .mark .place) e) j 0) (getD (set b (p .mark .place) last) j 0) (find j (seen ++ p ∷ []))
       go j g (yes q) =
           let k : ℕ = p .mark .place in
           let f : find k (seen ++ p ∷ []) ≡ some p = find-snoc k seen p ∙ rw (eq-eqb k k refl) (none-yet (find k seen) (v .at k (omega arith))) in
@@ -169,11 +170,13 @@ pub record Tables (s a b : List ℕ) (seen : List Part) : Type 0 where
   pub bounds : Bounds s a b
   pub slots : Slots s a b seen
 
-tables-store : {s a b a₁ b₁ : List ℕ} {seen : List Part} (p : Part) (e last : ℕ) → Tables s a b seen → p .mark .place ≤ 999 → 1 ≤ e → e ≤ last → last ≤ length s
+tables-store : {s a b a₁ b₁ : List ℕ} {seen : List Part} (p : Part) (e last : ℕ) → Tables s a b seen → p .mark .place ≤ 999 → 1 ≤ e → e ≤ last
+    → last ≤ length s
     → flat (p .rows) ≡ part s e last → Stored a b (p .mark .place) e last a₁ b₁ → Tables s a₁ b₁ (seen ++ p ∷ [])
 tables-store {s} {a} {b} {a₁} {b₁} {seen} p e last t h l g i w st = go (eqb (getD a (p .mark .place) 0) 0) refl (st .starts) (st .ends)
   where
-    go : (x : Bool) → eqb (getD a (p .mark .place) 0) 0 ≡ x → a₁ ≡ cond x (set a (p .mark .place) e) a → b₁ ≡ cond x (set b (p .mark .place) last) b → Tables s a₁ b₁ (seen ++ p ∷ [])
+    go : (x : Bool) → eqb (getD a (p .mark .place) 0) 0 ≡ x → a₁ ≡ cond x (set a (p .mark .place) e) a → b₁ ≡ cond x (set b (p .mark .place) last) b
+        → Tables s a₁ b₁ (seen ++ p ∷ [])
     go true q x y =
         rw (x, y) (record {
           sizes = record { starts = simp length-set (t .sizes .starts); ends = simp length-set (t .sizes .ends) };
@@ -268,17 +271,17 @@ module _ {s : List ℕ} {d : Bool} {i : List ℕ} {n : ℕ} {a b : List ℕ} {m 
           pub collect-less : length s - stop < length s - at
           collect-less = omega (arith, opening .low, member .low, member .mid, member .high)
 
-          one-more : partsOf (piecesIn (rows s)) ≡ after (v .seen ++ record { provider = d; mark = record { ident = i; count = n; place = k }; rows = member .lines } ∷ []) (partsOf (piecesIn (rows (drop stop s))))
+          one-more : partsOf (piecesIn (rows s)) ≡ after (v .seen ++ partBy d i n k (member .lines) ∷ []) (partsOf (piecesIn (rows (drop stop s))))
           one-more = v .parts ∙ (ap (after (v .seen)) (left-is ∙ ap₂ with (member .is) (ap partsOf (member .next)))
-              ∙ after-with (v .seen) (record { provider = d; mark = record { ident = i; count = n; place = k }; rows = member .lines }) (partsOf (piecesIn (rows (drop stop s)))))
+              ∙ after-with (v .seen) (partBy d i n k (member .lines)) (partsOf (piecesIn (rows (drop stop s)))))
 
-          longer : length (v .seen ++ record { provider = d; mark = record { ident = i; count = n; place = k }; rows = member .lines } ∷ []) ≡ m + 1
-          longer = omega (arith, v .count, length-append (v .seen) (record { provider = d; mark = record { ident = i; count = n; place = k }; rows = member .lines } ∷ []))
+          longer : length (v .seen ++ partBy d i n k (member .lines) ∷ []) ≡ m + 1
+          longer = omega (arith, v .count, length-append (v .seen) (partBy d i n k (member .lines) ∷ []))
 
           pub collect-many : n ≤ m → CollectIs s d i n a b false
           collect-many h = record {
             means = ap (isSet d i n) one-more
-                ∙ too-many d i n (v .seen ++ record { provider = d; mark = record { ident = i; count = n; place = k }; rows = member .lines } ∷ []) (partsOf (piecesIn (rows (drop stop s)))) (omega (arith, longer));
+                ∙ too-many d i n (v .seen ++ partBy d i n k (member .lines) ∷ []) (partsOf (piecesIn (rows (drop stop s)))) (omega (arith, longer));
           }
 
           pub collect-go : {a₁ b₁ : List ℕ} → Stored a b k e last a₁ b₁ → Collecting s d i n a₁ b₁ (m + 1) stop
@@ -286,16 +289,17 @@ module _ {s : List ℕ} {d : Bool} {i : List ℕ} {n : ℕ} {a b : List ℕ} {m 
           collect-go st = record {
             small = v .small;
             inside = member .high;
-            seen = v .seen ++ record { provider = d; mark = record { ident = i; count = n; place = k }; rows = member .lines } ∷ [];
+            seen = v .seen ++ partBy d i n k (member .lines) ∷ [];
             parts = one-more;
-            agrees = agree-append (like d i n) (v .seen) (record { provider = d; mark = record { ident = i; count = n; place = k }; rows = member .lines } ∷ [])
+            agrees = agree-append (like d i n) (v .seen) (partBy d i n k (member .lines) ∷ [])
                 ∙ ap₂ _&&_ (v .agrees) (agree-self d i n k (member .lines) []);
             count = sym longer;
-            tables = tables-store (record { provider = d; mark = record { ident = i; count = n; place = k }; rows = member .lines }) e last (v .tables) (member .place)
+            tables = tables-store (partBy d i n k (member .lines)) e last (v .tables) (member .place)
                 (omega (arith, opening .low)) (member .low) (omega (arith, member .mid, member .high)) (member .bytes) st;
           }
 
-pub ruleset collect-laws = (collect-start, collect-at, collect-sizes, collect-over, collect-within, collect-foreign, collect-place, collect-less, collect-many, collect-go)
+pub ruleset collect-laws =
+    (collect-start, collect-at, collect-sizes, collect-over, collect-within, collect-foreign, collect-place, collect-less, collect-many, collect-go)
 
 -- ---- every place is taken
 
@@ -306,7 +310,8 @@ pub record Taking (a : List ℕ) (n k : ℕ) : Type 0 where
   pub left : taken a n 1 ≡ taken a (n + 1 - k) k
 
 pub taking-start : (a : List ℕ) (n : ℕ) → length a ≡ 1000 → n ≤ 999 → Taking a n 1
-taking-start a n h g = let z : n + 1 - 1 ≡ n = omega arith in record { size = h; few = g; high = omega arith; left = ap (λ (f : ℕ). taken a f 1) (sym z) }
+taking-start a n h g =
+    let z : n + 1 - 1 ≡ n = omega arith in record { size = h; few = g; high = omega arith; left = ap (λ (f : ℕ). taken a f 1) (sym z) }
 
 module _ {a : List ℕ} {n k : ℕ} (v : Taking a n k) where
   taken-step : k ≤ n → taken a (n + 1 - k) k ≡ cond (eqb (getD a k 0) 0) false (taken a (n + 1 - (k + 1)) (k + 1))
@@ -403,7 +408,8 @@ module _ {d₀ d : List ℕ} {at : ℕ} {s a b : List ℕ} {n o k : ℕ} (v : Ga
       pub gathering-room : Room d o (take (getD b k 0 - getD a k 0) (drop (getD a k 0) s))
       gathering-room = omega (arith, here, v .inside)
 
-      pub gathering-go : {d₁ : List ℕ} {o₁ : ℕ} → Wrote d d₁ o o₁ (take (getD b k 0 - getD a k 0) (drop (getD a k 0) s)) → Gathering d₀ d₁ at s a b n o₁ (k + 1)
+      pub gathering-go : {d₁ : List ℕ} {o₁ : ℕ} → Wrote d d₁ o o₁ (take (getD b k 0 - getD a k 0) (drop (getD a k 0) s))
+          → Gathering d₀ d₁ at s a b n o₁ (k + 1)
       gathering-go {d₁} {o₁} p = record {
         given = v .given;
         high = omega arith;
@@ -413,7 +419,8 @@ module _ {d₀ d : List ℕ} {at : ℕ} {s a b : List ℕ} {n o k : ℕ} (v : Ga
         list = carry (spans s a b (n + 1 - (k + 1)) (k + 1)) p (rw step at (v .list));
       }
 
-pub ruleset gathering-laws = (gathering-start, gathering-out, gathering-start-index, gathering-end-index, gathering-low, gathering-high, gathering-large, gathering-room, gathering-go)
+pub ruleset gathering-laws =
+    (gathering-start, gathering-out, gathering-start-index, gathering-end-index, gathering-low, gathering-high, gathering-large, gathering-room, gathering-go)
 
 -- ---- what is gathered from the parts is what is gathered from the tables
 
@@ -426,7 +433,8 @@ unfolding gather taken spans
 gathers v zero k h = (refl, refl)
 gathers {s} {a} {b} {ps} v (suc f) k h = go (find k ps) (v .at k (omega arith)) (gather ps f (suc k)) (gathers v f (suc k) (omega arith))
   where
-    go : (o : Option Part) → Slot s (getD a k 0) (getD b k 0) o → (w : Option (List (List ℕ))) → Gathers s a b f (suc k) w → Gathers s a b (suc f) k (behind o w)
+    go : (o : Option Part) → Slot s (getD a k 0) (getD b k 0) o → (w : Option (List (List ℕ))) → Gathers s a b f (suc k) w
+        → Gathers s a b (suc f) k (behind o w)
     go none x w y = rw (eq-eqb (getD a k 0) 0 x)
     go (some p) x none y = let z : getD a k 0 ≡ 0 → ⊥ = λ e. omega (arith, x .0) in rw (ne-eqb (getD a k 0) 0 z) y
     go (some p) x (some rs) y =

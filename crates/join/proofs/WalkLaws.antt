@@ -1,24 +1,22 @@
 -- Row by row through the input: the rule of line ends, the first row, the next piece. Assumes nothing.
-use Prim.Native.Nat.{ℕ, zero, suc, _+_, _-_, _≤_, _<_}
-use mathlib.Core.Path.{_≡_, refl, sym, ap, _∙_, subst}
-use mathlib.Core.Bool.{Bool, true, false, cond, not}
+use Prim.Native.Nat.{ℕ, _+_, _-_, _≤_, _<_}
+use mathlib.Core.Path.{_≡_, refl, sym, ap, _∙_}
+use mathlib.Core.Bool.{Bool, true, false, not}
 use mathlib.Core.List.{List, [], _∷_}
 use native.Mathlib.Omega.{arith}
 use borrow.Author.Tests.{not-true, not-false}
 use mir.Val.{Fits}
 use mir.Syntax.{w32}
 use lib.ListN.{length, take, drop}
-use Rattle.lists.specs.Lists.{part}
 use Rattle.lists.proofs.Cuts.{drop-end}
 use Rattle.characters.specs.Rows.{rows, flat}
 use Rattle.characters.proofs.RowLaws.{flat-rows}
 use Rattle.pieces.specs.declared.Row.{Row}
 use Rattle.pieces.specs.declared.Row.the-variants.{Head, EndHead, Body, End, Broken}
-use Rattle.pieces.specs.Pieces.{Kind, judged, brokenFrom, brokenLine, Piece, bodyOf, opened, piecesIn, opens, startsWell}
+use Rattle.pieces.specs.Pieces.{judged, brokenFrom, brokenLine, bodyOf, opened, piecesIn, opens, startsWell}
 use Rattle.pieces.specs.Answers.{RowAt, asKind, KindIs}
-use Rattle.join.specs.declared.Next.{Next}
 use Rattle.join.specs.declared.Next.the-variants.{Opens, Over}
-use Rattle.join.specs.Spans.{isBody, goesOn, Opened, NextIs}
+use Rattle.join.specs.Spans.{isBody, goesOn, NextIs}
 
 pub rows-over : (s : List ℕ) (at : ℕ) → length s ≤ at → rows (drop at s) ≡ []
 rows-over s at h = ap rows (drop-end s at h)
@@ -98,7 +96,8 @@ module _ {s : List ℕ} {begun : Bool} {n at : ℕ} (v : Walk s begun n at) wher
     pub walk-end : k ≡ End → not begun ≡ false → Walk s begun (n + 1) e
     walk-end q w = let b : begun ≡ true = not-false begun w in go-on (step ∙ (ap turn q ∙ rw b))
 
-pub ruleset walk-laws = (row-bounds, walk-empty, walk-start, walk-fits, walk-out, walk-body, walk-head, walk-broken, walk-early-head, walk-early-end, walk-end-head, walk-end)
+pub ruleset walk-laws =
+    (row-bounds, walk-empty, walk-start, walk-fits, walk-out, walk-body, walk-head, walk-broken, walk-early-head, walk-early-end, walk-end-head, walk-end)
 
 -- ---- the first row
 

@@ -12,8 +12,8 @@ use Rattle.lists.specs.Lists.{part, Res, ok, refused}
 use Rattle.characters.specs.Text.{text}
 use Rattle.characters.specs.Rows.{rows, flat, isLine}
 use Rattle.buffers.specs.Buffers.{Wrote}
-use Rattle.pieces.specs.Marks.{Mark, readMark}
-use Rattle.pieces.specs.Pieces.{Kind, head, endHead, body, end, broken, kindOf, Piece, bodyOf, piecesIn}
+use Rattle.pieces.specs.Marks.{readMark}
+use Rattle.pieces.specs.Pieces.{Kind, head, endHead, body, end, broken, kindOf, bodyOf, piecesIn}
 use Rattle.pieces.specs.Answers.{RowAt}
 use Rattle.join.specs.declared.Next.{Next}
 use Rattle.join.specs.declared.Next.the-variants.{Opens, Over}
@@ -25,7 +25,7 @@ use Rattle.join.specs.declared.Filled.{Filled}
 use Rattle.join.specs.declared.Filled.the-variants.{Full, Large}
 use Rattle.join.specs.declared.Made.{Made}
 use Rattle.join.specs.declared.Made.the-variants.{Bytes, No}
-use Rattle.join.specs.Join.{unmarked, Part, lastMark, partOf, with, partsOf, agree, find, orSet, joinParts, thenChecked}
+use Rattle.join.specs.Join.{unmarked, Part, lastMark, partOf, with, partsOf, agree, find, thenChecked}
 
 -- ---- the next piece from a position on: its line 1 ends at e
 
@@ -69,9 +69,15 @@ pub record PlainLines (s : List ℕ) (from stop : ℕ) : Type 0 where
   pub bytes : flat (bodyOf (rows (drop from s))) ≡ part s from stop
   pub next : piecesIn (rows (drop from s)) ≡ piecesIn (rows (drop stop s))
 
--- n and k of a record 911 from last to stop, and the rows before it
-abbrev pub partWith : List ℕ → Bool → ℕ → ℕ → ℕ → List (List ℕ) → Part
-partWith s d last n k rs = record { provider = d; mark = record { ident = part s (last + 4) (last + 18); count = n; place = k }; rows = rs }
+-- a part by its direction, ID, count, place and rows
+abbrev pub partBy : Bool → List ℕ → ℕ → ℕ → List (List ℕ) → Part
+partBy d i n k rs = record { provider = d; mark = record { ident = i; count = n; place = k }; rows = rs }
+
+-- the ID of a record 911 that begins at last
+abbrev pub identAt : List ℕ → ℕ → List ℕ
+identAt s last = part s (last + 4) (last + 18)
+
+-- a record 911 from last to stop, n and k read, and the rows before it
 
 pub record MarkedLines (s : List ℕ) (from last stop n k : ℕ) : Type 0 where
   pub low : from ≤ last
@@ -81,7 +87,7 @@ pub record MarkedLines (s : List ℕ) (from last stop n k : ℕ) : Type 0 where
   pub place : k ≤ 999
   pub marked : unmarked (bodyOf (rows (drop from s))) ≡ false
   pub lines : List (List ℕ)
-  pub is : (d : Bool) → partOf d (bodyOf (rows (drop from s))) ≡ some (partWith s d last n k lines)
+  pub is : (d : Bool) → partOf d (bodyOf (rows (drop from s))) ≡ some (partBy d (identAt s last) n k lines)
   pub bytes : flat lines ≡ part s from last
   pub next : piecesIn (rows (drop from s)) ≡ piecesIn (rows (drop stop s))
 
@@ -94,7 +100,7 @@ pub record LastMark (s : List ℕ) (at e n k : ℕ) : Type 0 where
   pub ident : at + 18 ≤ e
   pub count : n ≤ 999
   pub place : k ≤ 999
-  pub read : readMark (text (part s at e)) ≡ some (record { ident = part s (at + 4) (at + 18); count = n; place = k })
+  pub read : readMark (text (part s at e)) ≡ some (record { ident = identAt s at; count = n; place = k })
   pub last : goesOn (rows (drop e s)) ≡ false
 
 abbrev pub LastMeans : List ℕ → ℕ → ℕ → Lines → Type 0
@@ -116,7 +122,7 @@ pub record LinesAre (s : List ℕ) (from : ℕ) (r : Lines) : Type 0 where
 -- ---- parts that agree with a direction, an ID and a count
 
 abbrev pub like : Bool → List ℕ → ℕ → Part
-like d i n = record { provider = d; mark = record { ident = i; count = n; place = 0 }; rows = [] }
+like d i n = partBy d i n 0 []
 
 abbrev pub agreed : Bool → List ℕ → ℕ → Option (List Part) → Bool
 agreed d i n none = false
@@ -139,7 +145,7 @@ pub record MemberAt (s : List ℕ) (e : ℕ) (side d : Bool) (i : List ℕ) (n l
   pub high : stop ≤ length s
   pub place : k ≤ 999
   pub lines : List (List ℕ)
-  pub is : partOf side (bodyOf (rows (drop e s))) ≡ some (record { provider = d; mark = record { ident = i; count = n; place = k }; rows = lines })
+  pub is : partOf side (bodyOf (rows (drop e s))) ≡ some (partBy d i n k lines)
   pub bytes : flat lines ≡ part s e last
   pub next : piecesIn (rows (drop e s)) ≡ piecesIn (rows (drop stop s))
 
@@ -258,7 +264,7 @@ pub record First (d s : List ℕ) (side : Bool) (last n : ℕ) : Type 0 where
   pub place : ℕ
   pub lines : List (List ℕ)
   pub others : Option (List Part)
-  pub is : partsOf (piecesIn (rows s)) ≡ with (some (partWith s side last n place lines)) others
+  pub is : partsOf (piecesIn (rows s)) ≡ with (some (partBy side (identAt s last) n place lines)) others
 
 -- the buffer, and an input within the limit
 pub record Input (d s : List ℕ) : Type 0 where

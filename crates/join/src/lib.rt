@@ -254,11 +254,11 @@ fn collect(s: &[u8], d: bool, id: &[u8], n: usize, starts: &mut [usize], ends: &
                     Member::Foreign => {
                         return false;
                     }
-                    Member::Of(last, end, k) => {
+                    Member::Of(last, end, place) => {
                         if n <= m {
                             return false;
                         }
-                        store(starts, ends, k, e, last);
+                        store(starts, ends, place, e, last);
                         m += 1;
                         at = end;
                     }

@@ -1,14 +1,12 @@
 -- The ways through the tests of an ID and the reading of a record 911, by its items. Assumes nothing.
-use Prim.Native.Nat.{ℕ, zero, suc, _+_, _-_, _≤_, _<_}
-use mathlib.Core.Path.{_≡_, refl, sym, ap, ap₂, _∙_, subst}
-use mathlib.Core.Bool.{Bool, true, false, cond, not, _&&_, false≢true}
+use Prim.Native.Nat.{ℕ, _+_, _-_, _≤_, _<_}
+use mathlib.Core.Path.{_≡_, refl, sym, ap, ap₂, _∙_}
+use mathlib.Core.Bool.{Bool, true, false, cond, not, _&&_}
 use mathlib.Core.Option.{Option, none, some}
 use mathlib.Core.List.{List, [], _∷_}
 use native.Mathlib.Omega.{arith}
 use borrow.Author.Tests.{eq-eqb, ne-eqb, eqb-true, lt-leb, not-true, not-false}
-use mir.Val.{Fits}
-use mir.Syntax.{w64}
-use lib.Dec.{eqb, leb}
+use lib.Dec.{eqb}
 use lib.ListN.{length, take, drop, length-take, length-drop}
 use Rattle.lists.specs.Lists.{all, same, part, findFrom}
 use Rattle.lists.proofs.Tests.{both, same-true}
@@ -22,7 +20,7 @@ use Rattle.lines.proofs.SplitLaws.{items-from, items-all, item-cut}
 use Rattle.pieces.specs.declared.Numbers.{Numbers}
 use Rattle.pieces.specs.declared.Numbers.the-variants.{Read, Unread}
 use Rattle.pieces.specs.Marks.{Mark, validID, marked, markOf, readMark}
-use Rattle.pieces.specs.Answers.{asMark, Most, NumbersIs, Reaches, MarkIs}
+use Rattle.pieces.specs.Answers.{asMark, NumbersIs, Reaches, MarkIs}
 
 -- ---- an ID
 
@@ -92,7 +90,8 @@ module _ (l : List ℕ) {at c : ℕ} (h : at ≤ length l) (p : c ≡ findFrom 0
   cut-n = item-cut l at h p
 
   pub numbers-one : length l ≤ c → NumbersIs l at Unread
-  numbers-one q = unread (λ a i. ap (λ (x : List (List ℕ)). markOf (a ∷ i ∷ x)) (cut-n ∙ ap (λ (x : List (List ℕ)). part l at c ∷ x) (items-out l (c + 1) (omega arith))))
+  numbers-one q =
+      unread (λ a i. ap (λ (x : List (List ℕ)). markOf (a ∷ i ∷ x)) (cut-n ∙ ap (λ (x : List (List ℕ)). part l at c ∷ x) (items-out l (c + 1) (omega arith))))
 
   module _ (q : c < length l) {d : ℕ} (r : d ≡ findFrom 0x2c l (c + 1)) where
     pub k-low : c + 1 ≤ d
@@ -105,11 +104,14 @@ module _ (l : List ℕ) {at c : ℕ} (h : at ≤ length l) (p : c ≡ findFrom 0
     cut-k = cut-n ∙ ap (λ (x : List (List ℕ)). part l at c ∷ x) (item-cut l (c + 1) (omega arith) r)
 
     pub numbers-more : d < length l → NumbersIs l at Unread
-    numbers-more t = unread (λ a i. ap (λ (x : List (List ℕ)). markOf (a ∷ i ∷ x)) (cut-k ∙ ap (λ (x : List (List ℕ)). part l at c ∷ part l (c + 1) d ∷ x) (items-from l (d + 1) (omega arith))))
+    numbers-more t =
+        unread (λ a i. ap (λ (x : List (List ℕ)). markOf (a ∷ i ∷ x)) (cut-k ∙ ap (λ (x : List (List ℕ)). part l at c ∷ part l (c + 1) d ∷ x) (items-from l (d + 1) (omega arith))))
 
     module _ (t : length l ≤ d) where
-      four : (a i : List ℕ) → markOf (a ∷ i ∷ itemsFrom l at) ≡ cond (same a t911 && validID i) (marked i (number (part l at c)) (number (part l (c + 1) d))) none
-      four a i = ap (λ (x : List (List ℕ)). markOf (a ∷ i ∷ x)) (cut-k ∙ ap (λ (x : List (List ℕ)). part l at c ∷ part l (c + 1) d ∷ x) (items-out l (d + 1) (omega arith)))
+      four : (a i : List ℕ)
+          → markOf (a ∷ i ∷ itemsFrom l at) ≡ cond (same a t911 && validID i) (marked i (number (part l at c)) (number (part l (c + 1) d))) none
+      four a i =
+          ap (λ (x : List (List ℕ)). markOf (a ∷ i ∷ x)) (cut-k ∙ ap (λ (x : List (List ℕ)). part l at c ∷ part l (c + 1) d ∷ x) (items-out l (d + 1) (omega arith)))
 
       module _ {n : ℕ} (u : n ≡ shortValue (take (c - at) (drop at l))) where
         pub numbers-n : 999 < n → NumbersIs l at Unread
@@ -179,11 +181,13 @@ module _ (l : List ℕ) {a : ℕ} (p : a ≡ findFrom 0x2c l 0) where
 
       module _ (u : b < length l) {y : Bool} (v : y ≡ validID (take (b - (a + 1)) (drop (a + 1) l))) where
         pub mark-id : not y ≡ true → MarkIs l Unread
-        mark-id w = lost (ap markOf cut-b ∙ mark-no-id (part l 0 a) (part l (a + 1) b) (itemsFrom l (b + 1)) (sym first ∙ not-false x t) (sym v ∙ not-true y w))
+        mark-id w =
+            lost (ap markOf cut-b ∙ mark-no-id (part l 0 a) (part l (a + 1) b) (itemsFrom l (b + 1)) (sym first ∙ not-false x t) (sym v ∙ not-true y w))
 
         module _ (w : not y ≡ false) {m : Numbers} (z : NumbersIs l (b + 1) m) where
           a-is : a ≡ 3
-          a-is = omega (arith, part-length l 0 a (omega arith) (omega arith), ap length (same-true (part l 0 a) (57 ∷ 49 ∷ 49 ∷ []) (sym q ∙ not-false x t)))
+          a-is =
+              omega (arith, part-length l 0 a (omega arith) (omega arith), ap length (same-true (part l 0 a) (57 ∷ 49 ∷ 49 ∷ []) (sym q ∙ not-false x t)))
 
           b-is : b ≡ 18
           b-is = omega (arith, a-is, id-low, part-length l (a + 1) b id-low id-high, id-length (part l (a + 1) b) (sym v ∙ not-false y w))

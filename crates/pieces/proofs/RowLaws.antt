@@ -1,27 +1,23 @@
 -- The row at a position, and the ways through the tests of a row's kind. Assumes nothing.
-use Prim.Native.Nat.{ℕ, zero, suc, _+_, _-_, _≤_, _<_}
-use native.Mathlib.Nat.{add-sub-cancel-left}
-use mathlib.Core.Path.{_≡_, refl, sym, ap, ap₂, _∙_, subst}
-use mathlib.Core.Bool.{Bool, true, false, cond, not, _&&_, _||_, false≢true}
+use Prim.Native.Nat.{ℕ, suc, _+_, _-_, _≤_, _<_}
+use mathlib.Core.Path.{_≡_, refl, sym, ap, ap₂, _∙_}
+use mathlib.Core.Bool.{Bool, true, false, cond}
 use mathlib.Core.List.{List, [], _∷_, _++_}
 use native.Mathlib.Omega.{arith}
-use native.Mathlib.Numerals.{add-one}
-use borrow.Author.Tests.{eq-eqb, ne-eqb, eqb-true, not-true, not-false}
-use lib.Dec.{eqb, leb}
-use lib.ListN.{length, take, drop, getD, length-take, length-drop}
+use borrow.Author.Tests.{eq-eqb, ne-eqb}
+use lib.Dec.{eqb}
+use lib.ListN.{length, take, drop, getD, length-drop}
 use lib.Seq.{drop-drop, take-all}
-use Rattle.lists.specs.Lists.{bytes, same, part, upTo, is, findFrom}
-use Rattle.lists.proofs.Tests.{same-true, same-refl}
+use Rattle.lists.specs.Lists.{bytes, same, upTo, is, findFrom}
 use Rattle.lists.proofs.Cuts.{drop-end, rest-all, upTo-hit, upTo-go, upTo-out, upTo-le, upTo-split}
-use Rattle.lists.proofs.Loops.{find-low, find-high, same-length}
+use Rattle.lists.proofs.Loops.{find-high}
 use Rattle.characters.specs.Text.{isStop, text}
 use Rattle.characters.specs.Rows.{consRow, rows, lineEnd, isLine, endMark}
 use Rattle.records.specs.Records.{header}
 use Rattle.canonical.specs.Canonical.{headRow}
-use Rattle.pieces.specs.declared.Row.{Row}
 use Rattle.pieces.specs.declared.Row.the-variants.{Head, EndHead, Body, End, Broken}
 use Rattle.pieces.specs.Pieces.{Kind, head, endHead, body, end, broken, kindOf}
-use Rattle.pieces.specs.Answers.{RowAt, asKind, KindIs}
+use Rattle.pieces.specs.Answers.{RowAt, KindIs}
 
 -- ---- the first row, by where the first 0Ah stands
 
@@ -30,7 +26,8 @@ rows-feed : (l : List ℕ) → length (upTo (is 0x0a) l) < length l
 rows-feed [] h = absurd (omega arith)
 rows-feed (a ∷ l) h = go (eqb a 0x0a) (rows-feed l) h
   where
-    go : (b : Bool) → (length (upTo (is 0x0a) l) < length l → rows l ≡ take (suc (length (upTo (is 0x0a) l))) l ∷ rows (drop (suc (length (upTo (is 0x0a) l))) l))
+    go : (b : Bool)
+        → (length (upTo (is 0x0a) l) < length l → rows l ≡ take (suc (length (upTo (is 0x0a) l))) l ∷ rows (drop (suc (length (upTo (is 0x0a) l))) l))
         → length (cond b [] (a ∷ upTo (is 0x0a) l)) < suc (length l)
         → cond b ((a ∷ []) ∷ rows l) (consRow a (rows l))
         ≡ take (suc (length (cond b [] (a ∷ upTo (is 0x0a) l)))) (a ∷ l) ∷ rows (drop (suc (length (cond b [] (a ∷ upTo (is 0x0a) l)))) (a ∷ l))
@@ -149,10 +146,18 @@ pub head-false : headRow false ≡ line1 50
 unfolding header bytes
 head-false = refl
 
+-- a row that is no line 1 and no line
+abbrev noLine : List ℕ → Kind
+noLine r =
+    cond (same r endMark) end
+    (cond (same r (0x1a ∷ line1 49)) (endHead true) (cond (same r (0x1a ∷ line1 50)) (endHead false) broken))
+
+-- what a 1Ah is followed by
+abbrev behindMark : List ℕ → Kind
+behindMark t = cond (same t (line1 49)) (endHead true) (cond (same t (line1 50)) (endHead false) broken)
+
 by-literals : (r : List ℕ) → kindOf r ≡
-    cond (same r (line1 49)) (head true) (cond (same r (line1 50)) (head false)
-    (cond (isLine r) body (cond (same r endMark) end
-    (cond (same r (0x1a ∷ line1 49)) (endHead true) (cond (same r (0x1a ∷ line1 50)) (endHead false) broken)))))
+    cond (same r (line1 49)) (head true) (cond (same r (line1 50)) (head false) (cond (isLine r) body (noLine r)))
 unfolding kindOf header bytes
 by-literals r = refl
 
@@ -169,13 +174,13 @@ module _ (r : List ℕ) {x : Bool} (p : x ≡ same r (line1 49)) where
       kind-body v = record { is = by-literals r ∙ rw (sym p ∙ q, sym u ∙ t, sym w ∙ v) }
 
       module _ (v : z ≡ false) where
-        no-line : kindOf r ≡ cond (same r endMark) end (cond (same r (0x1a ∷ line1 49)) (endHead true) (cond (same r (0x1a ∷ line1 50)) (endHead false) broken))
+        no-line : kindOf r ≡ noLine r
         no-line = by-literals r ∙ rw (sym p ∙ q, sym u ∙ t, sym w ∙ v)
 
         pub kind-empty : length r ≡ 0 → KindIs r Broken
         kind-empty h = record { is = no-line ∙ go r h }
           where
-            go : (r : List ℕ) → length r ≡ 0 → cond (same r endMark) end (cond (same r (0x1a ∷ line1 49)) (endHead true) (cond (same r (0x1a ∷ line1 50)) (endHead false) broken)) ≡ broken
+            go : (r : List ℕ) → length r ≡ 0 → noLine r ≡ broken
             go [] h = refl
             go (a ∷ r) h = absurd (omega arith)
 
@@ -183,7 +188,7 @@ module _ (r : List ℕ) {x : Bool} (p : x ≡ same r (line1 49)) where
         kind-other h g = record { is = no-line ∙ go r h g }
           where
             go : (r : List ℕ) → (length r ≡ 0 → ⊥) → (getD r 0 0 ≡ 0x1a → ⊥)
-                → cond (same r endMark) end (cond (same r (0x1a ∷ line1 49)) (endHead true) (cond (same r (0x1a ∷ line1 50)) (endHead false) broken)) ≡ broken
+                → noLine r ≡ broken
             go [] h g = absurd (h refl)
             go (a ∷ r) h g = rw (ne-eqb a 0x1a g)
 
@@ -192,18 +197,18 @@ module _ (r : List ℕ) {x : Bool} (p : x ≡ same r (line1 49)) where
           kind-end h = record { is = no-line ∙ go r g h }
             where
               go : (r : List ℕ) → getD r 0 0 ≡ 0x1a → length r ≡ 1
-                  → cond (same r endMark) end (cond (same r (0x1a ∷ line1 49)) (endHead true) (cond (same r (0x1a ∷ line1 50)) (endHead false) broken)) ≡ end
+                  → noLine r ≡ end
               go [] g h = absurd (omega arith)
               go (a ∷ []) g h = rw (eq-eqb a 0x1a g)
               go (a ∷ b ∷ r) g h = absurd (omega arith)
 
           module _ (n : length r ≡ 0 → ⊥) (h : length r ≡ 1 → ⊥) where
-            after-mark : kindOf r ≡ cond (same (take (length r - 1) (drop 1 r)) (line1 49)) (endHead true) (cond (same (take (length r - 1) (drop 1 r)) (line1 50)) (endHead false) broken)
+            after-mark : kindOf r ≡ behindMark (take (length r - 1) (drop 1 r))
             after-mark = no-line ∙ go r g n h
               where
                 go : (r : List ℕ) → getD r 0 0 ≡ 0x1a → (length r ≡ 0 → ⊥) → (length r ≡ 1 → ⊥)
-                    → cond (same r endMark) end (cond (same r (0x1a ∷ line1 49)) (endHead true) (cond (same r (0x1a ∷ line1 50)) (endHead false) broken))
-                    ≡ cond (same (take (length r - 1) (drop 1 r)) (line1 49)) (endHead true) (cond (same (take (length r - 1) (drop 1 r)) (line1 50)) (endHead false) broken)
+                    → noLine r
+                    ≡ behindMark (take (length r - 1) (drop 1 r))
                 go [] g n h = absurd (n refl)
                 go (a ∷ []) g n h = absurd (h refl)
                 go (a ∷ b ∷ r) g n h = rw (eq-eqb a 0x1a g, rest-all 1 (a ∷ b ∷ r))

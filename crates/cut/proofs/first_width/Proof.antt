@@ -1,13 +1,14 @@
 use borrow.Author.Needs.{needs}
 use Prim.Native.Nat.{_-_}
+use native.Mathlib.Omega.{arith}
 use lib.ListN.{length}
-use Rattle.cut.proofs.CountLaws.{Trying, Packing, count-laws}
+use Rattle.cut.proofs.CountLaws.{Trying, Packing, row-stays, count-laws}
 use Rattle.cut.proofs.first_width.Statement.{statement}
 use Rattle.cut.proofs.first_width.Tie as tie
 use Rattle.cut.proofs.first_width.Reads as reads
 use Rattle.cut.proofs.first_width.Lts as lts
 use Rattle.cut.proofs.overhead.Reads as overhead-reads
-use Rattle.cut.proofs.row_end.Reads as row-end-reads
+use Rattle.pieces.proofs.row_end.Reads as row-end-reads
 use Rattle.cut.proofs.serves_width.Reads as serves-width-reads
 
 abbrev Inv-loop : tie.InvT-loop
@@ -62,7 +63,7 @@ loop-less : tie.Need-loop-less Inv-loop μ-loop Inv-widths μ-widths
 loop-less c = search (needs, count-laws)
 
 loop-again : tie.Need-loop-again Inv-loop μ-loop Inv-widths μ-widths
-loop-again c = search (needs, count-laws)
+loop-again c = row-stays _ _ _ _ _ _ _ _ (c .before .before .before .loop .inv) (c .before .row-end .ensures) (omega arith)
 
 add-k : tie.Need-add-k Inv-loop μ-loop Inv-widths μ-widths
 add-k c = search (needs, count-laws)

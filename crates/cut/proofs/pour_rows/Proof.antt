@@ -10,7 +10,7 @@ use Rattle.buffers.proofs.put_all.Reads as put-all-reads
 use Rattle.cut.proofs.open_next.Reads as open-next-reads
 use Rattle.cut.proofs.overhead.Reads as overhead-reads
 use Rattle.cut.proofs.put_mark.Reads as put-mark-reads
-use Rattle.cut.proofs.row_end.Reads as row-end-reads
+use Rattle.pieces.proofs.row_end.Reads as row-end-reads
 
 abbrev Inv-loop : tie.InvT-loop
 Inv-loop out₀ at s c w n id o₀ k₀ u₀ i₀ out o k u i = Pouring out₀ out at s c w n id o k u i
