@@ -188,7 +188,8 @@ taken d (r ∷ rs) st recs p e = by (same r endMark) refl (isLine r) refl (λ t 
 
 -- ---- and back
 
-step-on : (st : State) (l : List ℕ) (t : State) (rp doctor : ℕ) → lineFault (st .provider) l ≡ 0 → stepOf st (factsOf (recordOf l)) ≡ On t rp doctor → stepLine st l ≡ On t rp doctor
+step-on : (st : State) (l : List ℕ) (t : State) (rp doctor : ℕ) → lineFault (st .provider) l ≡ 0 → stepOf st (factsOf (recordOf l)) ≡ On t rp doctor
+    → stepLine st l ≡ On t rp doctor
 unfolding stepLine
 step-on st l t rp doctor z e = rw (eq-eqb (lineFault (st .provider) l) 0 z) e
 
@@ -259,7 +260,8 @@ pub carries : (d : Bool) (recs : List Record) (rs : List (List ℕ)) → Lines d
     → readFile (headRow d ++ flat rs) ≡ ok (record { provider = d; records = recs })
 unfolding readFile
 carries d recs rs l u h =
-    let c : rows (headRow d ++ flat rs) ≡ headRow d ∷ rs = row-cut (headRow d) (flat rs) (head-line d) ∙ ap (λ (x : List (List ℕ)). headRow d ∷ x) (rows-flat rs (lines-are l)) in
+    let c : rows (headRow d ++ flat rs) ≡ headRow d ∷ rs =
+    row-cut (headRow d) (flat rs) (head-line d) ∙ ap (λ (x : List (List ℕ)). headRow d ∷ x) (rows-flat rs (lines-are l)) in
     rw (le-leb (length (headRow d ++ flat rs)) 65536 h)
     (ap readRows c ∙ rows-read d rs ∙ ap (notebookOf d) (reads-all (start d) (provider-start d) l u))
 

@@ -141,7 +141,8 @@ pub withholds : (f : List ℕ) (c : ℕ) (id out : List ℕ) (ps : List (List �
 unfolding cutOf cutBuffer
 withholds f c id out ps q = record { exactly = (λ h. go (leb (length (flat ps)) (length out)) refl (sym (rw q) ∙ h), twenty); kept = kept; else = else }
   where
-    go : (x : Bool) → leb (length (flat ps)) (length out) ≡ x → cond x (Pieces (length ps) (length (flat ps))) (Refused 20 0) ≡ Refused 20 0 → length out < length (flat ps)
+    go : (x : Bool) → leb (length (flat ps)) (length out) ≡ x → cond x (Pieces (length ps) (length (flat ps))) (Refused 20 0) ≡ Refused 20 0
+        → length out < length (flat ps)
     go true p h = absurd (pieces-refused (sym h))
     go false p h = leb-false _ _ p
 

@@ -60,7 +60,8 @@ unfolding over
 small-part c x p g h r =
     let a : All Body (p .rows ++ (r .last ∷ [])) = subst (All Body) (r .shape) g in
     let l : All Body (r .last ∷ []) = all-right Body (p .rows) (r .last ∷ []) a in
-    let s : length (r .last) ≡ length (text (r .last)) + 2 = ap length (line-bytes (r .last) (body-line (r .last) (l .0))) ∙ length-append (text (r .last)) lineEnd in
+    let s : length (r .last) ≡ length (text (r .last)) + 2 =
+    ap length (line-bytes (r .last) (body-line (r .last) (l .0))) ∙ length-append (text (r .last)) lineEnd in
     record {
       rows = all-left Body (p .rows) (r .last ∷ []) a;
       fits = omega (
@@ -218,7 +219,8 @@ module _ (i : List ℕ) (b : Notebook) (c : ℕ) where
       let d : Divided c (length ps) (w .rows) = divided-by c ps w (s .0) (parts-joined ps w j) in
       let r : Lines (b .provider) (b .records) (w .rows) = rows-read w (d .rows) e in
       let y : Way length (over (digitsOf (length ps))) c 1 (over (digitsOf (length ps)) 1) ls (length ps) =
-      lighter length length (over (digitsOf (length ps))) (over (digitsOf (length ps))) c c (λ k. le-refl _) (le-refl c) (over (digitsOf (length ps)) 1) (rows-pairs r) (le-refl _) (d .way) in
+      lighter length length (over (digitsOf (length ps))) (over (digitsOf (length ps))) c c (λ k. le-refl _) (le-refl c) (over (digitsOf (length ps)) 1)
+      (rows-pairs r) (le-refl _) (d .way) in
       subst (λ (n : ℕ). AtMost n (plan length c ls)) (s .1) (way-fewest length c ls (length ps) (d .two) (d .most) (d .opens) y)
 
   single : (x : Chunk) → Good x → length (chunkBytes x) ≤ c → readFile (fileOf (pieceOf x)) ≡ ok b → AtMost 1 (plan length c ls)

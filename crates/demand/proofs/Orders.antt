@@ -70,7 +70,8 @@ perm-flat nil = refl
 perm-flat (cons {a = a} {xs = xs} i p) = omega (arith, insert-flat i, perm-flat p, length-append a (flat xs))
 
 -- a permutation of images is the image of a permutation
-insert-unmap : {A B : Type 0} (f : A → B) (a : A) (ys : List A) {b : B} {zs l : List B} → Insert b zs l → f a ≡ b → map f ys ≡ zs → (m : List A) × (l ≡ map f m) × Insert a ys m
+insert-unmap : {A B : Type 0} (f : A → B) (a : A) (ys : List A) {b : B} {zs l : List B} → Insert b zs l → f a ≡ b → map f ys ≡ zs
+    → (m : List A) × (l ≡ map f m) × Insert a ys m
 insert-unmap f a ys {b = b} (here {xs = zs}) p q = (a ∷ ys, (let r : b ∷ zs ≡ f a ∷ map f ys = cc in r), here)
 insert-unmap f a [] (there i) p q = absurd (nil≢cons q)
 insert-unmap {A} f a (y ∷ ys) (there {x = x} {xs = zs} {l = l} i) p q =

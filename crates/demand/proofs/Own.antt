@@ -75,11 +75,13 @@ record Own (p : Part) : Type 0 where
 
 own-good : (p : Part) → Own p → Good (chunkOf p)
 own-good p o =
-    all-append Body (p .rows) (rowOf p ∷ []) (free-bodies (p .rows) (o .rows)) (mark-body (p .mark .ident) (p .mark .count) (p .mark .place) (o .valid) (o .count) (o .place), tt)
+    all-append Body (p .rows) (rowOf p ∷ []) (free-bodies (p .rows) (o .rows))
+    (mark-body (p .mark .ident) (p .mark .count) (p .mark .place) (o .valid) (o .count) (o .place), tt)
 
 own-part : (p : Part) → Own p → partOf (p .provider) (chunkOf p .rows) ≡ some p
 own-part p o =
-    let t : text (rowOf p) ≡ markLine (p .mark .ident) (p .mark .count) (p .mark .place) = mark-text (p .mark .ident) (p .mark .count) (p .mark .place) (o .valid) (o .count) (o .place) in
+    let t : text (rowOf p) ≡ markLine (p .mark .ident) (p .mark .count) (p .mark .place) =
+    mark-text (p .mark .ident) (p .mark .count) (p .mark .place) (o .valid) (o .count) (o .place) in
     part-of (p .provider) (p .rows) (rowOf p) (p .mark) (free-unmarked (p .rows) (o .rows))
     (ap isMark t ∙ written-is (p .mark .ident) (p .mark .count) (p .mark .place) (o .valid) (o .count) (o .place))
     (ap readMark t ∙ read-written (p .mark .ident) (p .mark .count) (p .mark .place) (o .valid) (o .count) (o .place))
@@ -126,7 +128,8 @@ numbered-bytes d i n k (y ∷ ys) = ap (λ (t : List (List ℕ)). pieceBytes d i
 abbrev AllFree : List (List ℕ) → Type 0
 AllFree y = All Free y
 
-parts-own : (d : Bool) (i : List ℕ) (n k : ℕ) (ys : List (List (List ℕ))) → validID i ≡ true → n ≤ 999 → k + length ys ≤ 1000 → All AllFree ys → All Own (parts d i n k ys)
+parts-own : (d : Bool) (i : List ℕ) (n k : ℕ) (ys : List (List (List ℕ))) → validID i ≡ true → n ≤ 999 → k + length ys ≤ 1000 → All AllFree ys
+    → All Own (parts d i n k ys)
 parts-own d i n k [] v h l a = tt
 parts-own d i n k (y ∷ ys) v h l (a, t) =
     (record { rows = a; valid = v; count = h; place = omega arith }, parts-own d i n (suc k) ys v h (omega arith) t)
@@ -200,7 +203,8 @@ module _ (d : Bool) (i : List ℕ) (ys : List (List (List ℕ))) (v : validID i 
       let o : All Own ps = perm-all Own w (parts-own d i (length ys) 1 ys v most (omega arith) a) in
       let l : length ps ≡ length ys = perm-length w ∙ parts-length d i (length ys) 1 ys in
       joined-split (flat (map bytesOf ps)) (map pieceOf (map chunkOf ps)) (record { provider = d; rows = concat ys }) h
-      (ap (λ (t : List (List ℕ)). split (flat t)) (map-pieces ps) ∙ split-all (map chunkOf ps) (omega (arith, map-length chunkOf ps)) (own-chunks ps o)) (join-own ps w)
+      (ap (λ (t : List (List ℕ)). split (flat t)) (map-pieces ps) ∙ split-all (map chunkOf ps) (omega (arith, map-length chunkOf ps)) (own-chunks ps o))
+      (join-own ps w)
 
 -- ---- the runs of a plan
 
@@ -280,7 +284,8 @@ module _ (f i : List ℕ) (b : Notebook) (c : ℕ) (e : readFile f ≡ ok b) whe
     unfolding canonicalBytes
     restore-split ps m =
         let q : joinedFile (flat (map bytesOf ps)) ≡ ok (canonicalBytes b) =
-        joined-own (b .provider) i xs v (g .two) (g .most) runs-free ps m (own-size ps m) ∙ ap (λ (t : List (List ℕ)). ok (headRow (b .provider) ++ flat t)) (g .all) in
+        joined-own (b .provider) i xs v (g .two) (g .most) runs-free ps m (own-size ps m)
+        ∙ ap (λ (t : List (List ℕ)). ok (headRow (b .provider) ++ flat t)) (g .all) in
         join-file (flat (map bytesOf ps)) (canonicalBytes b) b q (canonical-carries f b e)
 
     sound-split : Sound f c (map bytesOf own)
@@ -317,7 +322,9 @@ module _ (f i : List ℕ) (b : Notebook) (c : ℕ) (e : readFile f ≡ ok b) whe
         single : 13 + total length ls ≤ c → Perm (canonicalBytes b ∷ []) qs → joinFile (flat qs) ≡ ok (canonicalBytes b)
         single h m = rw (perm-one m) restore-whole
 
-        several : (xs : List (List (List ℕ))) → Divides length c ls xs → Perm (map bytesOf (parts (b .provider) i (length xs) 1 xs)) qs → joinFile (flat qs) ≡ ok (canonicalBytes b)
+        several : (xs : List (List (List ℕ))) → Divides length c ls xs → Perm (map bytesOf (parts (b .provider) i (length xs) 1 xs)) qs
+            → joinFile (flat qs) ≡ ok (canonicalBytes b)
         several xs g m =
-            let u : (l : List Part) × (qs ≡ map bytesOf l) × Perm (parts (b .provider) i (length xs) 1 xs) l = perm-unmap bytesOf (parts (b .provider) i (length xs) 1 xs) m in
+            let u : (l : List Part) × (qs ≡ map bytesOf l) × Perm (parts (b .provider) i (length xs) 1 xs) l =
+            perm-unmap bytesOf (parts (b .provider) i (length xs) 1 xs) m in
             rw (u .1) (restore-split v xs g (u .0) (u .2))

@@ -109,7 +109,8 @@ module _ (d : Bool) (i : List ℕ) (n : ℕ) where
       let a : All (Before (suc k)) (ps ++ (p ∷ [])) =
       all-append (Before (suc k)) ps (p ∷ []) (all-map (Before k) (Before (suc k)) (λ p h. omega arith) ps h) (omega arith, tt) in
       let later : gather (ps ++ parts d i n k (x ∷ xs)) (length xs) (suc k) ≡ some (concat xs) =
-      subst (λ (z : List Part). gather z (length xs) (suc k) ≡ some (concat xs)) (append-assoc ps (p ∷ []) (parts d i n (suc k) xs)) (gather-from xs (ps ++ (p ∷ [])) (suc k) a) in
+      subst (λ (z : List Part). gather z (length xs) (suc k) ≡ some (concat xs)) (append-assoc ps (p ∷ []) (parts d i n (suc k) xs))
+      (gather-from xs (ps ++ (p ∷ [])) (suc k) a) in
       rw (find-past ps (parts d i n k (x ∷ xs)) k h ∙ find-hit k p (parts d i n (suc k) xs) refl, later)
 
   pub gather-parts : (xs : List (List (List ℕ))) → gather (parts d i n 1 xs) (length xs) 1 ≡ some (concat xs)
@@ -281,7 +282,8 @@ part-is d (r ∷ rs) p e = go (isMark (text r)) (part-is d rs) e
         let s : IsPart d rs q = ih q refl in
         subst (IsPart d (r ∷ rs)) (some-inj f) (record { last = s .last; shape = ap (λ (y : List (List ℕ)). r ∷ y) (s .shape); marked = s .marked; way = s .way })
 
-    go : (b : Bool) → ((q : Part) → partOf d rs ≡ some q → IsPart d rs q) → cond b (lastMark d rs (readMark (text r))) (before r (partOf d rs)) ≡ some p → IsPart d (r ∷ rs) p
+    go : (b : Bool) → ((q : Part) → partOf d rs ≡ some q → IsPart d rs q) → cond b (lastMark d rs (readMark (text r))) (before r (partOf d rs)) ≡ some p
+        → IsPart d (r ∷ rs) p
     go true ih f = ends rs (readMark (text r)) refl f
     go false ih f = later (partOf d rs) ih f
 
@@ -303,8 +305,8 @@ unfolding partsOf
 parts-are [] ps e = subst (PartsOf []) (some-inj e) over
 parts-are (x ∷ xs) ps e = go (partOf (x .provider) (x .rows)) refl (partsOf xs) refl (parts-are xs) e
   where
-    go : (m : Option Part) → partOf (x .provider) (x .rows) ≡ m → (us : Option (List Part)) → partsOf xs ≡ us → ((us : List Part) → partsOf xs ≡ some us → PartsOf xs us)
-        → with m us ≡ some ps → PartsOf (x ∷ xs) ps
+    go : (m : Option Part) → partOf (x .provider) (x .rows) ≡ m → (us : Option (List Part)) → partsOf xs ≡ us
+        → ((us : List Part) → partsOf xs ≡ some us → PartsOf xs us) → with m us ≡ some ps → PartsOf (x ∷ xs) ps
     go none p us q ih e = absurd (no-none e)
     go (some y) p none q ih e = absurd (no-none e)
     go (some y) p (some us) q ih e = subst (PartsOf (x ∷ xs)) (some-inj e) (more (part-is (x .provider) (x .rows) y p) (ih us q))

@@ -154,7 +154,8 @@ pack-start {A} len c w [] xs h e =
     let q : _≡_ {A = List (List A)} ([] ∷ []) xs = cc in
     sym (ap length q)
 pack-start len c w (r ∷ rs) xs h e =
-    let q : pack len (over w) c 1 (over w 1) (r ∷ rs) ≡ none = pack-none len (over w) c 1 (over w 1) r rs (omega arith) (omega (arith, over-up w 1 2 (omega arith))) in
+    let q : pack len (over w) c 1 (over w 1) (r ∷ rs) ≡ none =
+    pack-none len (over w) c 1 (over w 1) r rs (omega arith) (omega (arith, over-up w 1 2 (omega arith))) in
     cc
 
 module _ {A : Type 0} (len : A → ℕ) (c : ℕ) (rs : List A) where
@@ -221,8 +222,8 @@ module _ {A : Type 0} (len : A → ℕ) (c : ℕ) (rs : List A) where
       → (b : Bool) → eqb (digitsOf (length (x .runs))) w ≡ b → (suc w ≤ digitsOf n → Low (suc w) → AtMost n (tries len c f (suc w) rs))
       → AtMost n (tries len c (suc f) w rs)
   fewest-step f w n big fit a low x true e ih =
-      rw (tries-serve f w (x .runs) (x .found) (serves-yes w (length (x .runs)) (eqb-true _ _ e) (two w (x .runs) big (omega (arith, over-wide w (digitsOf n) 1 a)) (x .found))))
-      (omega (arith, x .few))
+      let t : 2 ≤ length (x .runs) = two w (x .runs) big (omega (arith, over-wide w (digitsOf n) 1 a)) (x .found) in
+      rw (tries-serve f w (x .runs) (x .found) (serves-yes w (length (x .runs)) (eqb-true _ _ e) t)) (omega (arith, x .few))
   fewest-step f w n big fit a low x false e ih =
       let d : w ≤ digitsOf (length (x .runs)) = low (x .runs) (x .found) in
       let ne : digitsOf (length (x .runs)) ≡ w → ⊥ = eqb-false _ _ e in

@@ -69,7 +69,9 @@ Spelled r broken = Unit {0}
 
 spelled : (r : List ℕ) → Spelled r (kindOf r)
 unfolding kindOf
-spelled r = go (same r (headRow true)) refl (same r (headRow false)) refl (isLine r) refl (same r endMark) refl (same r (0x1a ∷ headRow true)) refl (same r (0x1a ∷ headRow false)) refl
+spelled r =
+    go (same r (headRow true)) refl (same r (headRow false)) refl (isLine r) refl (same r endMark) refl
+    (same r (0x1a ∷ headRow true)) refl (same r (0x1a ∷ headRow false)) refl
   where
     go : (a : Bool) → same r (headRow true) ≡ a → (b : Bool) → same r (headRow false) ≡ b → (c : Bool) → isLine r ≡ c → (d : Bool) → same r endMark ≡ d
         → (e : Bool) → same r (0x1a ∷ headRow true) ≡ e → (f : Bool) → same r (0x1a ∷ headRow false) ≡ f
@@ -137,7 +139,8 @@ unfolding rowsOf
 rows-bytes true [] = refl
 rows-bytes false [] = refl
 rows-bytes e (x ∷ xs) =
-    ap (λ (t : List ℕ). (mark e ++ headRow (x .provider)) ++ t) (flat-append (x .rows) (rowsOf (x .ended) xs) ∙ ap (λ (t : List ℕ). flat (x .rows) ++ t) (rows-bytes (x .ended) xs))
+    ap (λ (t : List ℕ). (mark e ++ headRow (x .provider)) ++ t)
+    (flat-append (x .rows) (rowsOf (x .ended) xs) ∙ ap (λ (t : List ℕ). flat (x .rows) ++ t) (rows-bytes (x .ended) xs))
     ∙ sym (bytes-cons e x xs)
 
 -- ---- split: from chunks to pieces
@@ -169,9 +172,11 @@ unfolding rowsOf piecesIn
 pieces-of true [] h = rw kind-end
 pieces-of false [] h = refl
 pieces-of true (x ∷ xs) (h, t) =
-    rw (kind-end-head (x .provider), body-of (x .rows) (x .ended) xs h, pieces-skip (x .rows) (rowsOf (x .ended) xs) h) (ap (λ (ps : List Piece). pieceOf x ∷ ps) (pieces-of (x .ended) xs t))
+    rw (kind-end-head (x .provider), body-of (x .rows) (x .ended) xs h, pieces-skip (x .rows) (rowsOf (x .ended) xs) h)
+    (ap (λ (ps : List Piece). pieceOf x ∷ ps) (pieces-of (x .ended) xs t))
 pieces-of false (x ∷ xs) (h, t) =
-    rw (kind-head (x .provider), body-of (x .rows) (x .ended) xs h, pieces-skip (x .rows) (rowsOf (x .ended) xs) h) (ap (λ (ps : List Piece). pieceOf x ∷ ps) (pieces-of (x .ended) xs t))
+    rw (kind-head (x .provider), body-of (x .rows) (x .ended) xs h, pieces-skip (x .rows) (rowsOf (x .ended) xs) h)
+    (ap (λ (ps : List Piece). pieceOf x ∷ ps) (pieces-of (x .ended) xs t))
 
 sound-skip : (bs rs : List (List ℕ)) → All Body bs → ((n : ℕ) → brokenFrom true n rs ≡ 0) → (n : ℕ) → brokenFrom true n (bs ++ rs) ≡ 0
 unfolding brokenFrom
@@ -193,8 +198,9 @@ split-rows rs b s = rw (eq-eqb (brokenLine rs) 0 b, s)
 pub split-bytes : (x : Chunk) (xs : List Chunk) → All Good (x ∷ xs) → split (flat (map chunkBytes (x ∷ xs))) ≡ ok (map pieceOf (x ∷ xs))
 unfolding split rowsOf brokenLine brokenFrom
 split-bytes x xs h =
+    let b : brokenFrom true 2 (x .rows ++ rowsOf (x .ended) xs) ≡ 0 = sound-skip (x .rows) (rowsOf (x .ended) xs) (h .0) (sound-from (x .ended) xs (h .1)) 2 in
     ap splitRows (chunk-rows false (x ∷ xs) h)
-    ∙ split-rows (rowsOf false (x ∷ xs)) (rw (kind-head (x .provider)) (sound-skip (x .rows) (rowsOf (x .ended) xs) (h .0) (sound-from (x .ended) xs (h .1)) 2)) (kind-front false (x .provider))
+    ∙ split-rows (rowsOf false (x ∷ xs)) (rw (kind-head (x .provider)) b) (kind-front false (x .provider))
     ∙ ap ok (pieces-of false (x ∷ xs) h)
 
 -- ---- split: from pieces to chunks
@@ -252,7 +258,14 @@ behind (r ∷ rs) n h ((l, m), c) e = go (kindOf r) refl (spelled r) (λ q. behi
     go (endHead d) p s ih q = subst (λ (x : List ℕ). Behind (x ∷ rs)) (sym (subst (Spelled r) p s)) (behind-head true d (ih q))
     go body p s ih q =
         let b : Behind rs = ih q in
-        record { front = r ∷ b .front; ended = b .ended; chunks = b .chunks; shape = ap (λ (x : List (List ℕ)). r ∷ x) (b .shape); bodies = (p, b .bodies); good = b .good }
+        record {
+          front = r ∷ b .front;
+          ended = b .ended;
+          chunks = b .chunks;
+          shape = ap (λ (x : List (List ℕ)). r ∷ x) (b .shape);
+          bodies = (p, b .bodies);
+          good = b .good;
+        }
     go end p s ih q =
         let w : r ≡ endMark = subst (Spelled r) p s in
         let z : r ∷ rs ≡ endMark ∷ [] = let u : rs ≡ [] = m w in cc in
@@ -365,7 +378,8 @@ chunks-same (x ∷ xs) (y ∷ ys) p e =
     let s : List ℕ = flat (map chunkBytes xs) in
     let t : List ℕ = flat (map chunkBytes ys) in
     let u : headRow (y .provider) ++ (flat (y .rows) ++ (mark (x .ended) ++ s)) ≡ headRow (y .provider) ++ (flat (y .rows) ++ (mark (y .ended) ++ t)) =
-    ap (λ (d : Bool). headRow d ++ (flat (y .rows) ++ (mark (x .ended) ++ s))) (sym a) ∙ ap (λ (z : List (List ℕ)). headRow (x .provider) ++ (flat z ++ (mark (x .ended) ++ s))) (sym b)
+    ap (λ (d : Bool). headRow d ++ (flat (y .rows) ++ (mark (x .ended) ++ s))) (sym a)
+    ∙ ap (λ (z : List (List ℕ)). headRow (x .provider) ++ (flat z ++ (mark (x .ended) ++ s))) (sym b)
     ∙ sym (bytes-cons false x xs) ∙ e ∙ bytes-cons false y ys in
     let w : mark (x .ended) ++ s ≡ mark (y .ended) ++ t =
     cancel (flat (y .rows)) (mark (x .ended) ++ s) (mark (y .ended) ++ t) (cancel (headRow (y .provider)) _ _ u) in

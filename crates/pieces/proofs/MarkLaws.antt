@@ -70,8 +70,9 @@ module _ (i : List ℕ) (n k : ℕ) (hi : validID i ≡ true) (hn : n ≤ 999) (
 
   clean-tail : clean (i ++ 0x2c ∷ (spell n ++ 0x2c ∷ spell k)) ≡ true
   clean-tail =
-      all-append (λ b. not (isStop b)) i (0x2c ∷ (spell n ++ 0x2c ∷ spell k))
-      ∙ rw (digit-clean i (id-is i hi .1)) (all-append (λ b. not (isStop b)) (spell n) (0x2c ∷ spell k) ∙ rw (digit-clean (spell n) (digits-spell n hn)) (digit-clean (spell k) (digits-spell k hk)))
+      let t : clean (spell n ++ 0x2c ∷ spell k) ≡ true =
+      all-append (λ b. not (isStop b)) (spell n) (0x2c ∷ spell k) ∙ rw (digit-clean (spell n) (digits-spell n hn)) (digit-clean (spell k) (digits-spell k hk)) in
+      all-append (λ b. not (isStop b)) i (0x2c ∷ (spell n ++ 0x2c ∷ spell k)) ∙ rw (digit-clean i (id-is i hi .1)) t
 
   written-clean : clean (markLine i n k) ≡ true
   unfolding markLine joined t911
