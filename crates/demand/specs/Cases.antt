@@ -7,7 +7,7 @@ use mathlib.Core.List.{List, [], _∷_, _++_}
 use lib.Dec.{eqb}
 use lib.ListN.{length}
 use Rattle.lists.specs.Lists.{bytes, same}
-use Rattle.characters.specs.Rows.{lineEnd, endMark}
+use Rattle.characters.specs.Rows.{lineEnd}
 use Rattle.calendar.specs.declared.DateRead.{DateRead}
 use Rattle.calendar.specs.declared.DateRead.the-variants.{Date, NotADate}
 use Rattle.calendar.specs.Era.{readDay, writeDay}
@@ -16,6 +16,7 @@ use Rattle.records.specs.Items.{fault}
 use Rattle.notebook.specs.declared.Checked.{Checked}
 use Rattle.notebook.specs.declared.Checked.the-variants.{Accepted, Refused}
 use Rattle.notebook.specs.Check.{checkOf}
+use Rattle.notebook.specs.Samples.{smallFile}
 use Rattle.canonical.specs.declared.Canonical.{Canonical}
 use Rattle.canonical.specs.declared.Canonical.the-variants.{Written, Refused as CanonicalRefused}
 use Rattle.canonical.specs.Canonical.{canonicalOf}
@@ -36,9 +37,6 @@ pub data Case : Type 0 where
   canonical : List ℕ → ℕ → Case
   -- a file, a capacity, and the answer of cut
   cut : List ℕ → ℕ → Cutting → Case
-
-abbrev pub smallFile : List ℕ
-smallFile = bytes "JAHISTC04,2" ++ lineEnd ++ bytes "1,A,1,19890108,,,,,,," ++ lineEnd ++ endMark
 
 -- "That file's record 1 with .. records 4,x,,2"
 abbrev pub notes : ℕ → List ℕ
