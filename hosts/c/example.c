@@ -1,0 +1,114 @@
+/*
+ * example [FILE [CAPACITY]]: checks a file, lists its drugs, makes it canonical, cuts it into pieces for a capacity, shuffles them and
+ * joins them back. Ends with 0; with 1 where the gateway refuses the file; with 2 where the file cannot be read.
+ */
+#include <inttypes.h>
+#include <stdio.h>
+#include <stdlib.h>
+#include <string.h>
+
+#include "notebook.h"
+
+/* One byte more than the limit is read, which is enough to refuse a longer file. */
+static uint8_t file[NOTEBOOK_FILE_MAX + 1];
+static uint32_t entries[NOTEBOOK_INDEX_MAX];
+static uint8_t canonical[NOTEBOOK_CANONICAL_MAX];
+static uint8_t pieces[NOTEBOOK_CUT_MAX];
+static uint8_t shuffled[NOTEBOOK_CUT_MAX];
+static uint8_t joined[NOTEBOOK_JOIN_MAX];
+
+static const uint8_t id[] = "20261115000001";
+
+static int refuse(const char *call, struct notebook_reply r)
+{
+    printf("%s: refused, %" PRIu64 " (%s), line %" PRIu64 "\n", call, r.refusal, notebook_word(r.refusal), r.line);
+    return 1;
+}
+
+/* Where the piece that begins at a position ends: at the next line 1, or at the end of all. */
+static size_t piece_end(size_t at, size_t length)
+{
+    size_t end = at + 1;
+    while (end < length && !(pieces[end - 1] == '\n' && 10 <= length - end && memcmp(pieces + end, "JAHISTC04,", 10) == 0)) {
+        end++;
+    }
+    return end;
+}
+
+/* Copies the pieces of even or of odd place behind what is shuffled already. */
+static size_t every_second(unsigned odd, size_t length, size_t to)
+{
+    size_t at = 0;
+    unsigned place = 1;
+    while (at < length) {
+        size_t end = piece_end(at, length);
+        if (place % 2 == odd) {
+            memcpy(shuffled + to, pieces + at, end - at);
+            to += end - at;
+        }
+        at = end;
+        place++;
+    }
+    return to;
+}
+
+int main(int count, char **words)
+{
+    const char *name = 1 < count ? words[1] : "samples/visit.csv";
+    uint64_t capacity = 2 < count ? strtoull(words[2], NULL, 10) : 160;
+    FILE *input = fopen(name, "rb");
+    struct notebook_reply r;
+    size_t length, bytes, i;
+
+    if (input == NULL) {
+        perror(name);
+        return 2;
+    }
+    length = fread(file, 1, sizeof file, input);
+    if (ferror(input)) {
+        perror(name);
+        return 2;
+    }
+    fclose(input);
+
+    r = notebook_check(file, length);
+    if (r.refusal != NOTEBOOK_ACCEPTED) {
+        return refuse("check", r);
+    }
+    printf("check: %" PRIu64 " records, %" PRIu64 " groups, %" PRIu64 " drugs\n", r.a, r.b, r.c);
+
+    r = notebook_index(file, length, entries, NOTEBOOK_INDEX_MAX);
+    if (r.refusal != NOTEBOOK_ACCEPTED) {
+        return refuse("index", r);
+    }
+    for (i = 0; i < r.a; i++) {
+        const uint32_t *entry = entries + NOTEBOOK_ENTRY_NUMBERS * i;
+        if (entry[0] == 201) {
+            printf("index: a drug in line %lu, bytes %lu to %lu, group %lu, doctor's line %lu\n", (unsigned long)i + 2,
+                   (unsigned long)entry[1], (unsigned long)(entry[1] + entry[2]), (unsigned long)entry[3], (unsigned long)entry[4]);
+        }
+    }
+
+    r = notebook_canonical(file, length, canonical, sizeof canonical);
+    if (r.refusal != NOTEBOOK_ACCEPTED) {
+        return refuse("canonical", r);
+    }
+    bytes = (size_t)r.a;
+    printf("canonical: %lu bytes, from %lu\n", (unsigned long)bytes, (unsigned long)length);
+
+    r = notebook_cut(file, length, capacity, id, NOTEBOOK_ID_LENGTH, pieces, sizeof pieces);
+    if (r.refusal != NOTEBOOK_ACCEPTED) {
+        return refuse("cut", r);
+    }
+    printf("cut: %" PRIu64 " pieces of at most %" PRIu64 " bytes, %" PRIu64 " bytes in all\n", r.a, capacity, r.b);
+
+    length = every_second(0, (size_t)r.b, 0);
+    length = every_second(1, (size_t)r.b, length);
+    r = notebook_join(shuffled, length, joined, sizeof joined);
+    if (r.refusal != NOTEBOOK_ACCEPTED) {
+        return refuse("join", r);
+    }
+    printf("join: %" PRIu64 " bytes, %s the canonical file\n", r.a,
+           r.a == bytes && memcmp(joined, canonical, bytes) == 0 ? "equal to" : "NOT EQUAL TO");
+    return 0;
+}

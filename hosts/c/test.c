@@ -1,0 +1,491 @@
+/*
+ * The five calls from C: document 01's cases, every refusal, and what each call leaves in its output. Prints one line and ends with 0,
+ * or prints each difference and ends with 1.
+ */
+#include <stdio.h>
+#include <stdlib.h>
+#include <string.h>
+
+#include "notebook.h"
+
+static unsigned checks;
+static unsigned differences;
+
+static void hold(int holds, const char *what, int line)
+{
+    checks++;
+    if (!holds) {
+        differences++;
+        printf("test.c:%d: %s\n", line, what);
+    }
+}
+
+#define HOLD(condition) hold((condition), #condition, __LINE__)
+
+static int is(struct notebook_reply r, uint64_t refusal, uint64_t line, uint64_t a, uint64_t b, uint64_t c)
+{
+    int same = r.refusal == refusal && r.line == line && r.a == a && r.b == b && r.c == c;
+    if (!same) {
+        printf("reply %u %u %u %u %u: ", (unsigned)r.refusal, (unsigned)r.line, (unsigned)r.a, (unsigned)r.b, (unsigned)r.c);
+    }
+    return same;
+}
+
+static int result(struct notebook_reply r, uint64_t a, uint64_t b, uint64_t c)
+{
+    return is(r, NOTEBOOK_ACCEPTED, 0, a, b, c);
+}
+
+static int refused(struct notebook_reply r, uint64_t refusal, uint64_t line)
+{
+    return is(r, refusal, line, 0, 0, 0);
+}
+
+/* --- bytes --- */
+
+struct bytes {
+    uint8_t *at;
+    size_t length;
+};
+
+static void *memory(size_t length)
+{
+    void *at = malloc(length ? length : 1);
+    if (at == NULL) {
+        puts("test.c: no memory");
+        exit(2);
+    }
+    return at;
+}
+
+static struct bytes text(const char *s)
+{
+    struct bytes b;
+    b.length = strlen(s);
+    b.at = memory(b.length);
+    memcpy(b.at, s, b.length);
+    return b;
+}
+
+static struct bytes add(struct bytes b, const void *more, size_t length)
+{
+    struct bytes sum;
+    sum.length = b.length + length;
+    sum.at = memory(sum.length);
+    memcpy(sum.at, b.at, b.length);
+    memcpy(sum.at + b.length, more, length);
+    free(b.at);
+    return sum;
+}
+
+static int same(const uint8_t *at, size_t length, struct bytes b)
+{
+    return length == b.length && memcmp(at, b.at, length) == 0;
+}
+
+#define LINE_1 "JAHISTC04,2\r\n"
+#define PATIENT "1,A,1,19890108,,,,,,,\r\n"
+#define CANONICAL_PATIENT "1,A,1,H010108,,,,,,,\r\n"
+#define MEMO "4,x,,2\r\n"
+#define GROUP "5,20160411,2\r\n"
+#define ID "20261115000001"
+
+/* A patient and as many records 4,x,,2. */
+static struct bytes memos(size_t count)
+{
+    struct bytes b;
+    size_t front = strlen(LINE_1 PATIENT);
+    size_t i;
+    b.length = front + 8 * count;
+    b.at = memory(b.length);
+    memcpy(b.at, LINE_1 PATIENT, front);
+    for (i = 0; i < count; i++) {
+        memcpy(b.at + front + 8 * i, MEMO, 8);
+    }
+    return b;
+}
+
+/* --- outputs: a pattern, with guards before and behind what is lent --- */
+
+enum { GUARD = 64 };
+
+static uint8_t pattern(size_t i)
+{
+    return (uint8_t)((7 * i + 3) % 251);
+}
+
+static uint8_t *lend(size_t length)
+{
+    uint8_t *all = memory(length + 2 * GUARD);
+    size_t i;
+    for (i = 0; i < length + 2 * GUARD; i++) {
+        all[i] = pattern(i);
+    }
+    return all + GUARD;
+}
+
+/* Whether the pattern stands before the output, and from an index of it on to the end of the guard behind. */
+static int kept(const uint8_t *out, size_t length, size_t from)
+{
+    const uint8_t *all = out - GUARD;
+    size_t i;
+    for (i = 0; i < length + 2 * GUARD; i++) {
+        if ((i < GUARD || GUARD + from <= i) && all[i] != pattern(i)) {
+            return 0;
+        }
+    }
+    return 1;
+}
+
+static void give_back(uint8_t *out)
+{
+    free(out - GUARD);
+}
+
+/* --- pieces --- */
+
+static int begins_piece(const uint8_t *at, size_t left)
+{
+    return 10 <= left && memcmp(at, "JAHISTC04,", 10) == 0;
+}
+
+/* The pieces from the last to the first, with a 1Ah behind each if asked for. */
+static struct bytes backwards(const uint8_t *pieces, size_t length, int with_end_mark)
+{
+    struct bytes b = text("");
+    size_t end = length;
+    size_t at = length;
+    while (0 < at) {
+        at--;
+        if (begins_piece(pieces + at, length - at)) {
+            b = add(b, pieces + at, end - at);
+            if (with_end_mark) {
+                b = add(b, "\x1a", 1);
+            }
+            end = at;
+        }
+    }
+    return b;
+}
+
+static void join_gives(struct bytes pieces, struct bytes file)
+{
+    size_t length = file.length + 9;
+    uint8_t *out = lend(length);
+    HOLD(result(notebook_join(pieces.at, pieces.length, out, length), file.length, 0, 0));
+    HOLD(same(out, file.length, file) && kept(out, length, file.length));
+    give_back(out);
+
+    out = lend(file.length);
+    HOLD(result(notebook_join(pieces.at, pieces.length, out, file.length), file.length, 0, 0));
+    HOLD(same(out, file.length, file) && kept(out, file.length, file.length));
+    give_back(out);
+
+    out = lend(file.length - 1);
+    HOLD(refused(notebook_join(pieces.at, pieces.length, out, file.length - 1), NOTEBOOK_SHORT, 0));
+    HOLD(kept(out, file.length - 1, 0));
+    give_back(out);
+}
+
+static void join_refuses(struct bytes pieces, uint64_t refusal, uint64_t line)
+{
+    uint8_t *out = lend(NOTEBOOK_JOIN_MAX);
+    HOLD(refused(notebook_join(pieces.at, pieces.length, out, NOTEBOOK_JOIN_MAX), refusal, line));
+    HOLD(kept(out, NOTEBOOK_JOIN_MAX, 0));
+    give_back(out);
+}
+
+/* --- document 01's cases --- */
+
+static void small_file(void)
+{
+    struct bytes file = text(LINE_1 PATIENT "\x1a");
+    struct bytes canonical = text(LINE_1 CANONICAL_PATIENT);
+    uint32_t numbers[8];
+    uint8_t *out = lend(40);
+
+    HOLD(file.length == 37);
+    HOLD(canonical.length == 35);
+    HOLD(result(notebook_check(file.at, file.length), 1, 0, 0));
+
+    HOLD(result(notebook_canonical(file.at, file.length, out, 40), 35, 0, 0));
+    HOLD(same(out, 35, canonical) && kept(out, 40, 35));
+    give_back(out);
+
+    out = lend(35);
+    HOLD(result(notebook_canonical(file.at, file.length, out, 35), 35, 0, 0));
+    HOLD(same(out, 35, canonical) && kept(out, 35, 35));
+    give_back(out);
+
+    out = lend(34);
+    HOLD(refused(notebook_canonical(file.at, file.length, out, 34), NOTEBOOK_SHORT, 0));
+    HOLD(kept(out, 34, 0));
+    HOLD(refused(notebook_canonical(file.at, file.length, out, 0), NOTEBOOK_SHORT, 0));
+    HOLD(kept(out, 34, 0));
+    give_back(out);
+
+    memset(numbers, 0x5a, sizeof numbers);
+    HOLD(refused(notebook_index(file.at, file.length, numbers, 5), NOTEBOOK_SHORT, 0));
+    HOLD(numbers[0] == 0x5a5a5a5a && numbers[5] == 0x5a5a5a5a);
+    HOLD(result(notebook_index(file.at, file.length, numbers, 7), 1, 0, 0));
+    HOLD(numbers[0] == 1 && numbers[1] == 13 && numbers[2] == 21);
+    HOLD(numbers[3] == 0 && numbers[4] == 0 && numbers[5] == 0);
+    HOLD(numbers[6] == 0x5a5a5a5a && numbers[7] == 0x5a5a5a5a);
+
+    free(canonical.at);
+    free(file.at);
+}
+
+static struct notebook_reply cut(struct bytes file, uint64_t capacity, const char *id, uint8_t *out, size_t out_length)
+{
+    return notebook_cut(file.at, file.length, capacity, (const uint8_t *)id, strlen(id), out, out_length);
+}
+
+/* Cuts into count pieces of so many bytes in all, with outputs that are longer, exactly long enough and one byte short; joins them back. */
+static void cut_gives(size_t records, uint64_t capacity, uint64_t count, size_t bytes)
+{
+    struct bytes file = memos(records);
+    struct bytes canonical = text("");
+    struct bytes pieces;
+    uint8_t *out = lend(NOTEBOOK_CANONICAL_MAX);
+    uint8_t *first = lend(NOTEBOOK_CUT_MAX);
+    struct notebook_reply r = notebook_canonical(file.at, file.length, out, NOTEBOOK_CANONICAL_MAX);
+    canonical = add(canonical, out, (size_t)r.a);
+    give_back(out);
+
+    HOLD(result(cut(file, capacity, ID, first, NOTEBOOK_CUT_MAX), count, bytes, 0));
+    HOLD(kept(first, NOTEBOOK_CUT_MAX, bytes));
+
+    out = lend(bytes);
+    HOLD(result(cut(file, capacity, ID, out, bytes), count, bytes, 0));
+    HOLD(memcmp(out, first, bytes) == 0 && kept(out, bytes, bytes));
+    give_back(out);
+
+    out = lend(bytes - 1);
+    HOLD(refused(cut(file, capacity, ID, out, bytes - 1), NOTEBOOK_SHORT, 0));
+    HOLD(kept(out, bytes - 1, 0));
+    give_back(out);
+
+    pieces = backwards(first, bytes, 0);
+    HOLD(pieces.length == bytes);
+    join_gives(pieces, canonical);
+    free(pieces.at);
+    pieces = backwards(first, bytes, 1);
+    HOLD(pieces.length == bytes + count);
+    join_gives(pieces, canonical);
+    free(pieces.at);
+
+    give_back(first);
+    free(canonical.at);
+    free(file.at);
+}
+
+static void cut_refuses(struct bytes file, uint64_t capacity, const char *id, uint64_t refusal, uint64_t line)
+{
+    uint8_t *out = lend(NOTEBOOK_CUT_MAX);
+    HOLD(refused(cut(file, capacity, id, out, NOTEBOOK_CUT_MAX), refusal, line));
+    HOLD(kept(out, NOTEBOOK_CUT_MAX, 0));
+    give_back(out);
+}
+
+static void cuttings(void)
+{
+    struct bytes file = memos(18);
+    cut_gives(20, 69, 6, 404);
+    cut_gives(18, 60, 10, 547);
+    cut_gives(2, 51, 1, 51);
+    cut_refuses(file, 59, ID, NOTEBOOK_NO_CUTTING, 0);
+    cut_refuses(file, 0, ID, NOTEBOOK_NO_CUTTING, 0);
+    cut_refuses(file, 60, "", NOTEBOOK_ID, 0);
+    cut_refuses(file, 60, "2026111500000", NOTEBOOK_ID, 0);
+    cut_refuses(file, 60, "202611150000011", NOTEBOOK_ID, 0);
+    cut_refuses(file, 60, "2026111500000x", NOTEBOOK_ID, 0);
+    cut_refuses(file, 59, "x", NOTEBOOK_ID, 0);
+    cut_refuses(file, UINT64_MAX, "x", NOTEBOOK_ID, 0);
+    free(file.at);
+    file = memos(2);
+    cut_refuses(file, 50, ID, NOTEBOOK_NO_CUTTING, 0);
+    free(file.at);
+}
+
+/* --- refusals of a file, by every call that takes one --- */
+
+static void every_call_refuses(struct bytes file, uint64_t refusal, uint64_t line)
+{
+    uint8_t *out = lend(NOTEBOOK_CUT_MAX);
+    uint32_t *numbers = memory(sizeof(uint32_t) * NOTEBOOK_INDEX_MAX);
+    size_t i;
+    int as_lent = 1;
+    for (i = 0; i < NOTEBOOK_INDEX_MAX; i++) {
+        numbers[i] = (uint32_t)(7919 * i + 13);
+    }
+
+    HOLD(refused(notebook_check(file.at, file.length), refusal, line));
+    HOLD(refused(notebook_index(file.at, file.length, numbers, NOTEBOOK_INDEX_MAX), refusal, line));
+    HOLD(refused(notebook_canonical(file.at, file.length, out, NOTEBOOK_CANONICAL_MAX), refusal, line));
+    HOLD(refused(cut(file, 60, ID, out, NOTEBOOK_CUT_MAX), refusal, line));
+    /* A refusal of the file comes before those of the ID and of the output. */
+    HOLD(refused(cut(file, 60, "x", out, 0), refusal, line));
+    HOLD(refused(notebook_index(file.at, file.length, numbers, 0), refusal, line));
+    HOLD(refused(notebook_canonical(file.at, file.length, out, 0), refusal, line));
+
+    HOLD(kept(out, NOTEBOOK_CUT_MAX, 0));
+    for (i = 0; i < NOTEBOOK_INDEX_MAX; i++) {
+        as_lent &= numbers[i] == (uint32_t)(7919 * i + 13);
+    }
+    HOLD(as_lent);
+    free(numbers);
+    give_back(out);
+}
+
+static void refusals(void)
+{
+    static const struct {
+        const char *file;
+        uint64_t refusal, line;
+    } cases[] = {
+        {"", NOTEBOOK_LINE_END, 1},
+        {"\x1a", NOTEBOOK_LINE_END, 1},
+        {LINE_1 "1,A,1,19890108,,,,,,,", NOTEBOOK_LINE_END, 2},
+        {"JAHISTC04,3\r\n", NOTEBOOK_VERSION, 1},
+        {LINE_1 PATIENT "4,\xff,,2\r\n", NOTEBOOK_CHARACTER, 3},
+        {LINE_1 PATIENT "999,x\r\n", NOTEBOOK_RECORD, 3},
+        {LINE_1 PATIENT "911,20261115000001,2,1\r\n", NOTEBOOK_PIECE, 3},
+        {LINE_1 PATIENT "4,x,2\r\n", NOTEBOOK_ITEMS, 3},
+        {LINE_1 PATIENT "4,,,2\r\n", NOTEBOOK_EMPTY, 3},
+        {LINE_1 "1,AAAAAAAAAAAAAAAAAAAAAAAAAAAAAAAAAAAAAAAAA,1,19890108,,,,,,,\r\n", NOTEBOOK_LONG, 2},
+        {LINE_1 PATIENT "4, x,,2\r\n", NOTEBOOK_EDGE, 3},
+        {LINE_1 PATIENT "4,x,,3\r\n", NOTEBOOK_FORM, 3},
+        {LINE_1 PATIENT GROUP "201,1,x,1,T,2,,2\r\n", NOTEBOOK_PAIR, 4},
+        {LINE_1 PATIENT MEMO "2,1,x,2\r\n", NOTEBOOK_PLACE, 4},
+        {LINE_1, NOTEBOOK_MISSING, 2},
+        {LINE_1 PATIENT GROUP "201,2,x,1,T,1,,2\r\n", NOTEBOOK_RP, 4},
+        {LINE_1 PATIENT GROUP "5,20160412,2\r\n", NOTEBOOK_DATE_ORDER, 4},
+    };
+    struct bytes file = memos(8187);
+    size_t i;
+    file = add(file, "4,x,,", 5);
+    HOLD(file.length == NOTEBOOK_FILE_MAX + 1);
+    every_call_refuses(file, NOTEBOOK_LARGE, 0);
+    free(file.at);
+    for (i = 0; i < sizeof cases / sizeof cases[0]; i++) {
+        file = text(cases[i].file);
+        every_call_refuses(file, cases[i].refusal, cases[i].line);
+        free(file.at);
+    }
+}
+
+/* --- sets of pieces --- */
+
+#define PIECE_1 LINE_1 CANONICAL_PATIENT "911," ID ",2,1\r\n"
+#define PIECE_2 LINE_1 MEMO "911," ID ",2,2\r\n"
+
+static void sets(void)
+{
+    static const struct {
+        const char *pieces;
+        uint64_t refusal, line;
+    } cases[] = {
+        {"", NOTEBOOK_LINE_END, 1},
+        {PIECE_1 "\x1a\x1a" PIECE_2, NOTEBOOK_LINE_END, 4},
+        {PIECE_1, NOTEBOOK_SET, 0},
+        {PIECE_1 PIECE_1, NOTEBOOK_SET, 0},
+        {PIECE_2 PIECE_1 PIECE_2, NOTEBOOK_SET, 0},
+        {PIECE_1 LINE_1 MEMO "911,20261115000002,2,2\r\n", NOTEBOOK_SET, 0},
+        {PIECE_1 LINE_1 MEMO, NOTEBOOK_SET, 0},
+        {MEMO PIECE_1 PIECE_2, NOTEBOOK_SET, 0},
+        {LINE_1 MEMO "911," ID ",2,1\r\n" LINE_1 PATIENT "911," ID ",2,2\r\n", NOTEBOOK_MISSING, 2},
+    };
+    struct bytes pieces = text(PIECE_2 "\x1a" PIECE_1 "\x1a");
+    struct bytes file = text(LINE_1 CANONICAL_PATIENT MEMO);
+    size_t i;
+    join_gives(pieces, file);
+    free(pieces.at);
+
+    /* One piece without a record 911 is a file by itself, and is joined as it is spelled. */
+    free(file.at);
+    file = text(LINE_1 PATIENT MEMO);
+    join_gives(file, file);
+    free(file.at);
+
+    for (i = 0; i < sizeof cases / sizeof cases[0]; i++) {
+        pieces = text(cases[i].pieces);
+        join_refuses(pieces, cases[i].refusal, cases[i].line);
+        free(pieces.at);
+    }
+}
+
+/* --- limits --- */
+
+static void limits(void)
+{
+    /* With 8,186 memos the file has 65,524 bytes; one more of 12 bytes fills it. */
+    struct bytes file = memos(8186);
+    struct bytes pieces;
+    uint32_t *numbers = memory(sizeof(uint32_t) * NOTEBOOK_INDEX_MAX);
+    uint8_t *out = lend(NOTEBOOK_CUT_MAX);
+    uint8_t *joined = lend(NOTEBOOK_JOIN_MAX);
+    uint64_t capacity;
+    struct notebook_reply r;
+
+    file = add(file, "4,xxxxx,,2\r\n", 12);
+    HOLD(file.length == NOTEBOOK_FILE_MAX);
+    HOLD(result(notebook_check(file.at, file.length), 8188, 0, 0));
+    HOLD(result(notebook_index(file.at, file.length, numbers, NOTEBOOK_INDEX_MAX), 8188, 0, 0));
+    HOLD(numbers[6 * 8187] == 4 && numbers[6 * 8187 + 1] == 65524 && numbers[6 * 8187 + 2] == 10);
+    HOLD(result(notebook_canonical(file.at, file.length, out, NOTEBOOK_CANONICAL_MAX), 65535, 0, 0));
+
+    /* The smallest capacity that serves: as many pieces as there can be for this file. */
+    capacity = 60;
+    r = cut(file, capacity, ID, out, NOTEBOOK_CUT_MAX);
+    while (r.refusal == NOTEBOOK_NO_CUTTING && capacity < 200) {
+        capacity++;
+        r = cut(file, capacity, ID, out, NOTEBOOK_CUT_MAX);
+    }
+    HOLD(r.refusal == 0 && 900 <= r.a && r.a <= NOTEBOOK_PIECE_COUNT_MAX && r.b <= NOTEBOOK_CUT_MAX);
+    pieces = backwards(out, (size_t)r.b, 1);
+    HOLD(pieces.length == r.b + r.a);
+    HOLD(result(notebook_join(pieces.at, pieces.length, joined, NOTEBOOK_JOIN_MAX), 65535, 0, 0));
+    HOLD(kept(joined, NOTEBOOK_JOIN_MAX, 65535));
+    HOLD(result(notebook_canonical(file.at, file.length, out, NOTEBOOK_CANONICAL_MAX), 65535, 0, 0));
+    HOLD(memcmp(out, joined, 65535) == 0);
+    free(pieces.at);
+    free(file.at);
+
+    file = memos(16379);
+    HOLD(file.length == 131068);
+    join_refuses(file, NOTEBOOK_LARGE, 0);
+    file = add(file, "4,x,", 4);
+    HOLD(file.length == NOTEBOOK_PIECES_MAX);
+    join_refuses(file, NOTEBOOK_LINE_END, 16382);
+    file = add(file, ",", 1);
+    join_refuses(file, NOTEBOOK_LARGE, 0);
+    free(file.at);
+
+    give_back(joined);
+    give_back(out);
+    free(numbers);
+}
+
+static void words(void)
+{
+    HOLD(strcmp(notebook_word(NOTEBOOK_ACCEPTED), "ok") == 0);
+    HOLD(strcmp(notebook_word(NOTEBOOK_LARGE), "large") == 0);
+    HOLD(strcmp(notebook_word(NOTEBOOK_EDGE), "edge") == 0);
+    HOLD(strcmp(notebook_word(NOTEBOOK_DATE_ORDER), "date order") == 0);
+    HOLD(strcmp(notebook_word(NOTEBOOK_SHORT), "short") == 0);
+    HOLD(strcmp(notebook_word(21), "unknown") == 0);
+    HOLD(strcmp(notebook_word(UINT64_MAX), "unknown") == 0);
+}
+
+int main(void)
+{
+    small_file();
+    cuttings();
+    refusals();
+    sets();
+    limits();
+    words();
+    printf("test.c: %u checks, %u differences\n", checks, differences);
+    return differences != 0;
+}
