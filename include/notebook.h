@@ -35,12 +35,12 @@ enum {
 
 /* Outputs of these sizes are never too short (NOTEBOOK_SHORT is then not given). */
 enum {
-    NOTEBOOK_ENTRY_NUMBERS = 6,      /* numbers of a record in an index */
-    NOTEBOOK_RECORDS_MAX = 8192,     /* no record line is shorter than 8 bytes */
-    NOTEBOOK_INDEX_MAX = 6 * 8192,   /* numbers of an index, of 4 bytes each */
-    NOTEBOOK_CANONICAL_MAX = 65536,  /* bytes: a canonical file is never longer than the file */
-    NOTEBOOK_CUT_MAX = 106482,       /* bytes: the records, and at most 41 more in each of 999 pieces */
-    NOTEBOOK_JOIN_MAX = 65536        /* bytes: the joined file is within the limit of a file */
+    NOTEBOOK_ENTRY_NUMBERS = 6,     /* numbers of a record in an index */
+    NOTEBOOK_RECORDS_MAX = 8192,    /* no record is shorter than 8 bytes, its line end included */
+    NOTEBOOK_INDEX_MAX = 6 * 8192,  /* numbers of an index, of 4 bytes each */
+    NOTEBOOK_CANONICAL_MAX = 65536, /* bytes: a canonical file is never longer than the file */
+    NOTEBOOK_CUT_MAX = 106482,      /* bytes: the records, and at most 41 more in each of 999 pieces */
+    NOTEBOOK_JOIN_MAX = 65536       /* bytes: the joined file is within the limit of a file */
 };
 
 /* Refusals. 1 to 16 are about a file, 17 and 18 about what cut was asked for, 19 about a set of pieces, 20 about the output. */
@@ -72,8 +72,9 @@ enum {
 static inline const char *notebook_word(uint64_t refusal)
 {
     static const char *const words[] = {
-        "ok",    "large", "line end", "version", "character", "record",  "piece", "items",      "empty", "long",      "edge",
-        "form",  "pair",  "place",    "missing", "RP",        "date order", "ID",    "no cutting", "set",   "short",
+        "ok",      "large", "line end",   "version", "character",  "record", "piece", /* 0 to 6 */
+        "items",   "empty", "long",       "edge",    "form",       "pair",   "place", /* 7 to 13 */
+        "missing", "RP",    "date order", "ID",      "no cutting", "set",    "short", /* 14 to 20 */
     };
     return refusal < sizeof words / sizeof words[0] ? words[refusal] : "unknown";
 }
@@ -120,8 +121,8 @@ struct notebook_reply notebook_canonical(const uint8_t *file, size_t file_length
  * otherwise each of the 2 to 999 pieces ends with 911, the ID, their count and its place.
  * Result: a pieces, b bytes of all pieces; the first b bytes of out are the pieces, one after another, each beginning with the file's
  * line 1; the bytes behind them are as they were.
- * Refusals: 1 to 16; then 17 if the ID is not 14 digits, also where no record 911 is needed; then 18 if there is no such cutting; then 20 if
- * out is shorter than the pieces. out is as it was.
+ * Refusals: 1 to 16; then 17 if the ID is not 14 digits, also where no record 911 is needed; then 18 if there is no such cutting; then
+ * 20 if out is shorter than the pieces. out is as it was.
  */
 struct notebook_reply notebook_cut(const uint8_t *file, size_t file_length, uint64_t capacity, const uint8_t *id, size_t id_length,
                                    uint8_t *out, size_t out_length);
@@ -130,8 +131,8 @@ struct notebook_reply notebook_cut(const uint8_t *file, size_t file_length, uint
  * Joins pieces that lie one after another in any order, with or without a 1Ah after each, and checks the joined file.
  * Result: a bytes; the first a bytes of out are the joined file, without records 911 and 1Ah, and those behind them are as they were. Items
  * are spelled as in the pieces: those that cut wrote join to the canonical file.
- * Refusals: 1 and 2 on the pieces, with the line counted over all of them; then 19 if they are not one whole set; then 1 to 16 on the joined
- * file, with its line; then 20 if out is shorter than the joined file. out is as it was.
+ * Refusals: 1 and 2 on the pieces, with the line counted over all of them; then 19 if they are not one whole set; then 1 to 16 on the
+ * joined file, with its line; then 20 if out is shorter than the joined file. out is as it was.
  */
 struct notebook_reply notebook_join(const uint8_t *pieces, size_t pieces_length, uint8_t *out, size_t out_length);
 

@@ -469,11 +469,16 @@ static void limits(void)
 
 static void words(void)
 {
+    /* Document 01's table, in its order. */
+    static const char *const table[] = {
+        "large", "line end", "version", "character", "record", "piece",      "items", "empty",      "long", "edge",
+        "form",  "pair",     "place",   "missing",   "RP",     "date order", "ID",    "no cutting", "set",  "short",
+    };
+    uint64_t i;
+    for (i = 1; i <= NOTEBOOK_SHORT; i++) {
+        HOLD(strcmp(notebook_word(i), table[i - 1]) == 0);
+    }
     HOLD(strcmp(notebook_word(NOTEBOOK_ACCEPTED), "ok") == 0);
-    HOLD(strcmp(notebook_word(NOTEBOOK_LARGE), "large") == 0);
-    HOLD(strcmp(notebook_word(NOTEBOOK_EDGE), "edge") == 0);
-    HOLD(strcmp(notebook_word(NOTEBOOK_DATE_ORDER), "date order") == 0);
-    HOLD(strcmp(notebook_word(NOTEBOOK_SHORT), "short") == 0);
     HOLD(strcmp(notebook_word(21), "unknown") == 0);
     HOLD(strcmp(notebook_word(UINT64_MAX), "unknown") == 0);
 }
