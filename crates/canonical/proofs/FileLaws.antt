@@ -31,7 +31,7 @@ use Rattle.buffers.proofs.Runs.{carry, sets-append, sets-all}
 use Rattle.notebook.specs.Notebook.{Notebook, stepLine, prepend, closed, onward, recordsFrom}
 use Rattle.notebook.specs.Check.{Judged, Behind, Closing}
 use Rattle.notebook.proofs.StepLaws.{Placed, placed, place-number}
-use Rattle.notebook.proofs.CheckLaws.{line-size}
+use Rattle.notebook.proofs.LineFacts.{line-facts, whole-line, whole-length, records-end, records-mark, records-broken, records-on}
 use Rattle.canonical.specs.declared.Canonical.{Canonical}
 use Rattle.canonical.specs.declared.Canonical.the-variants.{Written, Refused}
 use Rattle.canonical.specs.Canonical.{ended, recordRow, recordRows}
@@ -141,72 +141,28 @@ module _ {provider : Bool} {s : List ℕ} {from : ℕ} {d : List ℕ} {st : Stat
   answer {r} m = record { means = subst (λ (x : Res Output). PouredMeans x d′ r) (sym (v .left)) m; size = v .size ∙ v .full }
 
   module _ {stops : List ℕ} {k : Line} (w : LineOf s at stops k) where
-    means : {j : Line} → k ≡ j → LineMeans s at stops j
-    means e = subst (LineMeans s at stops) e (w .means)
-
     ends : {r : Canonical} → recordsFrom st (rows (drop at s)) ≡ closed st → r ≡ closing st next → Poured (poured d from (recordsFrom (start provider) (rows (drop from s)))) d′ r
     ends {r} q e = answer (subst (λ (x : Res (List Record)). PouredMeans (poured d′ next x) d′ r) (sym q) (pour-end d′ st next pouring-end e))
 
     pub poured-end : {r : Canonical} → k ≡ End → r ≡ closing st next → Poured (poured d from (recordsFrom (start provider) (rows (drop from s)))) d′ r
-    unfolding recordsFrom
-    poured-end e q = ends (ap (recordsFrom st) (means e)) q
+    poured-end e q = ends (records-end w st e) q
 
     pub poured-mark : {r : Canonical} → k ≡ Mark → r ≡ closing st next → Poured (poured d from (recordsFrom (start provider) (rows (drop from s)))) d′ r
-    unfolding recordsFrom
-    poured-mark e q = ends (ap (recordsFrom st) (means e)) q
+    poured-mark e q = ends (records-mark w st e) q
 
     refusal : {n : ℕ} → recordsFrom st (rows (drop at s)) ≡ refused n (st .line + 1) → Poured (poured d from (recordsFrom (start provider) (rows (drop from s)))) d′ (Refused n (st .line + 1))
     unfolding poured
     refusal {n} q = answer {r = Refused n (st .line + 1)} (ap (poured d′ next) q)
 
     pub poured-broken : k ≡ Broken → Poured (poured d from (recordsFrom (start provider) (rows (drop from s)))) d′ (Refused 2 (st .line + 1))
-    unfolding recordsFrom
-    poured-broken e = refusal (go (rows (drop at s)) (means e))
-      where
-        go : (rs : List (List ℕ)) → BrokenRow rs → recordsFrom st rs ≡ refused 2 (st .line + 1)
-        go [] b = absurd b
-        go (r ∷ rs) b = rw (b .1, b .0)
+    poured-broken e = refusal (records-broken w st e)
 
     module _ {e : ℕ} {good : Bool} {commas : ℕ} (q : k ≡ Whole e good commas) where
-      scanned : ScannedLine s at stops e good commas
-      scanned = means q
-
-      whole : WholeLine s at e good
-      whole = scanned .line
-
-      pub pouring-low : at ≤ e
-      pouring-low = whole .low
-
-      pub pouring-high : e ≤ length s
-      pouring-high = omega (arith, whole .high)
-
-      pub pouring-sum : Fits w64 (e + 2)
-      pouring-sum = omega (arith, whole .high, v .small)
-
-      pub pouring-less : length s - (e + 2) < length s - at
-      pouring-less = omega (arith, whole .high, whole .low)
-
-      pub pouring-commas : Commas (take (e - at) (drop at s)) commas
-      pouring-commas = record { is = scanned .commas }
-
-      pub pouring-places : Stops (take (e - at) (drop at s)) stops
-      pouring-places = scanned .places
-
-      pub pouring-judged : Judged good (take (e - at) (drop at s))
-      pouring-judged = record { chars = whole .chars }
-
-      part-length : length (part s at e) ≡ e - at
-      part-length = length-take-le (e - at) (drop at s) (omega (arith, whole .low, whole .high, length-drop at s))
-
       onwards : Moved → Res (List Record)
       onwards = onward (st .line + 1) (recordOf (part s at e)) (λ t. recordsFrom t (rows (drop (e + 2) s)))
 
-      line-row : recordsFrom st (rows (drop at s)) ≡ onwards (stepLine st (part s at e))
-      unfolding recordsFrom onwards
-      line-row = rw (whole .cut, line-no-mark (part s at e), line-is (part s at e) (whole .clear), line-text (part s at e) (whole .clear))
-
       pub pouring-room : LineRoom d′ next (take (e - at) (drop at s))
-      pouring-room = record { room = omega (arith, part-length, v .behind, v .size, v .full, v .small, whole .high, whole .low) }
+      pouring-room = record { room = omega (arith, whole-length w q, v .behind, v .size, v .full, v .small, whole-line w q .high, whole-line w q .low) }
 
       module _ {d″ : List ℕ} {t : Taken} (o : TakenOf st (take (e - at) (drop at s)) d′ d″ next t) where
         pub pouring-size : length d″ ≡ length d
@@ -219,7 +175,7 @@ module _ {provider : Bool} {s : List ℕ} {from : ℕ} {d : List ℕ} {st : Stat
         unfolding onward onwards
         poured-refused {j} u =
             let x = takes u in
-            subst (λ (y : List ℕ). Poured (poured d from (recordsFrom (start provider) (rows (drop from s)))) y (Refused j (st .line + 1))) (sym (x .1)) (refusal (line-row ∙ ap onwards (x .0)))
+            subst (λ (y : List ℕ). Poured (poured d from (recordsFrom (start provider) (rows (drop from s)))) y (Refused j (st .line + 1))) (sym (x .1)) (refusal (records-on w q st ∙ ap onwards (x .0)))
 
         pub pouring-on : {after : State} {behind : ℕ} → t ≡ TakenOn after behind → Pouring provider s from d after (e + 2) d″ behind
         unfolding onward onwards
@@ -229,18 +185,18 @@ module _ {provider : Bool} {s : List ℕ} {from : ℕ} {d : List ℕ} {st : Stat
             let l : after .line ≡ st .line + 1 = next-line st (factsOf (recordOf (part s at e))) after (x .rp) (x .doctor) (p .step) in
             let short : length (recordRow (recordOf (part s at e))) ≤ length (part s at e) + 2 = row-length st (part s at e) (p .sound) in
             record {
-              left = v .left ∙ ap (poured d′ next) (line-row ∙ ap onwards (x .step))
+              left = v .left ∙ ap (poured d′ next) (records-on w q st ∙ ap onwards (x .step))
                   ∙ pour-record d′ next (recordOf (part s at e)) (recordsFrom after (rows (drop (e + 2) s)))
                   ∙ ap (λ (y : List ℕ). poured y (next + length (recordRow (recordOf (part s at e)))) (recordsFrom after (rows (drop (e + 2) s)))) (sym (x .wrote .list))
                   ∙ ap (λ (y : ℕ). poured d″ y (recordsFrom after (rows (drop (e + 2) s)))) (sym (x .wrote .next));
               size = o .size ∙ v .size;
               full = v .full;
-              behind = omega (arith, x .wrote .next, short, part-length, v .behind, whole .low);
+              behind = omega (arith, x .wrote .next, short, whole-length w q, v .behind, whole-line w q .low);
               room = room st (factsOf (recordOf (part s at e))) after (x .rp) (x .doctor) (p .step) (v .room) (omega (arith, l, v .line, v .high, v .small));
               low = omega (arith, l);
-              line = omega (arith, l, v .line, whole .low);
-              high = whole .high;
+              line = omega (arith, l, v .line, whole-line w q .low);
+              high = whole-line w q .high;
               small = v .small;
             }
 
-pub ruleset pouring-laws = (line-size, pouring-start, pouring-closing, pouring-end, pouring-fits, poured-end, poured-mark, poured-broken, pouring-low, pouring-high, pouring-sum, pouring-less, pouring-commas, pouring-places, pouring-judged, pouring-room, pouring-size, poured-refused, pouring-on)
+pub ruleset pouring-laws = (line-facts, pouring-start, pouring-closing, pouring-end, pouring-fits, poured-end, poured-mark, poured-broken, pouring-room, pouring-size, poured-refused, pouring-on)

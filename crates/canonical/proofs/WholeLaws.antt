@@ -20,7 +20,8 @@ use Rattle.buffers.proofs.Runs.{then, front, sets-all}
 use Rattle.notebook.specs.Notebook.{Notebook, recordsFrom, notebookOf, readFile}
 use Rattle.notebook.specs.Check.{directionOf, Behind}
 use Rattle.notebook.proofs.ReadLaws.{read-large, read-end, read-mark, read-broken, read-provider, read-patient, read-version, line-1-high, line-1-fits, line-1-behind}
-use Rattle.notebook.proofs.CheckLaws.{line-size, zeros-size}
+use Rattle.notebook.proofs.LineFacts.{line-size}
+use Rattle.notebook.proofs.CheckLaws.{zeros-size}
 use Rattle.canonical.specs.declared.Canonical.{Canonical}
 use Rattle.canonical.specs.declared.Canonical.the-variants.{Written, Refused}
 use Rattle.canonical.specs.Canonical.{headRow, recordRows, canonicalBytes, answered, canonicalOf, bytesOf, bufferAfter, canonicalBuffer}

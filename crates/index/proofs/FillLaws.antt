@@ -31,7 +31,7 @@ use Rattle.buffers.proofs.Runs.{carry}
 use Rattle.notebook.specs.Notebook.{stepLine}
 use Rattle.notebook.specs.Check.{Judged, Behind}
 use Rattle.notebook.proofs.StepLaws.{Placed, placed, place-number}
-use Rattle.notebook.proofs.CheckLaws.{line-size}
+use Rattle.notebook.proofs.LineFacts.{line-facts, line-means, whole-line, whole-fits, whole-length}
 use Rattle.index.specs.Index.{Entry, entryOf, entered, entriesFrom, numbers, Spanned}
 
 -- ---- one entry
@@ -87,58 +87,28 @@ module _ {provider : Bool} {s : List ℕ} {from : ℕ} {d : List ℕ} {st : Stat
   }
 
   module _ {stops : List ℕ} {k : Line} (w : LineOf s at stops k) where
-    means : {j : Line} → k ≡ j → LineMeans s at stops j
-    means e = subst (LineMeans s at stops) e (w .means)
-
     pub filling-end : k ≡ End → Wrote d d′ 0 next (rest s (start provider) from)
     unfolding entriesFrom
-    filling-end e = all-written (ap (entriesFrom st at) (means e))
+    filling-end e = all-written (ap (entriesFrom st at) (line-means w e))
 
     pub filling-mark : k ≡ Mark → Wrote d d′ 0 next (rest s (start provider) from)
     unfolding entriesFrom isLine
-    filling-mark e = all-written (ap (entriesFrom st at) (means e))
+    filling-mark e = all-written (ap (entriesFrom st at) (line-means w e))
 
     pub filling-broken : k ≡ Broken → Wrote d d′ 0 next (rest s (start provider) from)
     unfolding entriesFrom
-    filling-broken e = all-written (go (rows (drop at s)) (means e))
+    filling-broken e = all-written (go (rows (drop at s)) (line-means w e))
       where
         go : (rs : List (List ℕ)) → BrokenRow rs → entriesFrom st at rs ≡ []
         go [] b = absurd b
         go (r ∷ rs) b = rw (b .0)
 
     module _ {e : ℕ} {good : Bool} {commas : ℕ} (q : k ≡ Whole e good commas) where
-      scanned : ScannedLine s at stops e good commas
-      scanned = means q
-
-      whole : WholeLine s at e good
-      whole = scanned .line
-
-      pub filling-commas : Commas (take (e - at) (drop at s)) commas
-      filling-commas = record { is = scanned .commas }
-
-      pub filling-places : Stops (take (e - at) (drop at s)) stops
-      filling-places = scanned .places
-
-      pub filling-low : at ≤ e
-      filling-low = whole .low
-
-      pub filling-high : e ≤ length s
-      filling-high = omega (arith, whole .high)
-
       pub filling-fits : Fits w64 (e + 2)
-      filling-fits = omega (arith, whole .high, v .small)
-
-      pub filling-less : length s - (e + 2) < length s - at
-      filling-less = omega (arith, whole .high, whole .low)
+      filling-fits = whole-fits w q (v .small)
 
       pub filling-span : Spanned at e
-      filling-span = record { low = whole .low; small = omega (arith, whole .high, v .small) }
-
-      pub filling-judged : Judged good (take (e - at) (drop at s))
-      filling-judged = record { chars = whole .chars }
-
-      part-length : length (part s at e) ≡ e - at
-      part-length = length-take-le (e - at) (drop at s) (omega (arith, whole .low, whole .high, length-drop at s))
+      filling-span = record { low = whole-line w q .low; small = omega (arith, whole-line w q .high, v .small) }
 
       -- the entries of the line here and of those behind it
       here : Moved → List Entry
@@ -147,8 +117,8 @@ module _ {provider : Bool} {s : List ℕ} {from : ℕ} {d : List ℕ} {st : Stat
       line-entries : entriesFrom st at (rows (drop at s)) ≡ here (stepLine st (part s at e))
       unfolding entriesFrom here
       line-entries =
-          let n : at + length (part s at e ++ lineEnd) ≡ e + 2 = rw (length-append, part-length) (omega (arith, whole .low)) in
-          rw (whole .cut, line-is (part s at e) (whole .clear), line-text (part s at e) (whole .clear), n)
+          let n : at + length (part s at e ++ lineEnd) ≡ e + 2 = rw (length-append, whole-length w q) (omega (arith, whole-line w q .low)) in
+          rw (whole-line w q .cut, line-is (part s at e) (whole-line w q .clear), line-text (part s at e) (whole-line w q .clear), n)
 
       module _ {m : Moved} (o : m ≡ stepLine st (take (e - at) (drop at s))) where
         pub filling-refused : {n : ℕ} → m ≡ Refused n → Wrote d d′ 0 next (rest s (start provider) from)
@@ -165,7 +135,7 @@ module _ {provider : Bool} {s : List ℕ} {from : ℕ} {d : List ℕ} {st : Stat
           -- the record's own numbers, and those behind it
           written : rest s st at ≡ own ++ rest s after (e + 2)
           unfolding numbers here entered entryOf own
-          written = ap numbers (line-entries ∙ ap here (sym o ∙ u)) ∙ rw (place-number taken-here, part-length)
+          written = ap numbers (line-entries ∙ ap here (sym o ∙ u)) ∙ rw (place-number taken-here, whole-length w q)
 
           count-on : length (rest s st at) ≡ length own + length (rest s after (e + 2))
           count-on = ap length written ∙ length-append own (rest s after (e + 2))
@@ -186,9 +156,9 @@ module _ {provider : Bool} {s : List ℕ} {from : ℕ} {d : List ℕ} {st : Stat
                 hold = v .hold;
                 size = x .size ∙ v .size;
                 room = room st (factsOf (recordOf (part s at e))) after rp doctor y (v .room) (omega (arith, l, v .line, v .high, v .small));
-                line = omega (arith, l, v .line, whole .low);
-                high = whole .high;
+                line = omega (arith, l, v .line, whole-line w q .low);
+                high = whole-line w q .high;
                 small = v .small;
               }
 
-pub ruleset filling-laws = (line-size, filling-commas, filling-places, filling-start, filling-end, filling-mark, filling-broken, filling-low, filling-high, filling-fits, filling-less, filling-span, filling-judged, filling-refused, filling-room, filling-on)
+pub ruleset filling-laws = (line-facts, filling-start, filling-end, filling-mark, filling-broken, filling-fits, filling-span, filling-refused, filling-room, filling-on)

@@ -29,6 +29,7 @@ use Rattle.notebook.specs.declared.Checked.{Checked}
 use Rattle.notebook.specs.declared.Checked.the-variants.{Accepted, Refused}
 use Rattle.notebook.specs.Notebook.{Notebook, stepLine, prepend, closed, onward, recordsFrom, notebookOf, readRows, readFile}
 use Rattle.notebook.specs.Check.{count, counted, checked, checkOf, directionOf, tally, Judged, Behind, Closing}
+use Rattle.notebook.proofs.LineFacts.{line-facts, line-size, whole-line, records-end, records-mark, records-broken, records-on}
 use Rattle.notebook.proofs.StepLaws.{Placed, placed}
 use Rattle.notebook.proofs.ReadLaws.{read-large, read-end, read-mark, read-broken, read-provider, read-patient, read-version, direction-few, line-1-high, line-1-fits, line-1-behind}
 
@@ -111,66 +112,28 @@ module _ {provider : Bool} {s : List ℕ} {from : ℕ} {st : State} {at : ℕ} (
   pub reading-fits : Fits w32 (st .line + 1)
   reading-fits = omega (arith, v .line, v .high, v .small)
 
-  module _ {stops : List ℕ} {k : Line} (w : LineOf s at stops k) where
-    means : {j : Line} → k ≡ j → LineMeans s at stops j
-    means e = subst (LineMeans s at stops) e (w .means)
+  -- the answer, if what is left answers it
+  answer : {r : Checked} → r ≡ tally st (recordsFrom st (rows (drop at s))) → r ≡ tally (start provider) (recordsFrom (start provider) (rows (drop from s)))
+  answer e = e ∙ sym (v .left)
 
+  module _ {stops : List ℕ} {k : Line} (w : LineOf s at stops k) where
     pub reading-end : {r : Checked} → k ≡ End → r ≡ tally st (closed st) → r ≡ tally (start provider) (recordsFrom (start provider) (rows (drop from s)))
-    unfolding recordsFrom
-    reading-end e q = q ∙ sym (v .left ∙ ap (λ (x : List (List ℕ)). tally st (recordsFrom st x)) (means e))
+    reading-end e q = answer (q ∙ sym (ap (tally st) (records-end w st e)))
 
     pub reading-mark : {r : Checked} → k ≡ Mark → r ≡ tally st (closed st) → r ≡ tally (start provider) (recordsFrom (start provider) (rows (drop from s)))
-    unfolding recordsFrom
-    reading-mark e q = q ∙ sym (v .left ∙ ap (λ (x : List (List ℕ)). tally st (recordsFrom st x)) (means e))
+    reading-mark e q = answer (q ∙ sym (ap (tally st) (records-mark w st e)))
 
     pub reading-broken : k ≡ Broken → Refused 2 (st .line + 1) ≡ tally (start provider) (recordsFrom (start provider) (rows (drop from s)))
-    unfolding recordsFrom
-    reading-broken e = sym (v .left ∙ ap (tally st) (go (rows (drop at s)) (means e)))
-      where
-        go : (rs : List (List ℕ)) → BrokenRow rs → recordsFrom st rs ≡ refused 2 (st .line + 1)
-        go [] b = absurd b
-        go (r ∷ rs) b = rw (b .1, b .0)
+    reading-broken e = answer (sym (ap (tally st) (records-broken w st e)))
 
     module _ {e : ℕ} {good : Bool} {n : ℕ} (q : k ≡ Whole e good n) where
-      scanned : ScannedLine s at stops e good n
-      scanned = means q
-
-      whole : WholeLine s at e good
-      whole = scanned .line
-
-      pub whole-low : at ≤ e
-      whole-low = whole .low
-
-      pub whole-high : e ≤ length s
-      whole-high = omega (arith, whole .high)
-
-      pub whole-fits : Fits w64 (e + 2)
-      whole-fits = omega (arith, whole .high, v .small)
-
-      pub whole-less : length s - (e + 2) < length s - at
-      whole-less = omega (arith, whole .high, whole .low)
-
-      pub whole-commas : Commas (take (e - at) (drop at s)) n
-      whole-commas = record { is = scanned .commas }
-
-      pub whole-places : Stops (take (e - at) (drop at s)) stops
-      whole-places = scanned .places
-
-      line-row : recordsFrom st (rows (drop at s)) ≡ onward (st .line + 1) (recordOf (part s at e)) (λ t. recordsFrom t (rows (drop (e + 2) s))) (stepLine st (part s at e))
-      unfolding recordsFrom
-      line-row =
-          rw (whole .cut, line-no-mark (part s at e), line-is (part s at e) (whole .clear), line-text (part s at e) (whole .clear))
-
-      pub whole-judged : Judged good (take (e - at) (drop at s))
-      whole-judged = record { chars = whole .chars }
-
       next : Moved → Res (List Record)
       next = onward (st .line + 1) (recordOf (part s at e)) (λ t. recordsFrom t (rows (drop (e + 2) s)))
 
       module _ {m : Moved} (o : m ≡ stepLine st (take (e - at) (drop at s))) where
         pub reading-refused : {j : ℕ} → m ≡ StepRefused j → Refused j (st .line + 1) ≡ tally (start provider) (recordsFrom (start provider) (rows (drop from s)))
         unfolding onward next
-        reading-refused u = sym (v .left ∙ ap (tally st) (line-row ∙ ap next (sym o ∙ u)))
+        reading-refused u = sym (v .left ∙ ap (tally st) (records-on w q st ∙ ap next (sym o ∙ u)))
 
         pub reading-on : {t : State} {rp d : ℕ} → m ≡ On t rp d → Reading provider s from t (e + 2)
         unfolding onward next
@@ -178,21 +141,17 @@ module _ {provider : Bool} {s : List ℕ} {from : ℕ} {st : State} {at : ℕ} (
             let p : Placed st (part s at e) t rp d = placed st (part s at e) t rp d (sym o ∙ u) in
             let l : t .line ≡ st .line + 1 = next-line st (factsOf (recordOf (part s at e))) t rp d (p .step) in
             record {
-              left = v .left ∙ ap (tally st) (line-row ∙ ap next (sym o ∙ u))
+              left = v .left ∙ ap (tally st) (records-on w q st ∙ ap next (sym o ∙ u))
                   ∙ tally-on st (recordOf (part s at e)) (recordsFrom t (rows (drop (e + 2) s))) (v .low)
                   ∙ ap (λ (x : State). tally x (recordsFrom t (rows (drop (e + 2) s)))) (sym (p .state));
               room = room st (factsOf (recordOf (part s at e))) t rp d (p .step) (v .room) (omega (arith, l, v .line, v .high, v .small));
               low = omega (arith, l);
-              line = omega (arith, l, v .line, whole .low);
-              high = whole .high;
+              line = omega (arith, l, v .line, whole-line w q .low);
+              high = whole-line w q .high;
               small = v .small;
             }
 
--- the places stay sixteen
-pub line-size : {s : List ℕ} {at : ℕ} {stops : List ℕ} {k : Line} → LineOf s at stops k → Sixteen stops
-line-size w = w .size
-
-pub ruleset reading-laws = (line-size, reading-start, reading-closing, reading-fits, reading-end, reading-mark, reading-broken, whole-low, whole-high, whole-fits, whole-less, whole-commas, whole-places, whole-judged, reading-refused, reading-on)
+pub ruleset reading-laws = (line-facts, reading-start, reading-closing, reading-fits, reading-end, reading-mark, reading-broken, reading-refused, reading-on)
 
 -- ---- the file
 

@@ -1,3 +1,4 @@
 pub mod StepLaws
+pub mod LineFacts
 pub mod ReadLaws
 pub mod CheckLaws

@@ -6,7 +6,8 @@ use Rattle.lines.proofs.LineLaws.{lent}
 use Rattle.characters.specs.Classes.{classOf}
 use Rattle.characters.proofs.TextLaws.{classes-lent}
 use Rattle.notebook.proofs.ReadLaws.{line-1-behind}
-use Rattle.notebook.proofs.CheckLaws.{line-size, zeros-size}
+use Rattle.notebook.proofs.LineFacts.{line-size}
+use Rattle.notebook.proofs.CheckLaws.{zeros-size}
 use Rattle.canonical.proofs.WholeLaws.{into-laws, into-whole}
 use Rattle.canonical.proofs.canonical_into.Statement.{statement}
 use Rattle.canonical.proofs.canonical_into.Tie as tie

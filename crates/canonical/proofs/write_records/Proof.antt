@@ -2,8 +2,8 @@ use borrow.Author.Needs.{needs}
 use Prim.Native.Nat.{_-_}
 use lib.ListN.{length}
 use Rattle.characters.specs.Text.{Sixteen}
-use Rattle.notebook.proofs.CheckLaws.{line-size}
-use Rattle.canonical.proofs.FileLaws.{Pouring, pouring-laws, pouring-closing, pouring-end, pouring-commas, pouring-places, pouring-judged, pouring-room}
+use Rattle.notebook.proofs.LineFacts.{line-size, whole-commas, whole-places, whole-judged}
+use Rattle.canonical.proofs.FileLaws.{Pouring, pouring-laws, pouring-closing, pouring-end, pouring-room}
 use Rattle.canonical.proofs.write_records.Statement.{statement}
 use Rattle.canonical.proofs.write_records.Tie as tie
 use Rattle.canonical.proofs.write_records.Reads as reads
@@ -77,7 +77,7 @@ part-write-line-end : tie.Need-part-write-line-end Inv-loop μ-loop
 part-write-line-end c = search (needs, pouring-laws)
 
 write-line-requires : tie.Need-write-line-requires Inv-loop μ-loop
-write-line-requires c κs = (search needs, (search (needs, pouring-commas), (search (needs, pouring-places), (search (needs, line-size), (search needs, (search (needs, pouring-judged), search (needs, pouring-room)))))))
+write-line-requires c κs = (search needs, (search (needs, whole-commas), (search (needs, whole-places), (search (needs, line-size), (search needs, (search (needs, whole-judged), search (needs, pouring-room)))))))
 
 enum-known-n : tie.Need-enum-known-n Inv-loop μ-loop
 enum-known-n c = search (needs, pouring-laws)

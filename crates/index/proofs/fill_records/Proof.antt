@@ -1,8 +1,8 @@
 use borrow.Author.Needs.{needs}
 use Prim.Native.Nat.{_-_}
 use lib.ListN.{length}
-use Rattle.index.proofs.FillLaws.{Filling, filling-laws, filling-commas, filling-places, filling-judged, filling-span, filling-room}
-use Rattle.notebook.proofs.CheckLaws.{line-size}
+use Rattle.index.proofs.FillLaws.{Filling, filling-laws, filling-span, filling-room}
+use Rattle.notebook.proofs.LineFacts.{line-size, whole-commas, whole-places, whole-judged}
 use Rattle.characters.specs.Text.{Sixteen}
 use Rattle.index.proofs.fill_records.Statement.{statement}
 use Rattle.index.proofs.fill_records.Tie as tie
@@ -68,7 +68,7 @@ part-step-line-end : tie.Need-part-step-line-end Inv-loop μ-loop
 part-step-line-end c = search (needs, filling-laws)
 
 step-line-requires : tie.Need-step-line-requires Inv-loop μ-loop
-step-line-requires c κs = (search needs, (search (needs, filling-commas), (search (needs, filling-places), (search (needs, line-size), (search needs, search (needs, filling-judged))))))
+step-line-requires c κs = (search needs, (search (needs, whole-commas), (search (needs, whole-places), (search (needs, line-size), (search needs, search (needs, whole-judged))))))
 
 enum-told-4 : tie.Need-enum-told-4 Inv-loop μ-loop
 enum-told-4 c = search (needs, filling-laws)

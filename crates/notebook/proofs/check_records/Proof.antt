@@ -1,7 +1,8 @@
 use borrow.Author.Needs.{needs}
 use Prim.Native.Nat.{_-_}
 use lib.ListN.{length}
-use Rattle.notebook.proofs.CheckLaws.{Reading, reading-laws, whole-commas, whole-places, whole-judged, line-size}
+use Rattle.notebook.proofs.CheckLaws.{Reading, reading-laws}
+use Rattle.notebook.proofs.LineFacts.{whole-commas, whole-places, whole-judged, line-size}
 use Rattle.characters.specs.Text.{Sixteen}
 use Rattle.notebook.proofs.check_records.Statement.{statement}
 use Rattle.notebook.proofs.check_records.Tie as tie
