@@ -64,7 +64,7 @@ memcheck: target/c/test
 	$(VALGRIND) --leak-check=full --error-exitcode=1 target/c/test
 
 # The library is installed as libnotebook.a, after its header and its calls.
-install: $(LIBRARY)
+install: all
 	$(INSTALL) -d $(DESTDIR)$(LIBDIR)/pkgconfig $(DESTDIR)$(INCLUDEDIR) $(DESTDIR)$(BINDIR)
 	$(INSTALL) -m 644 $(LIBRARY) $(DESTDIR)$(LIBDIR)/libnotebook.a
 	$(INSTALL) -m 644 include/notebook.h $(DESTDIR)$(INCLUDEDIR)/notebook.h

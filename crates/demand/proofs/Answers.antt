@@ -1,5 +1,5 @@
 -- What cutting and joining answer of an accepted file by the output's size, and what they leave in the output. Assumes nothing.
-use Prim.Native.Nat.{ℕ, _+_, _≤_, _<_}
+use Prim.Native.Nat.{ℕ, suc, _+_, _≤_, _<_}
 use native.Mathlib.Omega.{arith}
 use mathlib.Core.Path.{_≡_, refl, sym, ap, _∙_, subst}
 use mathlib.Core.Logic.{_↔_}
@@ -16,13 +16,53 @@ use Rattle.notebook.specs.Notebook.{Notebook, readFile}
 use Rattle.canonical.specs.Canonical.{canonicalBytes}
 use Rattle.pieces.specs.Marks.{validID}
 use Rattle.pieces.proofs.Chunks.{chunkBytes, chunks-once}
+use Rattle.cut.specs.declared.Cutting.{Cutting}
 use Rattle.cut.specs.declared.Cutting.the-variants.{Pieces, Refused}
 use Rattle.cut.specs.Cut.{cutting, listed, found, cutList, held, cutOf, cutBuffer}
 use Rattle.join.specs.Join.{joinFile, joinOf, joinBuffer}
+use Rattle.gateway.specs.declared.Reply.{Reply}
+use Rattle.gateway.specs.Replies.{refusal, result, cutReply, joinReply}
 use Rattle.demand.specs.Orders.{Perm}
 use Rattle.demand.specs.Demand.{OnePiece, ListIn, Sound, Written, Withheld, Restored}
 use Rattle.demand.proofs.Own.{sound, restores}
 use Rattle.demand.proofs.Fewest.{Chunks, chunked, Listed, least}
+
+-- ---- a reply told apart: which answer it is
+
+-- refusals have numbers from 1 on
+abbrev Numbered : Cutting → Type 0
+Numbered (Pieces n t) = Unit {0}
+Numbered (Refused n line) = 1 ≤ n
+
+pub refused-told : (n : ℕ) (x : Cutting) → cutReply x ≡ refusal (suc n) 0 → x ≡ Refused (suc n) 0
+refused-told n (Pieces a t) e = absurd (omega (arith, ap (λ (r : Reply). r .refusal) e))
+refused-told n (Refused m line) e =
+    let a : m ≡ suc n = ap (λ (r : Reply). r .refusal) e in
+    let l : line ≡ 0 = ap (λ (r : Reply). r .line) e in
+    cc
+
+pub pieces-told : (x : Cutting) (n t : ℕ) → Numbered x → cutReply x ≡ result n t 0 → x ≡ Pieces n t
+pieces-told (Pieces m u) n t h e =
+    let a : m ≡ n = ap (λ (r : Reply). r .a) e in
+    let l : u ≡ t = ap (λ (r : Reply). r .b) e in
+    cc
+pieces-told (Refused m line) n t h e = absurd (omega (arith, h, ap (λ (r : Reply). r .refusal) e))
+
+pub numbered : (f : List ℕ) (b : Notebook) (c : ℕ) (id : List ℕ) (room : ℕ) → readFile f ≡ ok b → Numbered (cutOf f c id room)
+unfolding cutOf cutList
+numbered f b c id room e = rw e (valid (validID id))
+  where
+    written : (x : Bool) (ps : List (List ℕ)) → Numbered (cond x (Pieces (length ps) (length (flat ps))) (Refused 20 0))
+    written true ps = tt
+    written false ps = omega arith
+
+    list : (m : Option (List (List ℕ))) → Numbered (held (listed m) room)
+    list none = omega arith
+    list (some ps) = written (leb (length (flat ps)) room) ps
+
+    valid : (v : Bool) → Numbered (held (cond v (listed (cutting id c b)) (refused 17 0)) room)
+    valid true = list (cutting id c b)
+    valid false = omega arith
 
 -- whole pieces with equal bytes are equal
 pub pieces-once : (ps qs : List (List ℕ)) → All OnePiece ps → All OnePiece qs → flat ps ≡ flat qs → ps ≡ qs
@@ -139,8 +179,15 @@ module _ (f : List ℕ) (b : Notebook) (c : ℕ) (id : List ℕ) (e : readFile f
 
 pub withholds : (f : List ℕ) (c : ℕ) (id out : List ℕ) (ps : List (List ℕ)) → cutList f c id ≡ ok ps → Withheld f c id out ps
 unfolding cutOf cutBuffer
-withholds f c id out ps q = record { exactly = (λ h. go (leb (length (flat ps)) (length out)) refl (sym (rw q) ∙ h), twenty); kept = kept; else = else }
+withholds f c id out ps q = record {
+  exactly = (λ h. go (leb (length (flat ps)) (length out)) refl (sym is ∙ refused-told 19 (cutOf f c id (length out)) h), λ h. ap cutReply (twenty h));
+  kept = kept;
+  else = λ h. ap cutReply (else h);
+}
   where
+    is : cutOf f c id (length out) ≡ cond (leb (length (flat ps)) (length out)) (Pieces (length ps) (length (flat ps))) (Refused 20 0)
+    is = rw q
+
     go : (x : Bool) → leb (length (flat ps)) (length out) ≡ x → cond x (Pieces (length ps) (length (flat ps))) (Refused 20 0) ≡ Refused 20 0
         → length out < length (flat ps)
     go true p h = absurd (pieces-refused (sym h))

@@ -12,10 +12,10 @@ use Rattle.notebook.specs.Notebook.{Notebook, readFile}
 use Rattle.canonical.specs.Canonical.{canonicalBytes}
 use Rattle.pieces.specs.Marks.{validID}
 use Rattle.pieces.specs.Pieces.{Piece, split}
-use Rattle.cut.specs.declared.Cutting.the-variants.{Pieces, Refused}
 use Rattle.cut.specs.Cut.{cutList, cutOf, cutBuffer}
-use Rattle.join.specs.declared.Joining.the-variants.{Joined, Refused as JoinRefused}
 use Rattle.join.specs.Join.{joinFile, joinOf, joinBuffer}
+use Rattle.gateway.specs.declared.Reply.{Reply}
+use Rattle.gateway.specs.Replies.{refusal, result, cutReply, joinReply}
 use Rattle.demand.specs.Orders.{Perm}
 
 -- ---- "Call a list of pieces sound for an accepted file and a capacity if .."
@@ -38,6 +38,14 @@ pub record Sound (f : List ℕ) (c : ℕ) (ps : List (List ℕ)) : Type 0 where
   pub joins : joinFile (flat ps) ≡ ok file
   -- "the joined file carries the same notebook"
   pub same : readFile file ≡ readFile f
+
+-- ---- what the calls reply, in document 01's numbers
+
+abbrev pub cutSays : List ℕ → ℕ → List ℕ → List ℕ → Reply
+cutSays f c id out = cutReply (cutOf f c id (length out))
+
+abbrev pub joinSays : List ℕ → List ℕ → Reply
+joinSays s to = joinReply (joinOf s (length to))
 
 -- ---- what cutting wrote
 
@@ -64,19 +72,19 @@ pub record Written (f : List ℕ) (c : ℕ) (out : List ℕ) (n t : ℕ) : Type 
   pub only : (qs : List (List ℕ)) → ListIn out (length qs) t qs → qs ≡ list
 
 abbrev pub Cutting-writes : Type 0
-Cutting-writes = ForFile (λ f b c id out. (n t : ℕ) → cutOf f c id (length out) ≡ Pieces n t → Written f c (cutBuffer f c id out) n t)
+Cutting-writes = ForFile (λ f b c id out. (n t : ℕ) → cutSays f c id out ≡ result n t 0 → Written f c (cutBuffer f c id out) n t)
 
 -- "For an accepted file and a valid ID, whatever the size of the output, cutting finds no list exactly when no sound one exists": "Cutting
 -- finds no list when it answers 18"
 abbrev pub Cutting-finds : Type 0
 Cutting-finds =
-    ForFile (λ f b c id out. validID id ≡ true → (cutOf f c id (length out) ≡ Refused 18 0) ↔ ((qs : List (List ℕ)) → Sound f c qs → ⊥))
+    ForFile (λ f b c id out. validID id ≡ true → (cutSays f c id out ≡ refusal 18 0) ↔ ((qs : List (List ℕ)) → Sound f c qs → ⊥))
 
 -- "A list found is withheld exactly when the output can't hold it": it "withholds one when it answers 20". Else it is written.
 pub record Withheld (f : List ℕ) (c : ℕ) (id out : List ℕ) (ps : List (List ℕ)) : Type 0 where
-  pub exactly : (cutOf f c id (length out) ≡ Refused 20 0) ↔ (length out < length (flat ps))
+  pub exactly : (cutSays f c id out ≡ refusal 20 0) ↔ (length out < length (flat ps))
   pub kept : length out < length (flat ps) → cutBuffer f c id out ≡ out
-  pub else : length (flat ps) ≤ length out → cutOf f c id (length out) ≡ Pieces (length ps) (length (flat ps))
+  pub else : length (flat ps) ≤ length out → cutSays f c id out ≡ result (length ps) (length (flat ps)) 0
 
 abbrev pub Cutting-withholds : Type 0
 Cutting-withholds = ForFile (λ f b c id out. (ps : List (List ℕ)) → cutList f c id ≡ ok ps → Withheld f c id out ps)
@@ -85,12 +93,12 @@ Cutting-withholds = ForFile (λ f b c id out. (ps : List (List ℕ)) → cutList
 -- output of joining
 pub record Restored (b : Notebook) (qs : List (List ℕ)) (to : List ℕ) : Type 0 where
   pub holds : length (canonicalBytes b) ≤ length to
-      → (joinOf (flat qs) (length to) ≡ Joined (length (canonicalBytes b))) × (joinBuffer (flat qs) to ≡ canonicalBytes b ++ drop (length (canonicalBytes b)) to)
-  pub short : length to < length (canonicalBytes b) → (joinOf (flat qs) (length to) ≡ JoinRefused 20 0) × (joinBuffer (flat qs) to ≡ to)
+      → (joinSays (flat qs) to ≡ result (length (canonicalBytes b)) 0 0) × (joinBuffer (flat qs) to ≡ canonicalBytes b ++ drop (length (canonicalBytes b)) to)
+  pub short : length to < length (canonicalBytes b) → (joinSays (flat qs) to ≡ refusal 20 0) × (joinBuffer (flat qs) to ≡ to)
 
 abbrev pub Joining-restores : Type 0
 Joining-restores =
-    ForFile (λ f b c id out. (n t : ℕ) → cutOf f c id (length out) ≡ Pieces n t → (ps qs : List (List ℕ)) → ListIn (cutBuffer f c id out) n t ps
+    ForFile (λ f b c id out. (n t : ℕ) → cutSays f c id out ≡ result n t 0 → (ps qs : List (List ℕ)) → ListIn (cutBuffer f c id out) n t ps
     → Perm ps qs → (to : List ℕ) → Restored b qs to)
 
 -- "Two accepted files have equal canonical files exactly when they carry the same notebook, and then neither is shorter than that canonical
