@@ -1,3 +1,4 @@
+pub mod Halves
 pub mod Rows
 pub mod Laws
 pub mod Run

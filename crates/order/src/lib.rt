@@ -5,6 +5,7 @@
 // part of the pattern that it belongs to (`in_front`, `in_rp`, `in_rest`).
 ghost use mathlib.Core.Path.{_≡_};
 ghost use mathlib.Core.Bool.{cond};
+ghost use lib.Dec.{eqb};
 ghost use Rattle.order.specs.Places.{inHead, inFront, inDrugs, inRp, inRest, inGroup, ofOpenRp, mayFollow};
 ghost use Rattle.order.specs.Questions.{beforeOf, askedOf};
 ghost use Rattle.order.specs.Rules.{pairBroken, misplaced, continues, closesRp, lacking, missing, valueWrong, newerGroup};
@@ -58,6 +59,13 @@ fn pick(b: bool, x: u32, y: u32) -> u32
     ensures { λ r. ⌜ r ≡ cond b x y ⌝ }
 {
     if b { x } else { y }
+}
+
+// The first of two refusals, where 0 is none.
+fn first_of(a: u32, b: u32) -> u32
+    ensures { λ r. ⌜ r ≡ cond (eqb a 0) b a ⌝ }
+{
+    pick(a == 0, b, a)
 }
 
 // Parts of the pattern, by place; specs/Places has the sentence of each.
@@ -211,11 +219,12 @@ impl State {
         }
     }
 
-    // 12: a usage name has to stand here and is empty.
-    fn pair_broken(self, r: Facts) -> bool
+    // 12: a usage name has to stand here and is empty. Here and below n is the record's number, so that a caller may name it.
+    fn pair_broken(self, n: u32, r: Facts) -> bool
+        requires { ⌜ n ≡ r .number ⌝ }
         ensures { λ b. ⌜ b ≡ pairBroken (beforeOf self) (askedOf self r) ⌝ }
     {
-        (r.number == 301)
+        (n == 301)
             & !r.named
             & (!self.provider
                 | in_group(self.place)
@@ -224,10 +233,10 @@ impl State {
     }
 
     // 13: the record can't stand here.
-    fn misplaced(self, r: Facts) -> bool
+    fn misplaced(self, n: u32, r: Facts) -> bool
+        requires { ⌜ n ≡ r .number ⌝ }
         ensures { λ b. ⌜ b ≡ misplaced (beforeOf self) (askedOf self r) ⌝ }
     {
-        let n = r.number;
         !may_follow(self.place, n)
             | (n == 55) & in_rp(self.place) & (self.had.doctor == 0)
             | self.provider
@@ -238,17 +247,19 @@ impl State {
     }
 
     // A further drug of the open RP.
-    fn continues(self, r: Facts) -> bool
+    fn continues(self, n: u32, r: Facts) -> bool
+        requires { ⌜ n ≡ r .number ⌝ }
         ensures { λ b. ⌜ b ≡ continues (beforeOf self) (askedOf self r) ⌝ }
     {
-        (r.number == 201) & in_drugs(self.place) & (r.rp == self.had.rp)
+        (n == 201) & in_drugs(self.place) & (r.rp == self.had.rp)
     }
 
     // The open RP ends before this record.
-    fn closes_rp(self, r: Facts) -> bool
+    fn closes_rp(self, n: u32, r: Facts) -> bool
+        requires { ⌜ n ≡ r .number ⌝ }
         ensures { λ b. ⌜ b ≡ closesRp (beforeOf self) (askedOf self r) ⌝ }
     {
-        in_rp(self.place) & !of_open_rp(r.number) & !self.continues(r)
+        in_rp(self.place) & !of_open_rp(n) & !self.continues(n, r)
     }
 
     // The open group can't close in direction 1.
@@ -261,51 +272,74 @@ impl State {
     }
 
     // 14: a part that this record closes lacks a record.
-    fn missing(self, r: Facts) -> bool
+    fn missing(self, n: u32, r: Facts) -> bool
+        requires { ⌜ n ≡ r .number ⌝ }
         ensures { λ b. ⌜ b ≡ missing (beforeOf self) (askedOf self r) ⌝ }
     {
-        let n = r.number;
         !self.provider & (self.place == 0) & !(n == 1)
-            | self.provider & self.closes_rp(r) & !self.had.had301
+            | self.provider & self.closes_rp(n, r) & !self.had.had301
             | self.provider & ((n == 5) | (n == 701)) & in_group(self.place) & self.lacking()
             | self.provider & (n == 701) & (self.groups == 0)
     }
 
     // 15: the RP value is wrong. In 64 bits, so that the next value always exists.
-    fn value_wrong(self, r: Facts) -> bool
+    fn value_wrong(self, n: u32, r: Facts) -> bool
+        requires { ⌜ n ≡ r .number ⌝ }
         ensures { λ b. ⌜ b ≡ valueWrong (beforeOf self) (askedOf self r) ⌝ }
     {
         let next = (self.had.rp as u64) + 1;
         let value = r.rp as u64;
-        (r.number == 201) & !self.continues(r) & !(value == next)
-            | of_open_rp(r.number) & !(r.rp == self.had.rp)
+        (n == 201) & !self.continues(n, r) & !(value == next)
+            | of_open_rp(n) & !(r.rp == self.had.rp)
     }
 
     // 16: the group is newer than the one before it.
-    fn newer_group(self, r: Facts) -> bool
+    fn newer_group(self, n: u32, r: Facts) -> bool
+        requires { ⌜ n ≡ r .number ⌝ }
         ensures { λ b. ⌜ b ≡ newerGroup (beforeOf self) (askedOf self r) ⌝ }
     {
-        (r.number == 5) & !(self.groups == 0) & (self.day < r.day)
+        (n == 5) & !(self.groups == 0) & (self.day < r.day)
     }
 
-    // The lowest number that the record breaks; 0 where it is good. Almost every record is, so all five are tested.
+    // The lowest of 12 and 13 that the record breaks, 0 where it breaks none; n: the record's number.
+    fn ill_placed(self, n: u32, r: Facts) -> u32
+        requires { ⌜ n ≡ r .number ⌝ }
+        ensures { λ k. ⌜ k ≡ cond (pairBroken (beforeOf self) (askedOf self r)) 12 (cond (misplaced (beforeOf self) (askedOf self r)) 13 0) ⌝ }
+    {
+        let pair = self.pair_broken(n, r);
+        let place = self.misplaced(n, r);
+        pick(pair, 12, pick(place, 13, 0))
+    }
+
+    // The lowest of 14 to 16 that the record breaks.
+    fn ill_valued(self, n: u32, r: Facts) -> u32
+        requires { ⌜ n ≡ r .number ⌝ }
+        ensures { λ k. ⌜ k ≡ cond (missing (beforeOf self) (askedOf self r)) 14 (cond (valueWrong (beforeOf self) (askedOf self r)) 15 (cond (newerGroup (beforeOf self) (askedOf self r)) 16 0)) ⌝ }
+    {
+        let missing = self.missing(n, r);
+        let value = self.value_wrong(n, r);
+        let date = self.newer_group(n, r);
+        pick(missing, 14, pick(value, 15, pick(date, 16, 0)))
+    }
+
+    // The lowest number that the record breaks; 0 where it is good. Almost every record is, so all five are tested; a record's number
+    // settles most of what they ask, so each frequent number has a call of its own, which is compiled for that number alone.
     fn refusal(self, r: Facts) -> u32
         ensures { λ n. ⌜ n ≡ refusalOf self r ⌝ }
     {
-        let pair = self.pair_broken(r);
-        let place = self.misplaced(r);
-        let missing = self.missing(r);
-        let value = self.value_wrong(r);
-        let date = self.newer_group(r);
-        pick(
-            pair,
-            12,
-            pick(
-                place,
-                13,
-                pick(missing, 14, pick(value, 15, pick(date, 16, 0))),
-            ),
-        )
+        let n = r.number;
+        match n {
+            5 => first_of(self.ill_placed(5, r), self.ill_valued(5, r)),
+            11 => first_of(self.ill_placed(11, r), self.ill_valued(11, r)),
+            51 => first_of(self.ill_placed(51, r), self.ill_valued(51, r)),
+            55 => first_of(self.ill_placed(55, r), self.ill_valued(55, r)),
+            201 => first_of(self.ill_placed(201, r), self.ill_valued(201, r)),
+            281 => first_of(self.ill_placed(281, r), self.ill_valued(281, r)),
+            291 => first_of(self.ill_placed(291, r), self.ill_valued(291, r)),
+            301 => first_of(self.ill_placed(301, r), self.ill_valued(301, r)),
+            311 => first_of(self.ill_placed(311, r), self.ill_valued(311, r)),
+            _ => first_of(self.ill_placed(n, r), self.ill_valued(n, r)),
+        }
     }
 
     // The state after the record, whether or not it is good here.

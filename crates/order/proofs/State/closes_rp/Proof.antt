@@ -3,6 +3,11 @@ use Rattle.order.specs.Rules.{closesRp}
 use borrow.Author.Needs.{needs}
 use Rattle.order.proofs.State.closes_rp.Statement.{statement}
 use Rattle.order.proofs.State.closes_rp.Tie as tie
+use Rattle.order.proofs.State.closes_rp.Reads as reads
+use Rattle.order.proofs.State.closes_rp.Lts as lts
+use Rattle.order.proofs.State.continues.Reads as continues-reads
+use Rattle.order.proofs.in_rp.Reads as in-rp-reads
+use Rattle.order.proofs.of_open_rp.Reads as of-open-rp-reads
 
 in-rp-requires : tie.Need-in-rp-requires
 in-rp-requires c κs = search needs

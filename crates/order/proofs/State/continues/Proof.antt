@@ -3,6 +3,9 @@ use Rattle.order.specs.Rules.{continues}
 use borrow.Author.Needs.{needs}
 use Rattle.order.proofs.State.continues.Statement.{statement}
 use Rattle.order.proofs.State.continues.Tie as tie
+use Rattle.order.proofs.State.continues.Reads as reads
+use Rattle.order.proofs.State.continues.Lts as lts
+use Rattle.order.proofs.in_drugs.Reads as in-drugs-reads
 
 in-drugs-requires : tie.Need-in-drugs-requires
 in-drugs-requires c κs = search needs

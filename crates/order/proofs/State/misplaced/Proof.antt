@@ -3,6 +3,10 @@ use Rattle.order.specs.Rules.{misplaced}
 use borrow.Author.Needs.{needs}
 use Rattle.order.proofs.State.misplaced.Statement.{statement}
 use Rattle.order.proofs.State.misplaced.Tie as tie
+use Rattle.order.proofs.State.misplaced.Reads as reads
+use Rattle.order.proofs.State.misplaced.Lts as lts
+use Rattle.order.proofs.in_rp.Reads as in-rp-reads
+use Rattle.order.proofs.may_follow.Reads as may-follow-reads
 
 may-follow-requires : tie.Need-may-follow-requires
 may-follow-requires c κs = search needs

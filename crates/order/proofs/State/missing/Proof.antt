@@ -3,6 +3,11 @@ use Rattle.order.specs.Rules.{missing}
 use borrow.Author.Needs.{needs}
 use Rattle.order.proofs.State.missing.Statement.{statement}
 use Rattle.order.proofs.State.missing.Tie as tie
+use Rattle.order.proofs.State.missing.Reads as reads
+use Rattle.order.proofs.State.missing.Lts as lts
+use Rattle.order.proofs.State.closes_rp.Reads as closes-rp-reads
+use Rattle.order.proofs.State.lacking.Reads as lacking-reads
+use Rattle.order.proofs.in_group.Reads as in-group-reads
 
 closes-rp-requires : tie.Need-closes-rp-requires
 closes-rp-requires c κs = search needs

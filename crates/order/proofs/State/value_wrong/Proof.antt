@@ -3,6 +3,10 @@ use Rattle.order.specs.Rules.{valueWrong}
 use borrow.Author.Needs.{needs}
 use Rattle.order.proofs.State.value_wrong.Statement.{statement}
 use Rattle.order.proofs.State.value_wrong.Tie as tie
+use Rattle.order.proofs.State.value_wrong.Reads as reads
+use Rattle.order.proofs.State.value_wrong.Lts as lts
+use Rattle.order.proofs.State.continues.Reads as continues-reads
+use Rattle.order.proofs.of_open_rp.Reads as of-open-rp-reads
 
 cast-next : tie.Need-cast-next
 cast-next c = search needs
