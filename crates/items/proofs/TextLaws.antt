@@ -1,17 +1,19 @@
 -- The kinds of text: loops over pairs of bytes, and the last character. Assumes nothing.
 use Prim.Native.Nat.{ℕ, zero, suc, _+_, _-_, _≤_, _<_}
 use mathlib.Core.Path.{_≡_, refl, sym, ap, _∙_}
-use mathlib.Core.Bool.{Bool, true, false, cond, not, _&&_, _||_, false≢true, true≢false}
+use mathlib.Core.Bool.{Bool, true, false, cond, not, _&&_, _||_, false≢true, true≢false, and-false, or-true}
 use mathlib.Core.List.{List, [], _∷_}
 use native.Mathlib.Omega.{arith}
-use borrow.Author.Tests.{eqb-true, eq-eqb, leb-true}
+use borrow.Author.Tests.{eqb-true, eq-eqb, ne-eqb, leb-true}
 use lib.Dec.{leb, eqb}
 use lib.ListN.{length, getD, drop}
 use Rattle.lists.specs.Lists.{empty, unless}
 use Rattle.lists.proofs.Tests.{both, not-true′, not-false′}
+use Rattle.lists.proofs.Loops.{AllLeft, all-go}
+use Rattle.digits.specs.Digits.{isDigit}
 use Rattle.lists.proofs.Cuts.{drop-step, drop-end, two-on, last-on}
 use Rattle.characters.specs.Cells.{isOne, isPair}
-use Rattle.records.specs.Items.{allPairs, endsWide, edge, sized}
+use Rattle.records.specs.Items.{allPairs, isCode, endsWide, edge, sized}
 
 -- ---- all two-byte characters
 
@@ -117,3 +119,34 @@ module _ {s : List ℕ} {i : ℕ} (v : WideLeft s i) where
   wide-out h = sym (v .left ∙ rw (drop-end s i h))
 
 pub ruleset wide-laws = (wide-none, wide-start, wide-odd, wide-one, wide-last, wide-two, wide-out)
+
+-- ---- shortcuts
+
+-- no edge: the first byte is above 27h and not 81h, the last one above 27h and not 40h
+pub edge-free : (s : List ℕ) {a w z : ℕ} {x y : Bool} → a ≡ getD s 0 0 → w ≡ length s - 1 → z ≡ getD s w 0
+    → x ≡ (leb 0x28 a && not (eqb a 0x81)) → y ≡ (leb 0x28 z && not (eqb z 0x40)) → (x && y) ≡ true → false ≡ edge s
+unfolding edge
+edge-free s {a} {w} {z} {x} {y} p c q i j h =
+    let t = both x y h in
+    let f = both (leb 0x28 a) (not (eqb a 0x81)) (sym i ∙ t .0) in
+    let l = both (leb 0x28 z) (not (eqb z 0x40)) (sym j ∙ t .1) in
+    let lo : 0x28 ≤ a = leb-true 0x28 a (f .0) in
+    let hi : 0x28 ≤ z = leb-true 0x28 z (l .0) in
+    let e : z ≡ getD s (length s - 1) 0 = q ∙ ap (λ (k : ℕ). getD s k 0) c in
+    let a1 : eqb (getD s 0 0) 0x20 ≡ false = ne-eqb (getD s 0 0) 0x20 (λ d. omega arith) in
+    let a2 : eqb (getD s 0 0) 0x81 ≡ false = ap (λ (k : ℕ). eqb k 0x81) (sym p) ∙ not-true′ (eqb a 0x81) (f .1) in
+    let a3 : eqb (getD s 0 0) 0x22 ≡ false = ne-eqb (getD s 0 0) 0x22 (λ d. omega arith) in
+    let a4 : eqb (getD s 0 0) 0x27 ≡ false = ne-eqb (getD s 0 0) 0x27 (λ d. omega arith) in
+    let z1 : eqb (getD s (length s - 1) 0) 0x20 ≡ false = ne-eqb (getD s (length s - 1) 0) 0x20 (λ d. omega arith) in
+    let z2 : eqb z 0x40 ≡ false = not-true′ (eqb z 0x40) (l .1) in
+    let n : endsWide s ≡ false = go z2 e (endsWide s) refl in
+    sym (simp (a1, a2, a3, a4, z1, n, and-false))
+  where
+    go : eqb z 0x40 ≡ false → z ≡ getD s (length s - 1) 0 → (b : Bool) → endsWide s ≡ b → b ≡ false
+    go z2 e false k = refl
+    go z2 e true k = absurd (true≢false (sym (eq-eqb z 0x40 (e ∙ wide-two-bytes s k .1)) ∙ z2))
+
+-- a digit is of a code
+pub code-digit : {s : List ℕ} {i : ℕ} {x : Bool} → AllLeft isCode s i → i < length s → x ≡ isDigit (getD s i 0) → x ≡ true
+    → AllLeft isCode s (i + 1)
+code-digit v h q t = all-go v h refl (simp (sym q ∙ t, or-true))

@@ -2,6 +2,8 @@
 // Definitions: `fault` in records, specs/Items.antt; the numbers of kinds: specs/Codes.antt. A new kind is a function here, an arm
 // of `kind_fault` and a clause of `kindOf`.
 ghost use mathlib.Core.Path.{_≡_};
+ghost use mathlib.Core.Bool.{not, _&&_};
+ghost use lib.Dec.{leb, eqb};
 ghost use mathlib.Core.List.{[], _∷_};
 ghost use Rattle.lists.specs.Lists.{all, member as memberOf, unless as unlessOf};
 ghost use Rattle.digits.specs.Digits.{isDigit, number};
@@ -28,7 +30,9 @@ fn all_code(s: &[u8]) -> bool
     let mut i = 0;
     while i < s.len() {
         let b = s[i];
-        if is_code(b) {
+        if digits::is_digit(b) {
+            i += 1;
+        } else if is_code(b) {
             i += 1;
         } else {
             return false;
@@ -110,13 +114,23 @@ fn ends_wide(s: &[u8]) -> bool
     false
 }
 
+// A first or last byte that is of no edge, whatever stands beside it; x: the byte of 8140h that may stand there.
+fn inner(b: u8, x: u8) -> bool
+    ensures { λ r. ⌜ r ≡ leb 0x28 b && not (eqb b x) ⌝ }
+{
+    (0x28 <= b) & !(b == x)
+}
+
 fn edge(s: &[u8]) -> bool
     ensures { λ r. ⌜ r ≡ edgeOf (now (s .entry)) ⌝ }
 {
     let n = s.len();
     let a = lists::byte_at(s, 0);
-    let b = lists::byte_at(s, 1);
     let z = lists::byte_at(s, lists::before(n));
+    if inner(a, 0x81) & inner(z, 0x40) {
+        return false;
+    }
+    let b = lists::byte_at(s, 1);
     let wide = ends_wide(s);
     (a == 0x20)
         | ((a == 0x81) & (b == 0x40))
