@@ -555,7 +555,47 @@ module _ {s : List ℕ} {at : ℕ} {a₀ a : List ℕ} {i : ℕ} {good : Bool} {
       pub scan-half : x ≡ false → Scanned s at a₀ a (i + 1) false n
       scan-half e = bad-on (says .lead no1 no2) (high-go (getD s i 0) (omega (arith, lead-high (getD s i 0) (says .high no0 no1 no2)))) (p .tells ∙ rw e)
 
-pub ruleset scan-laws = (scan-start, scan-one, scan-comma, scan-more, scan-stop, scan-bad, lead-at, scan-two, scan-half, scan-end)
+-- a byte from 2Dh to 7Eh is of class 0
+plain-class : (b : ℕ) → within 0x2d 0x7e b ≡ true → classOf b ≡ 0
+unfolding classOf
+plain-class b e =
+    let p = both (leb 0x2d b) (leb b 0x7e) e in
+    let lo : 0x2d ≤ b = leb-true 0x2d b (p .0) in
+    let hi : b ≤ 0x7e = leb-true b 0x7e (p .1) in
+    let t : within 0x20 0x7e b ≡ true = within-in 0x20 0x7e b (omega arith) hi in
+    let z : eqb b 0x2c ≡ false = ne-eqb b 0x2c (λ d. omega arith) in
+    simp (z, t)
+
+-- the class that is left where neither a lead, a comma nor another character stands
+class-left : (c : ℕ) → c ≤ 2 → (c ≡ 2 → ⊥) → (c ≡ 0 → ⊥) → c ≡ 1
+class-left zero k m n = absurd (n refl)
+class-left (suc zero) k m n = refl
+class-left (suc (suc zero)) k m n = absurd (m refl)
+class-left (suc (suc (suc c))) k m n = absurd (omega arith)
+
+pub lead-over : (s : List ℕ) (i : ℕ) {c : ℕ} → i < length s → c ≡ classOf (getD s i 0) → 2 < c → LeadAt s i c
+lead-over s i h q k = lead-at s i h q (λ e. omega arith) (λ e. omega arith) (λ e. omega arith)
+
+-- the ways through the loop, by the tests of the code
+module _ {s : List ℕ} {at : ℕ} {a₀ a : List ℕ} {i : ℕ} {good : Bool} {n : ℕ} (v : Scanned s at a₀ a i good n) (h : i < length s) where
+  pub go-plain : {x : Bool} → x ≡ within 0x2d 0x7e (getD s i 0) → x ≡ true → Scanned s at a₀ a (i + 1) good n
+  go-plain p e = scan-one v h {c = classOf (getD s i 0)} refl (plain-class (getD s i 0) (sym p ∙ e))
+
+  module _ {c : ℕ} (q : c ≡ classOf (getD s i 0)) where
+    pub go-two : {x : Bool} → 2 < c → PairAt s i x → x ≡ true → Scanned s at a₀ a (i + 2) good n
+    go-two k p e = scan-two v h q (λ d. omega arith) (λ d. omega arith) (λ d. omega arith) p e
+
+    pub go-half : {x : Bool} → 2 < c → PairAt s i x → x ≡ false → Scanned s at a₀ a (i + 1) false n
+    go-half k p e = scan-half v h q (λ d. omega arith) (λ d. omega arith) (λ d. omega arith) p e
+
+    pub go-stop : {x : Bool} → c ≤ 2 → (c ≡ 2 → ⊥) → (c ≡ 0 → ⊥) → x ≡ isStop (getD s i 0) → x ≡ true
+        → ScanOf s at a (record { end = i; good = good; commas = n })
+    go-stop k m o p e = scan-stop v h q (class-left c k m o) p e
+
+    pub go-bad : {x : Bool} → c ≤ 2 → (c ≡ 2 → ⊥) → (c ≡ 0 → ⊥) → x ≡ isStop (getD s i 0) → x ≡ false → Scanned s at a₀ a (i + 1) false n
+    go-bad k m o p e = scan-bad v h q (class-left c k m o) p e
+
+pub ruleset scan-laws = (scan-start, go-plain, scan-one, scan-comma, scan-more, go-stop, go-bad, lead-over, go-two, go-half, scan-end)
 
 -- what a caller lends is the table
 pub classes-lent : Classes (classesFrom 0 256)

@@ -429,6 +429,13 @@ fn pair_at(s: &[u8], i: usize, c: u8) -> bool
     is_pair(a, b)
 }
 
+// The bytes 2Dh to 7Eh, each a character and no comma: most bytes of a line that are not of a pair are told by this test alone.
+fn plain(b: u8) -> bool
+    ensures { λ r. ⌜ r ≡ isWithin 0x2d 0x7e b ⌝ }
+{
+    (0x2d <= b) & (b <= 0x7e)
+}
+
 pub struct Scan {
     pub end: usize,
     pub good: bool,
@@ -448,9 +455,18 @@ pub fn scan_text(classes: &[u8; 256], stops: &mut [usize; 16], s: &[u8], at: usi
     let mut commas = 0;
     while i < s.len() {
         let b = s[i];
-        let c = class_of(classes, b);
-        if c == 0 {
+        if plain(b) {
             i += 1;
+            continue;
+        }
+        let c = class_of(classes, b);
+        if 2 < c {
+            if pair_at(s, i, c) {
+                i += 2;
+            } else {
+                good = false;
+                i += 1;
+            }
         } else if c == 2 {
             if commas < 16 {
                 stops[commas] = i - at;
@@ -460,7 +476,9 @@ pub fn scan_text(classes: &[u8; 256], stops: &mut [usize; 16], s: &[u8], at: usi
                 commas += 1;
                 i += 1;
             }
-        } else if c == 1 {
+        } else if c == 0 {
+            i += 1;
+        } else {
             if is_stop(b) {
                 return Scan {
                     end: i,
@@ -468,11 +486,6 @@ pub fn scan_text(classes: &[u8; 256], stops: &mut [usize; 16], s: &[u8], at: usi
                     commas,
                 };
             }
-            good = false;
-            i += 1;
-        } else if pair_at(s, i, c) {
-            i += 2;
-        } else {
             good = false;
             i += 1;
         }

@@ -1,8 +1,7 @@
-use native.Mathlib.Omega.{arith}
 use borrow.Author.Needs.{needs}
 use Prim.Native.Nat.{_-_}
 use lib.ListN.{length}
-use Rattle.characters.proofs.TextLaws.{Scanned, scan-laws, scan-start, scan-half}
+use Rattle.characters.proofs.TextLaws.{Scanned, scan-laws}
 use Rattle.characters.proofs.scan_text.Statement.{statement}
 use Rattle.characters.proofs.scan_text.Tie as tie
 use Rattle.characters.proofs.scan_text.Reads as reads
@@ -10,6 +9,7 @@ use Rattle.characters.proofs.scan_text.Lts as lts
 use Rattle.characters.proofs.class_of.Reads as class-of-reads
 use Rattle.characters.proofs.is_stop.Reads as is-stop-reads
 use Rattle.characters.proofs.pair_at.Reads as pair-at-reads
+use Rattle.characters.proofs.plain.Reads as plain-reads
 
 abbrev Inv-loop : tie.InvT-loop
 Inv-loop classes stops₀ s at i₀ good₀ commas₀ stops i good commas = Scanned s at stops₀ stops i good commas
@@ -18,13 +18,13 @@ abbrev μ-loop : tie.MeasureT-loop
 μ-loop classes stops₀ s at i₀ good₀ commas₀ stops i good commas = length s - i
 
 loop-holds : tie.Need-loop-holds Inv-loop μ-loop
-loop-holds c = search (needs, scan-start)
+loop-holds c = search (needs, scan-laws)
 
 shared-slice-read-b : tie.Need-shared-slice-read-b Inv-loop μ-loop
 shared-slice-read-b c = search (needs, scan-laws)
 
-class-of-requires : tie.Need-class-of-requires Inv-loop μ-loop
-class-of-requires c κs = search (needs, scan-laws)
+plain-requires : tie.Need-plain-requires Inv-loop μ-loop
+plain-requires c κs = search (needs, scan-laws)
 
 add-i : tie.Need-add-i Inv-loop μ-loop
 add-i c = search (needs, scan-laws)
@@ -34,6 +34,30 @@ loop-less c = search (needs, scan-laws)
 
 loop-again : tie.Need-loop-again Inv-loop μ-loop
 loop-again c = search (needs, scan-laws)
+
+class-of-requires : tie.Need-class-of-requires Inv-loop μ-loop
+class-of-requires c κs = search (needs, scan-laws)
+
+pair-at-requires : tie.Need-pair-at-requires Inv-loop μ-loop
+pair-at-requires c κs = search (needs, scan-laws)
+
+add-i-2 : tie.Need-add-i-2 Inv-loop μ-loop
+add-i-2 c = search (needs, scan-laws)
+
+loop-less-2 : tie.Need-loop-less-2 Inv-loop μ-loop
+loop-less-2 c = search (needs, scan-laws)
+
+loop-again-2 : tie.Need-loop-again-2 Inv-loop μ-loop
+loop-again-2 c = search (needs, scan-laws)
+
+add-i-3 : tie.Need-add-i-3 Inv-loop μ-loop
+add-i-3 c = search (needs, scan-laws)
+
+loop-less-3 : tie.Need-loop-less-3 Inv-loop μ-loop
+loop-less-3 c = search (needs, scan-laws)
+
+loop-again-3 : tie.Need-loop-again-3 Inv-loop μ-loop
+loop-again-3 c = search (needs, scan-laws)
 
 sub-stops : tie.Need-sub-stops Inv-loop μ-loop
 sub-stops c = search (needs, scan-laws)
@@ -47,33 +71,6 @@ element-write-stops c = search (needs, scan-laws)
 add-commas : tie.Need-add-commas Inv-loop μ-loop
 add-commas c = search (needs, scan-laws)
 
-add-i-2 : tie.Need-add-i-2 Inv-loop μ-loop
-add-i-2 c = search (needs, scan-laws)
-
-loop-less-2 : tie.Need-loop-less-2 Inv-loop μ-loop
-loop-less-2 c = search (needs, scan-laws)
-
-loop-again-2 : tie.Need-loop-again-2 Inv-loop μ-loop
-loop-again-2 c = search (needs, scan-laws)
-
-add-commas-2 : tie.Need-add-commas-2 Inv-loop μ-loop
-add-commas-2 c = search (needs, scan-laws)
-
-add-i-3 : tie.Need-add-i-3 Inv-loop μ-loop
-add-i-3 c = search (needs, scan-laws)
-
-loop-less-3 : tie.Need-loop-less-3 Inv-loop μ-loop
-loop-less-3 c = search (needs, scan-laws)
-
-loop-again-3 : tie.Need-loop-again-3 Inv-loop μ-loop
-loop-again-3 c = search (needs, scan-laws)
-
-is-stop-requires : tie.Need-is-stop-requires Inv-loop μ-loop
-is-stop-requires c κs = search (needs, scan-laws)
-
-returns : tie.Need-returns Inv-loop μ-loop
-returns c = search (needs, scan-laws)
-
 add-i-4 : tie.Need-add-i-4 Inv-loop μ-loop
 add-i-4 c = search (needs, scan-laws)
 
@@ -83,8 +80,8 @@ loop-less-4 c = search (needs, scan-laws)
 loop-again-4 : tie.Need-loop-again-4 Inv-loop μ-loop
 loop-again-4 c = search (needs, scan-laws)
 
-pair-at-requires : tie.Need-pair-at-requires Inv-loop μ-loop
-pair-at-requires c κs = search (needs, scan-laws)
+add-commas-2 : tie.Need-add-commas-2 Inv-loop μ-loop
+add-commas-2 c = search (needs, scan-laws)
 
 add-i-5 : tie.Need-add-i-5 Inv-loop μ-loop
 add-i-5 c = search (needs, scan-laws)
@@ -102,7 +99,22 @@ loop-less-6 : tie.Need-loop-less-6 Inv-loop μ-loop
 loop-less-6 c = search (needs, scan-laws)
 
 loop-again-6 : tie.Need-loop-again-6 Inv-loop μ-loop
-loop-again-6 c = scan-half (c .before .before .before .before .before .before .before .before .loop .inv) (omega arith) (c .before .before .before .before .before .class-of .ensures) (c .before .before .before .before .if1 .left) (c .before .before .before .if2 .left) (c .before .before .if4 .left) (c .before .pair-at .ensures) (c .if6 .left)
+loop-again-6 c = search (needs, scan-laws)
+
+is-stop-requires : tie.Need-is-stop-requires Inv-loop μ-loop
+is-stop-requires c κs = search (needs, scan-laws)
+
+returns : tie.Need-returns Inv-loop μ-loop
+returns c = search (needs, scan-laws)
+
+add-i-7 : tie.Need-add-i-7 Inv-loop μ-loop
+add-i-7 c = search (needs, scan-laws)
+
+loop-less-7 : tie.Need-loop-less-7 Inv-loop μ-loop
+loop-less-7 c = search (needs, scan-laws)
+
+loop-again-7 : tie.Need-loop-again-7 Inv-loop μ-loop
+loop-again-7 c = search (needs, scan-laws)
 
 returns-2 : tie.Need-returns-2 Inv-loop μ-loop
 returns-2 c = search (needs, scan-laws)
@@ -115,31 +127,35 @@ scan-text-spec =
     μ-loop
     loop-holds
     shared-slice-read-b
-    class-of-requires
+    plain-requires
     add-i
     loop-less
     loop-again
+    class-of-requires
+    pair-at-requires
+    add-i-2
+    loop-less-2
+    loop-again-2
+    add-i-3
+    loop-less-3
+    loop-again-3
     sub-stops
     mul-stops
     element-write-stops
     add-commas
-    add-i-2
-    loop-less-2
-    loop-again-2
-    add-commas-2
-    add-i-3
-    loop-less-3
-    loop-again-3
-    is-stop-requires
-    returns
     add-i-4
     loop-less-4
     loop-again-4
-    pair-at-requires
+    add-commas-2
     add-i-5
     loop-less-5
     loop-again-5
     add-i-6
     loop-less-6
     loop-again-6
+    is-stop-requires
+    returns
+    add-i-7
+    loop-less-7
+    loop-again-7
     returns-2)
