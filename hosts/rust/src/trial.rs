@@ -72,11 +72,12 @@ fn lend<T: Filling>(length: usize, filling: u64, call: impl FnOnce(&mut [T]) -> 
 #[cfg(test)]
 mod tests {
     use super::*;
+    use crate::library::Told;
 
     fn write(length: usize) -> impl FnOnce(&mut [u8]) -> Reply {
         move |out| {
             out[..length].fill(b'x');
-            Reply::from(length as u64)
+            (length as u64).reply()
         }
     }
 
@@ -87,9 +88,9 @@ mod tests {
         assert_eq!((difference.ours.a, difference.theirs.a, difference.place), (5, 4, Some(4)));
         let silent = |out: &mut [u8]| {
             out[2] ^= 1;
-            Reply::from(0)
+            0.reply()
         };
-        let difference = compare(5, 1, |_: &mut [u8]| Reply::from(0), silent).expect_err("a byte has changed");
+        let difference = compare(5, 1, |_: &mut [u8]| 0.reply(), silent).expect_err("a byte has changed");
         assert_eq!((difference.ours, difference.place), (difference.theirs, Some(2)));
     }
 

@@ -3,7 +3,7 @@
 //! ordinary. `bench CALL..` measures the named calls alone.
 
 use notebook_hosts::division::MOST_PIECES_BYTES;
-use notebook_hosts::library::{self, Reply};
+use notebook_hosts::library::{replies, Reply, Told};
 use notebook_hosts::{ordinary, sample};
 use std::hint::black_box;
 use std::time::Instant;
@@ -26,42 +26,37 @@ fn main() {
                 "check" => compare(
                     call,
                     &file,
-                    library::LINKED,
                     0,
-                    |file, _: &mut [u8]| ordinary::check(file).into(),
-                    |file, _| library::check(file).into(),
+                    |file, _: &mut [u8]| ordinary::check(file).reply(),
+                    |file, _| replies::check(file),
                 ),
                 "index" => compare(
                     call,
                     &file,
-                    library::LINKED,
                     6 * 8_192,
-                    |file, out: &mut [u32]| ordinary::index(file, out).into(),
-                    |file, out| library::index(file, out).into(),
+                    |file, out: &mut [u32]| ordinary::index(file, out).reply(),
+                    |file, out| replies::index(file, out),
                 ),
                 "canonical" => compare(
                     call,
                     &file,
-                    library::CANONICAL,
                     65_536,
-                    |file, out: &mut [u8]| ordinary::canonical(file, out).into(),
-                    |file, out| library::canonical(file, out).into(),
+                    |file, out: &mut [u8]| ordinary::canonical(file, out).reply(),
+                    |file, out| replies::canonical(file, out),
                 ),
                 "cut" => compare(
                     call,
                     &file,
-                    library::DIVISION,
                     MOST_PIECES_BYTES,
-                    |file, out: &mut [u8]| ordinary::cut(file, CAPACITY, ID, out).into(),
-                    |file, out| library::cut(file, CAPACITY, ID, out).into(),
+                    |file, out: &mut [u8]| ordinary::cut(file, CAPACITY, ID, out).reply(),
+                    |file, out| replies::cut(file, CAPACITY, ID, out),
                 ),
                 _ => compare(
                     call,
                     &last_piece_first(&file),
-                    library::DIVISION,
                     65_536,
-                    |input, out: &mut [u8]| ordinary::join(input, out).into(),
-                    |input, out| library::join(input, out).into(),
+                    |input, out: &mut [u8]| ordinary::join(input, out).reply(),
+                    |input, out| replies::join(input, out),
                 ),
             }
         }
@@ -81,23 +76,11 @@ fn last_piece_first(file: &[u8]) -> Vec<u8> {
 /// A call with its input and its buffer.
 type Call<T> = fn(&[u8], &mut [T]) -> Reply;
 
-/// Measures one call on one input and prints its rows; without the library only that of the ordinary implementation.
-fn compare<T: Copy + Default + PartialEq>(
-    call: &str,
-    input: &[u8],
-    linked: bool,
-    length: usize,
-    ordinary: Call<T>,
-    library: Call<T>,
-) {
+/// Measures one call on one input and prints its rows.
+fn compare<T: Copy + Default + PartialEq>(call: &str, input: &[u8], length: usize, ordinary: Call<T>, library: Call<T>) {
     let mut buffer = vec![T::default(); length];
     let reply = ordinary(input, &mut buffer);
     assert_eq!(reply.refusal, 0, "the sample is accepted");
-    if !linked {
-        let [ours] = measure(input, &mut buffer, [ordinary]);
-        row(call, input.len(), "ordinary", &ours, "");
-        return;
-    }
     let mut library_buffer = vec![T::default(); length];
     assert_eq!(reply, library(input, &mut library_buffer), "both answer alike");
     assert!(buffer == library_buffer, "both write alike");

@@ -1,0 +1,150 @@
+//! What the gateway says when it won't.
+
+use crate::raw::Reply;
+use std::error::Error;
+use std::fmt;
+
+/// Why an input is refused. The number of each is its value: `Reason::Form as u8` is 11.
+#[derive(Clone, Copy, Debug, PartialEq, Eq, Hash, PartialOrd, Ord)]
+#[repr(u8)]
+pub enum Reason {
+    /// Over the byte limit.
+    Large = 1,
+    /// The rule of line ends is broken, or there is no line.
+    LineEnd,
+    /// Line 1 is neither JAHISTC04,1 nor JAHISTC04,2.
+    Version,
+    /// A byte or pair is no character.
+    Character,
+    /// The record number is not listed.
+    Record,
+    /// A record 911 in a whole file.
+    Piece,
+    /// Wrong number of items.
+    Items,
+    /// A required item is empty.
+    Empty,
+    /// An item has too many bytes.
+    Long,
+    /// An item begins or ends with a space, or is in quotes.
+    Edge,
+    /// An item is not of its kind.
+    Form,
+    /// Two items, or an item and the group, do not agree.
+    Pair,
+    /// The record cannot stand here.
+    Place,
+    /// A required record is missing in what this line or the end closes.
+    Missing,
+    /// The prescription's value is wrong.
+    Rp,
+    /// A group is newer than the one before it.
+    DateOrder,
+    /// The ID is not 14 digits.
+    Id,
+    /// The file cannot be cut for this capacity.
+    NoCutting,
+    /// The pieces do not make a file.
+    Set,
+    /// The output cannot hold the result.
+    Short,
+}
+
+impl Reason {
+    /// All reasons, by number.
+    pub const ALL: [Reason; 20] = [
+        Reason::Large,
+        Reason::LineEnd,
+        Reason::Version,
+        Reason::Character,
+        Reason::Record,
+        Reason::Piece,
+        Reason::Items,
+        Reason::Empty,
+        Reason::Long,
+        Reason::Edge,
+        Reason::Form,
+        Reason::Pair,
+        Reason::Place,
+        Reason::Missing,
+        Reason::Rp,
+        Reason::DateOrder,
+        Reason::Id,
+        Reason::NoCutting,
+        Reason::Set,
+        Reason::Short,
+    ];
+
+    /// The number, 1 to 20.
+    pub fn number(self) -> u8 {
+        self as u8
+    }
+
+    /// The word for it.
+    pub fn word(self) -> &'static str {
+        match self {
+            Reason::Large => "large",
+            Reason::LineEnd => "line end",
+            Reason::Version => "version",
+            Reason::Character => "character",
+            Reason::Record => "record",
+            Reason::Piece => "piece",
+            Reason::Items => "items",
+            Reason::Empty => "empty",
+            Reason::Long => "long",
+            Reason::Edge => "edge",
+            Reason::Form => "form",
+            Reason::Pair => "pair",
+            Reason::Place => "place",
+            Reason::Missing => "missing",
+            Reason::Rp => "RP",
+            Reason::DateOrder => "date order",
+            Reason::Id => "ID",
+            Reason::NoCutting => "no cutting",
+            Reason::Set => "set",
+            Reason::Short => "short",
+        }
+    }
+}
+
+/// A refusal: shown as `no 11 3: form`, that is its number, its line and its word.
+#[derive(Clone, Copy, Debug, PartialEq, Eq, Hash)]
+pub struct Refusal {
+    /// Why.
+    pub reason: Reason,
+    /// The line that it is about, from 1 on; 0 if it is about the whole. One more than the lines if something is missing
+    /// at the end.
+    pub line: u64,
+}
+
+impl Refusal {
+    /// The refusal in a reply, if it is one.
+    pub(crate) fn of(reply: Reply) -> Option<Refusal> {
+        let place = usize::try_from(reply.refusal).ok()?.checked_sub(1)?;
+        // The library is proved to answer 0 to 20.
+        Some(Refusal { reason: Reason::ALL[place], line: reply.line })
+    }
+}
+
+impl fmt::Display for Refusal {
+    fn fmt(&self, f: &mut fmt::Formatter<'_>) -> fmt::Result {
+        write!(f, "no {} {}: {}", self.reason.number(), self.line, self.reason.word())
+    }
+}
+
+impl Error for Refusal {}
+
+#[cfg(test)]
+mod tests {
+    use super::*;
+
+    #[test]
+    fn reasons_by_number() {
+        for (number, reason) in (1..).zip(Reason::ALL) {
+            assert_eq!(reason.number(), number);
+        }
+        let refusal = Refusal::of(Reply { refusal: 15, line: 9, ..Reply::default() });
+        assert_eq!(refusal.expect("15 is a refusal").to_string(), "no 15 9: RP");
+        assert_eq!(Refusal::of(Reply::default()), None);
+    }
+}

@@ -1,0 +1,219 @@
+//! The comparison of the ordinary implementation with the gateway library: both are given the same inputs near every rule,
+//! in every call, with buffers of every kind of length, and must reply and write alike.
+
+use crate::damage::Damage;
+use crate::division::{join_input, CutInput, MOST_PIECES_BYTES};
+use crate::faults::{faults, Fault};
+use crate::library::{replies, Reply, Told};
+use crate::ordinary;
+use crate::random::Random;
+use crate::trial::{self, Difference, Filling};
+use std::fmt::Write;
+
+/// A call, the refusals that it can give, and how often it has given each; 0 counts the inputs that are accepted.
+struct Tally {
+    call: &'static str,
+    possible: &'static [usize],
+    counts: [u64; 21],
+}
+
+const FILE: &[usize] = &[0, 1, 2, 3, 4, 5, 6, 7, 8, 9, 10, 11, 12, 13, 14, 15, 16];
+const FILE_AND_BUFFER: &[usize] = &[0, 1, 2, 3, 4, 5, 6, 7, 8, 9, 10, 11, 12, 13, 14, 15, 16, 20];
+const CUT: &[usize] = &[0, 1, 2, 3, 4, 5, 6, 7, 8, 9, 10, 11, 12, 13, 14, 15, 16, 17, 18, 20];
+/// A joined file begins with a line 1 and has no 911: neither 3 nor 6.
+const JOIN: &[usize] = &[0, 1, 2, 4, 5, 7, 8, 9, 10, 11, 12, 13, 14, 15, 16, 19, 20];
+
+/// A comparison as far as it has come.
+pub struct Comparison {
+    seed: u64,
+    inputs: u64,
+    tallies: [Tally; 5],
+    /// How often each reason for 19 has stood alone; beside another one, a missing k does not count.
+    faults: [u64; Fault::ALL.len()],
+    differences: u64,
+    /// The first differences in words, with the whole inputs.
+    pub shown: Vec<String>,
+    files: Damage,
+    large: Vec<u8>,
+    entries: Vec<u32>,
+}
+
+/// Differences that are kept in words.
+const MOST_SHOWN: usize = 5;
+
+impl Comparison {
+    pub fn new(seed: u64) -> Self {
+        let tally = |call, possible| Tally { call, possible, counts: [0; 21] };
+        Comparison {
+            seed,
+            inputs: 0,
+            tallies: [
+                tally("check", FILE),
+                tally("index", FILE_AND_BUFFER),
+                tally("canonical", FILE_AND_BUFFER),
+                tally("cut", CUT),
+                tally("join", JOIN),
+            ],
+            faults: [0; Fault::ALL.len()],
+            differences: 0,
+            shown: Vec::new(),
+            files: Damage::default(),
+            large: vec![0; MOST_PIECES_BYTES],
+            entries: vec![0; 6 * 8_192],
+        }
+    }
+
+    pub fn inputs(&self) -> u64 {
+        self.inputs
+    }
+
+    pub fn differences(&self) -> u64 {
+        self.differences
+    }
+
+    /// Compares every call on the next input.
+    pub fn step(&mut self) {
+        let index = self.inputs;
+        self.inputs += 1;
+        let file = self.files.file(self.seed, index);
+        let cut = CutInput::new(self.seed, index, &file, &self.files);
+        let pieces = join_input(self.seed, index, &file, &self.files);
+        self.compare(&file, &cut, &pieces);
+    }
+
+    /// Compares every call: check, index and canonical on `file`.
+    pub fn compare(&mut self, file: &[u8], cut: &CutInput, pieces: &[u8]) {
+        let mut random = Random::of(self.seed ^ 0xBFF, self.inputs);
+        let (ours, theirs) = (ordinary::check(file).reply(), replies::check(file));
+        self.tallies[0].counts[ours.refusal as usize] += 1;
+        if ours != theirs {
+            self.tell("check", &[file], &Difference { length: 0, ours, theirs, place: None });
+        }
+
+        let needed = ordinary::index(file, &mut self.entries).ok().map(|records| 6 * records as usize);
+        self.call(
+            (1, &mut random, needed),
+            &[file],
+            |out: &mut [u32]| ordinary::index(file, out).reply(),
+            |out: &mut [u32]| replies::index(file, out),
+        );
+
+        let needed = ordinary::canonical(file, &mut self.large).ok().map(|bytes| bytes as usize);
+        self.call(
+            (2, &mut random, needed),
+            &[file],
+            |out: &mut [u8]| ordinary::canonical(file, out).reply(),
+            |out: &mut [u8]| replies::canonical(file, out),
+        );
+
+        let CutInput { file, capacity, id } = cut;
+        let needed = ordinary::cut(file, *capacity, id, &mut self.large).ok().map(|pieces| pieces.bytes as usize);
+        self.call(
+            (3, &mut random, needed),
+            &[file, format!("{capacity}").as_bytes(), id],
+            |out: &mut [u8]| ordinary::cut(file, *capacity, id, out).reply(),
+            |out: &mut [u8]| replies::cut(file, *capacity, id, out),
+        );
+
+        let answer = ordinary::join(pieces, &mut self.large);
+        let needed = answer.ok().map(|bytes| bytes as usize);
+        self.call(
+            (4, &mut random, needed),
+            &[pieces],
+            |out: &mut [u8]| ordinary::join(pieces, out).reply(),
+            |out: &mut [u8]| replies::join(pieces, out),
+        );
+        self.name_faults(pieces, answer.reply());
+    }
+
+    /// Gives one input to both implementations with each length of buffer.
+    fn call<T: Filling>(
+        &mut self,
+        (call, random, needed): (usize, &mut Random, Option<usize>),
+        input: &[&[u8]],
+        ours: impl Fn(&mut [T]) -> Reply,
+        theirs: impl Fn(&mut [T]) -> Reply,
+    ) {
+        for length in trial::lengths(random, needed) {
+            let result = trial::compare(length, self.inputs, &ours, &theirs);
+            let reply = result.as_ref().map_or_else(|difference| difference.ours, |reply| *reply);
+            self.tallies[call].counts[reply.refusal as usize] += 1;
+            if let Err(difference) = result {
+                self.tell(self.tallies[call].call, input, &difference);
+            }
+        }
+    }
+
+    /// Refusal 19 must have a reason, and what has a reason must be refused with 19 unless 1 or 2 comes first.
+    fn name_faults(&mut self, pieces: &[u8], ours: Reply) {
+        if ours.refusal == 2 || pieces.len() > MOST_PIECES_BYTES {
+            return;
+        }
+        let found = faults(pieces);
+        if found.is_empty() == (ours.refusal == 19) {
+            let theirs = Reply { refusal: 19 * u64::from(!found.is_empty()), ..Reply::default() };
+            self.tell("the reasons for 19", &[pieces], &Difference { length: 0, ours, theirs, place: None });
+        }
+        let alone = |fault: Fault| found.iter().all(|&other| other == fault || other == Fault::KMissing);
+        for (fault, count) in Fault::ALL.into_iter().zip(&mut self.faults) {
+            *count += u64::from(found.contains(&fault) && alone(fault));
+        }
+    }
+
+    fn tell(&mut self, call: &str, input: &[&[u8]], difference: &Difference) {
+        self.differences += 1;
+        if self.shown.len() == MOST_SHOWN {
+            return;
+        }
+        let Difference { length, ours, theirs, place } = difference;
+        let mut text = format!("{call}: seed {}, input {}, buffer of {length}\n", self.seed, self.inputs - 1);
+        let place = place.map_or(String::new(), |place| format!("  buffers differ first at {place}\n"));
+        let _ = write!(text, "  ordinary {ours:?}\n  library  {theirs:?}\n{place}");
+        for part in input {
+            let _ = writeln!(text, "  input of {} bytes", part.len());
+            hexadecimal(&mut text, part);
+        }
+        self.shown.push(text);
+    }
+
+    /// What has not occurred though it can: refusals of a call, and reasons for 19.
+    pub fn missing(&self) -> Vec<String> {
+        let mut missing = Vec::new();
+        for tally in &self.tallies {
+            let absent = tally.possible.iter().filter(|&&number| tally.counts[number] == 0);
+            missing.extend(absent.map(|number| format!("{}: {number} has not occurred", tally.call)));
+        }
+        let faults = Fault::ALL.iter().zip(self.faults).filter(|(_, count)| *count == 0);
+        missing.extend(faults.map(|(fault, _)| format!("join: 19 has not occurred by {fault:?} alone")));
+        missing
+    }
+
+    /// Tables of refusals by call and of the reasons for 19, and the last line: inputs and differences.
+    pub fn summary(&self) -> String {
+        let names: String = self.tallies.iter().map(|tally| format!("{:>10}", tally.call)).collect();
+        let mut text = format!("{:<10}{names}\n", "");
+        for number in 0..=20 {
+            let name = if number == 0 { "accepted".to_string() } else { format!("refused {number}") };
+            let counts: String = self.tallies.iter().map(|tally| format!("{:>10}", tally.counts[number])).collect();
+            let _ = writeln!(text, "{name:<10}{counts}");
+        }
+        for (fault, count) in Fault::ALL.iter().zip(self.faults) {
+            let _ = writeln!(text, "19 by {:<14}{count:>10}", format!("{fault:?}"));
+        }
+        for missing in self.missing() {
+            let _ = writeln!(text, "{missing}");
+        }
+        let _ = write!(text, "files {}, differences {}", self.inputs, self.differences);
+        text
+    }
+}
+
+/// Bytes in hexadecimal, each row after its offset.
+fn hexadecimal(text: &mut String, bytes: &[u8]) {
+    for (row, bytes) in bytes.chunks(16).enumerate() {
+        let hexadecimal: Vec<String> = bytes.iter().map(|byte| format!("{byte:02X}")).collect();
+        let letters: String =
+            bytes.iter().map(|&byte| if (0x20..0x7F).contains(&byte) { char::from(byte) } else { '.' }).collect();
+        let _ = writeln!(text, "  {:>6}  {:<47}  {letters}", 16 * row, hexadecimal.join(" "));
+    }
+}
