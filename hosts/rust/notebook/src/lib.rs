@@ -223,14 +223,15 @@ mod tests {
 
     #[test]
     fn pieces_are_slices_of_one_buffer() {
-        let cut = cut(FILE, 66, ID).expect("the file can be cut");
-        assert_eq!(cut.len(), 2);
-        assert_eq!(cut.get(1), Some(&b"JAHISTC04,2\r\n4,y,,2\r\n4,z,,2\r\n911,12345678901234,2,2\r\n"[..]));
-        assert_eq!(cut.get(2), None);
+        let file = [FILE, b"4,u,,2\r\n4,v,,2\r\n4,w,,2\r\n"].concat();
+        let cut = cut(&file, 67, ID).expect("the file can be cut");
+        assert_eq!(cut.pieces().map(<[u8]>::len).collect::<Vec<_>>(), [67, 61, 53]);
+        assert_eq!(cut.get(2), Some(&b"JAHISTC04,2\r\n4,v,,2\r\n4,w,,2\r\n911,12345678901234,3,3\r\n"[..]));
+        assert_eq!((cut.len(), cut.get(3)), (3, None));
         assert_eq!(cut.pieces().collect::<Vec<_>>().concat(), cut.as_bytes());
-        let turned: Vec<u8> = [cut.get(1), cut.get(0)].into_iter().flatten().flatten().copied().collect();
-        assert_eq!(join(&turned), canonical(FILE));
-        assert_eq!(join(cut.as_bytes()), canonical(FILE));
+        let turned: Vec<&[u8]> = [2, 0, 1].into_iter().filter_map(|piece| cut.get(piece)).collect();
+        assert_eq!(join(&turned.concat()), canonical(&file));
+        assert_eq!(join(cut.as_bytes()), canonical(&file));
     }
 
     #[test]
