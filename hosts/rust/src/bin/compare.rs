@@ -6,14 +6,21 @@
 //! differences. A run of 20,000 inputs or more fails too if a call has not given a refusal that it can give, or a reason for
 //! 19 has not occurred.
 //! `compare --minutes SEED MINUTES` is the same for so many minutes. Both tell their progress on standard error.
+//! `compare --seeds FOLDER` writes short inputs into a folder, for `fuzz/run` to begin with.
 //! `compare --frames SEED COUNT` writes the files of such a run as frames to standard output.
 
 use notebook_hosts::comparison::Comparison;
 use notebook_hosts::damage::Damage;
+use notebook_hosts::division::join_input;
 use notebook_hosts::ordinary::{self, Counts, Refusal};
+use std::fs;
 use std::io::{self, BufWriter, IsTerminal, Read, Write};
+use std::path::Path;
 use std::process::ExitCode;
 use std::time::Instant;
+
+const USAGE: &str = "usage: compare \
+    [--against-library SEED COUNT | --minutes SEED MINUTES | --frames SEED COUNT | --seeds FOLDER]";
 
 fn main() -> ExitCode {
     let arguments: Vec<String> = std::env::args().skip(1).collect();
@@ -27,9 +34,8 @@ fn main() -> ExitCode {
             numbers(seed, minutes).map(|(seed, minutes)| against_library(seed, |_, seconds| seconds >= 60 * minutes))
         }
         ["--frames", seed, count] => numbers(seed, count).and_then(|(seed, count)| write_frames(seed, count)),
-        _ => {
-            Err("usage: compare [--against-library SEED COUNT | --minutes SEED MINUTES | --frames SEED COUNT]".to_string())
-        }
+        ["--seeds", folder] => write_seeds(Path::new(folder)),
+        _ => Err(USAGE.to_string()),
     };
     result.unwrap_or_else(|message| {
         eprintln!("compare: {message}");
@@ -89,6 +95,20 @@ fn write_frames(seed: u64, count: u64) -> Result<ExitCode, String> {
         output.write_all(&file).map_err(failed)?;
     }
     output.flush().map_err(failed)?;
+    Ok(ExitCode::SUCCESS)
+}
+
+fn write_seeds(folder: &Path) -> Result<ExitCode, String> {
+    let files = Damage::default();
+    for index in 0..200 {
+        let file = files.file(1, index);
+        let pieces = join_input(1, index, &file, &files);
+        for (name, bytes) in [("file", &file), ("pieces", &pieces)] {
+            if bytes.len() <= 4_096 {
+                fs::write(folder.join(format!("{name}-{index}")), bytes).map_err(|error| error.to_string())?;
+            }
+        }
+    }
     Ok(ExitCode::SUCCESS)
 }
 

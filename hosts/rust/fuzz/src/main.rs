@@ -1,0 +1,28 @@
+//! One input of libFuzzer: all five calls of the library and of the ordinary implementation on the same bytes.
+
+#![no_main]
+
+use notebook_hosts::comparison::Comparison;
+use notebook_hosts::division::CutInput;
+use std::cell::RefCell;
+
+thread_local! {
+    static COMPARISON: RefCell<Comparison> = RefCell::new(Comparison::new(1));
+}
+
+/// # Safety
+///
+/// libFuzzer lends `size` bytes at `data`.
+#[no_mangle]
+pub unsafe extern "C" fn LLVMFuzzerTestOneInput(data: *const u8, size: usize) -> i32 {
+    let input = if size == 0 { &[][..] } else { std::slice::from_raw_parts(data, size) };
+    // The bytes decide the capacity: anything up to a little more than the file.
+    let sum = input.iter().fold(7_u64, |sum, &byte| sum.wrapping_mul(31).wrapping_add(u64::from(byte)));
+    let capacity = sum % (size as u64 + 40);
+    let cut = CutInput { file: input.to_vec(), capacity, id: b"12345678901234".to_vec() };
+    COMPARISON.with_borrow_mut(|comparison| {
+        comparison.compare(input, &cut, input);
+        assert_eq!(comparison.differences(), 0, "\n{}", comparison.shown.concat());
+    });
+    0
+}
