@@ -74,7 +74,6 @@ impl Comparison {
     /// Compares every call on the next input.
     pub fn step(&mut self) {
         let index = self.inputs;
-        self.inputs += 1;
         let file = self.files.file(self.seed, index);
         let cut = CutInput::new(self.seed, index, &file, &self.files);
         let pieces = join_input(self.seed, index, &file, &self.files);
@@ -84,6 +83,7 @@ impl Comparison {
     /// Compares every call: check, index and canonical on `file`.
     pub fn compare(&mut self, file: &[u8], cut: &CutInput, pieces: &[u8]) {
         let mut random = Random::of(self.seed ^ 0xBFF, self.inputs);
+        self.inputs += 1;
         let (ours, theirs) = (ordinary::check(file).reply(), replies::check(file));
         self.tallies[0].counts[ours.refusal as usize] += 1;
         if ours != theirs {
