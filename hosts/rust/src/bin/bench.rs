@@ -35,14 +35,14 @@ fn main() {
                     &file,
                     6 * 8_192,
                     |file, out: &mut [u32]| ordinary::index(file, out).reply(),
-                    |file, out| replies::index(file, out),
+                    replies::index,
                 ),
                 "canonical" => compare(
                     call,
                     &file,
                     65_536,
                     |file, out: &mut [u8]| ordinary::canonical(file, out).reply(),
-                    |file, out| replies::canonical(file, out),
+                    replies::canonical,
                 ),
                 "cut" => compare(
                     call,
@@ -56,7 +56,7 @@ fn main() {
                     &last_piece_first(&file),
                     65_536,
                     |input, out: &mut [u8]| ordinary::join(input, out).reply(),
-                    |input, out| replies::join(input, out),
+                    replies::join,
                 ),
             }
         }
