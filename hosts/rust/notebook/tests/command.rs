@@ -238,5 +238,8 @@ fn usage_and_failures() {
         };
         let (status, out, _) = run(&words, b"");
         assert_eq!((status, &out[..]), (2, ""), "{call}");
+        let (status, out, err) = run(&[&words[..], &["--json"]].concat(), b"");
+        assert_eq!((status, &out[..]), (2, ""), "{call}");
+        assert!(err.starts_with("{\"file\":\"samples/nothing.csv\",\"error\":\""), "{err}");
     }
 }

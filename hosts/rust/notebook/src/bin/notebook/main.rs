@@ -94,12 +94,17 @@ fn refused(json: bool, name: &OsStr, refusal: Refusal) -> Vec<u8> {
         .line()
 }
 
-/// An input that could not be read, or an output that could not be written.
-fn failed(json: bool, name: &OsStr, error: &io::Error) -> Told {
-    if json {
-        return Told::out(FAILED, Object::of(name).text("error", &error.to_string()).line());
+/// An input that could not be read, or an output that could not be written. With --json it is an object among the results
+/// of check and index; the other calls have files on standard output.
+fn failed(arguments: &Arguments, name: &OsStr, error: &io::Error) -> Told {
+    if !arguments.json {
+        return Told::err(FAILED, [b"notebook: ", &line(name, &error.to_string())[..]].concat());
     }
-    Told::err(FAILED, [b"notebook: ", &line(name, &error.to_string())[..]].concat())
+    let object = Object::of(name).text("error", &error.to_string()).line();
+    match arguments.call {
+        Call::Check | Call::Index => Told::out(FAILED, object),
+        Call::Canonical { .. } | Call::Cut { .. } | Call::Join => Told::err(FAILED, object),
+    }
 }
 
 // ---- Check, index, canonical with --to: any number of files
@@ -113,7 +118,7 @@ fn each_file(arguments: &Arguments) -> io::Result<u8> {
         inputs.len(),
         |at| match &inputs[at] {
             Ok(input) => tell(arguments, input),
-            Err((name, error)) => failed(arguments.json, name, error),
+            Err((name, error)) => failed(arguments, name, error),
         },
         |at, told| {
             status = status.max(told.status);
@@ -130,13 +135,13 @@ fn tell(arguments: &Arguments, input: &Input) -> Told {
     let (json, name) = (arguments.json, input.name());
     let file = match input.read(MOST_FILE_BYTES) {
         Ok(file) => file,
-        Err(error) => return failed(json, name, &error),
+        Err(error) => return failed(arguments, name, &error),
     };
     match &arguments.call {
         Call::Check => check(json, name, &file),
         Call::Index => index(json, name, &file),
         Call::Canonical { to } => {
-            canonical_to(json, name, &file, &to.as_ref().map_or(PathBuf::new(), |to| to.join(&input.below)))
+            canonical_to(arguments, name, &file, &to.as_ref().map_or(PathBuf::new(), |to| to.join(&input.below)))
         }
         Call::Cut { .. } | Call::Join => unreachable!("cut and join are not for each file"),
     }
@@ -174,17 +179,17 @@ fn index(json: bool, name: &OsStr, file: &[u8]) -> Told {
     Told::out(ACCEPTED, out)
 }
 
-fn canonical_to(json: bool, name: &OsStr, file: &[u8], to: &Path) -> Told {
+fn canonical_to(arguments: &Arguments, name: &OsStr, file: &[u8], to: &Path) -> Told {
     let canonical = match notebook::canonical(file) {
-        Err(refusal) => return Told::err(REFUSED, refused(json, name, refusal)),
+        Err(refusal) => return Told::err(REFUSED, refused(arguments.json, name, refusal)),
         Ok(canonical) => canonical,
     };
     let folder = to.parent().map_or(Ok(()), fs::create_dir_all);
     if let Err(error) = folder.and_then(|()| write_new(to, &canonical)) {
-        return failed(json, to.as_os_str(), &error);
+        return failed(arguments, to.as_os_str(), &error);
     }
     let bytes = canonical.len() as u64;
-    if json {
+    if arguments.json {
         return Told::out(
             ACCEPTED,
             Object::of(name).flag("ok", true).number("bytes", bytes).name("to", to.as_os_str()).line(),
@@ -204,7 +209,7 @@ fn one_file(arguments: &Arguments, call: impl Fn(&OsStr, &[u8]) -> Told) -> io::
     let input = Input::alone(&arguments.paths[0]);
     match input.read(MOST_FILE_BYTES) {
         Ok(file) => call(input.name(), &file),
-        Err(error) => failed(arguments.json, input.name(), &error),
+        Err(error) => failed(arguments, input.name(), &error),
     }
     .write()
 }
@@ -250,11 +255,11 @@ fn cut(arguments: &Arguments, name: &OsStr, file: &[u8]) -> Told {
         })
         .collect();
     if let Some(path) = paths.iter().find(|path| Path::new(path).symlink_metadata().is_ok()) {
-        return failed(arguments.json, path, &io::Error::from(io::ErrorKind::AlreadyExists));
+        return failed(arguments, path, &io::Error::from(io::ErrorKind::AlreadyExists));
     }
     for (path, piece) in paths.iter().zip(cut.pieces()) {
         if let Err(error) = write_new(Path::new(path), piece) {
-            return failed(arguments.json, path, &error);
+            return failed(arguments, path, &error);
         }
     }
     if arguments.json {
@@ -279,7 +284,7 @@ fn join(arguments: &Arguments) -> io::Result<u8> {
         });
         match part {
             Ok(part) => pieces.extend_from_slice(&part),
-            Err((name, error)) => return failed(arguments.json, &name, &error).write(),
+            Err((name, error)) => return failed(arguments, &name, &error).write(),
         }
         // The rest can't change the answer: the input is too large already, or a file ends within a line. That line must
         // not go on in the next file.
