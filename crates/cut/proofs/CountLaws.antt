@@ -7,7 +7,7 @@ use mathlib.Core.Path.{_≡_, refl, sym, ap, _∙_}
 use mathlib.Core.Bool.{Bool, true, false, cond, _&&_}
 use mathlib.Core.Option.{Option, none, some, Option·map}
 use mathlib.Core.List.{List, [], _∷_}
-use borrow.Author.Tests.{eqb-true, leb-true}
+use borrow.Author.Tests.{eqb-true, leb-true, leb-false}
 use lib.Dec.{eqb, leb}
 use lib.ListN.{length, drop}
 use Rattle.lists.specs.Lists.{part}
@@ -16,7 +16,7 @@ use Rattle.characters.specs.Rows.{rows}
 use Rattle.packing.specs.Packing.{pack, put}
 use Rattle.packing.specs.Widths.{Plan, split, digitsOf, over, serves, orNext, tries}
 use Rattle.packing.proofs.Packing.{pack-stay, pack-next, pack-none}
-use Rattle.packing.proofs.Widths.{digits-most}
+use Rattle.packing.proofs.Widths.{digits-most, digits-up}
 use Rattle.cut.specs.declared.Chosen.the-variants.{Count, NoWidth}
 use Rattle.pieces.specs.Answers.{RowAt}
 use Rattle.cut.specs.Loops.{OverOf, runsAt, lastPiece, packed, countFor, overheads, chosenBy, chosenFrom, chosen, Small}
@@ -97,6 +97,23 @@ module _ (s : List ℕ) (c w k u i e : ℕ) (x : RowAt s i e) where
 pub packed-done : (s : List ℕ) (c w k u i : ℕ) → length s ≤ i → packed s c w k u i ≡ some k
 unfolding packed
 packed-done s c w k u i h = ap (lastPiece k) (runs-done s c w k u i h) ∙ ap some (omega arith)
+
+pub packed-last : (s : List ℕ) (c w k u i : ℕ) → lastPiece k (runsAt s c w k u i) ≡ packed s c w k u i
+unfolding packed
+packed-last s c w k u i = refl
+
+last-from : (k n : ℕ) (m : Option (List (List (List ℕ)))) → lastPiece k m ≡ some n → k ≤ n
+last-from k n none e = let z : _≡_ {A = ℕ} 0 1 = cc in absurd (omega arith)
+last-from k n (some []) e = let q : k ≡ n = cc in omega arith
+last-from k n (some (x ∷ xs)) e = let q : k + length xs ≡ n = cc in omega arith
+
+-- a count of more digits does not serve
+never : (w n : ℕ) → w < digitsOf n → serves w n ≡ false
+never w n h = go (serves w n) refl
+  where
+    go : (b : Bool) → serves w n ≡ b → serves w n ≡ false
+    go true e = absurd (omega (arith, served w n e .0))
+    go false e = e
 
 -- ---- the widths
 
@@ -243,4 +260,20 @@ module _ (s : List ℕ) (c w₀ w t k u i : ℕ) (v : Packing s c w₀ w t k u i
     pub try-none : {o : ℕ} → c < u + (e - i) → OverOf w (k + 1) o → c < o + (e - i) → Trying s c (w + 1)
     try-none g y l = again (from-none s c w (v .wide) (sym (v .same) ∙ packed-none s c w k u i e x g (rw (y .is) at l)))
 
-pub ruleset count-laws = (try-start, try-out, pack-first, try-found, try-other, row-stays, row-opens, try-none)
+    -- a piece more than the width can count: no count serves
+    pub try-many : {d : ℕ} → c < u + (e - i) → d ≡ digitsOf (k + 1) → w < d → Trying s c (w + 1)
+    try-many {d} g y l = go (leb (over w (k + 1) + (e - i)) c) refl
+      where
+        many : (m : Option ℕ) → packed s c w (k + 1) (over w (k + 1) + (e - i)) e ≡ m → countFor s c w ≡ m → Trying s c (w + 1)
+        many none p q = again (from-none s c w (v .wide) q)
+        many (some n) p q =
+            let a : k + 1 ≤ n = last-from (k + 1) n (runsAt s c w (k + 1) (over w (k + 1) + (e - i)) e) (packed-last s c w (k + 1) (over w (k + 1) + (e - i)) e ∙ p) in
+            again (from-other s c w (v .wide) n q (never w n (omega (arith, y, digits-up (k + 1) n a))))
+
+        go : (b : Bool) → leb (over w (k + 1) + (e - i)) c ≡ b → Trying s c (w + 1)
+        go true p =
+            let q : packed s c w k u i ≡ packed s c w (k + 1) (over w (k + 1) + (e - i)) e = packed-next s c w k u i e x g (leb-true _ _ p) in
+            many (packed s c w (k + 1) (over w (k + 1) + (e - i)) e) refl (sym (v .same) ∙ q)
+        go false p = again (from-none s c w (v .wide) (sym (v .same) ∙ packed-none s c w k u i e x g (leb-false _ _ p)))
+
+pub ruleset count-laws = (try-start, try-out, pack-first, try-found, try-other, row-stays, row-opens, try-none, try-many)

@@ -86,6 +86,11 @@ fn first_width(s: &[u8], c: usize) -> Chosen
                 u += r;
             } else {
                 k += 1;
+                let d = digits_of(k);
+                if w < d {
+                    w += 1;
+                    continue 'widths;
+                }
                 let o = overhead(w, k);
                 t += o;
                 u = o + r;

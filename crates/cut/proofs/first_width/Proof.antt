@@ -1,15 +1,16 @@
 use borrow.Author.Needs.{needs}
 use Prim.Native.Nat.{_-_}
-use native.Mathlib.Omega.{arith}
 use lib.ListN.{length}
-use Rattle.cut.proofs.CountLaws.{Trying, Packing, row-stays, count-laws}
+use native.Mathlib.Omega.{arith}
+use Rattle.cut.proofs.CountLaws.{Trying, Packing, row-stays, try-none, try-many, count-laws}
 use Rattle.cut.proofs.first_width.Statement.{statement}
 use Rattle.cut.proofs.first_width.Tie as tie
 use Rattle.cut.proofs.first_width.Reads as reads
 use Rattle.cut.proofs.first_width.Lts as lts
+use Rattle.cut.proofs.digits_of.Reads as digits-of-reads
 use Rattle.cut.proofs.overhead.Reads as overhead-reads
-use Rattle.pieces.proofs.row_end.Reads as row-end-reads
 use Rattle.cut.proofs.serves_width.Reads as serves-width-reads
+use Rattle.pieces.proofs.row_end.Reads as row-end-reads
 
 abbrev Inv-loop : tie.InvT-loop
 Inv-loop s c w₀ t₀ k₀ u₀ i₀ w t k u i = Packing s c w₀ w t k u i
@@ -68,14 +69,8 @@ loop-again c = row-stays _ _ _ _ _ _ _ _ (c .before .before .before .loop .inv) 
 add-k : tie.Need-add-k Inv-loop μ-loop Inv-widths μ-widths
 add-k c = search (needs, count-laws)
 
-overhead-requires-2 : tie.Need-overhead-requires-2 Inv-loop μ-loop Inv-widths μ-widths
-overhead-requires-2 c κs = search (needs, count-laws)
-
-add-t : tie.Need-add-t Inv-loop μ-loop Inv-widths μ-widths
-add-t c = search (needs, count-laws)
-
-add-u-2 : tie.Need-add-u-2 Inv-loop μ-loop Inv-widths μ-widths
-add-u-2 c = search (needs, count-laws)
+digits-of-requires : tie.Need-digits-of-requires Inv-loop μ-loop Inv-widths μ-widths
+digits-of-requires c κs = search (needs, count-laws)
 
 add-w-2 : tie.Need-add-w-2 Inv-loop μ-loop Inv-widths μ-widths
 add-w-2 c = search (needs, count-laws)
@@ -85,6 +80,24 @@ widths-less-2 c = search (needs, count-laws)
 
 widths-again-2 : tie.Need-widths-again-2 Inv-loop μ-loop Inv-widths μ-widths
 widths-again-2 c = search (needs, count-laws)
+
+overhead-requires-2 : tie.Need-overhead-requires-2 Inv-loop μ-loop Inv-widths μ-widths
+overhead-requires-2 c κs = search (needs, count-laws)
+
+add-t : tie.Need-add-t Inv-loop μ-loop Inv-widths μ-widths
+add-t c = search (needs, count-laws)
+
+add-u-2 : tie.Need-add-u-2 Inv-loop μ-loop Inv-widths μ-widths
+add-u-2 c = search (needs, count-laws)
+
+add-w-3 : tie.Need-add-w-3 Inv-loop μ-loop Inv-widths μ-widths
+add-w-3 c = search (needs, count-laws)
+
+widths-less-3 : tie.Need-widths-less-3 Inv-loop μ-loop Inv-widths μ-widths
+widths-less-3 c = search (needs, count-laws)
+
+widths-again-3 : tie.Need-widths-again-3 Inv-loop μ-loop Inv-widths μ-widths
+widths-again-3 c = try-none _ _ _ _ _ _ _ _ (c .before .before .before .before .before .before .before .loop .inv) (c .before .before .before .before .before .row-end .ensures) (omega arith) (c .before .overhead2 .ensures) (omega arith)
 
 loop-less-2 : tie.Need-loop-less-2 Inv-loop μ-loop Inv-widths μ-widths
 loop-less-2 c = search (needs, count-laws)
@@ -118,12 +131,16 @@ first-width-spec =
     loop-less
     loop-again
     add-k
-    overhead-requires-2
-    add-t
-    add-u-2
+    digits-of-requires
     add-w-2
     widths-less-2
     widths-again-2
+    overhead-requires-2
+    add-t
+    add-u-2
+    add-w-3
+    widths-less-3
+    widths-again-3
     loop-less-2
     loop-again-2
     returns-2)
