@@ -15,10 +15,31 @@ const WARM_UP_ROUNDS: usize = 100;
 const CAPACITY: u64 = 500;
 const ID: &[u8] = b"20161115000001";
 
+/// A piece of this capacity holds one record of `fine`, so that the file makes 999 pieces.
+const FINE_CAPACITY: u64 = 101;
+
 fn main() {
     let wanted: Vec<String> = std::env::args().skip(1).collect();
     let measured = |call: &str| wanted.is_empty() || wanted.iter().any(|name| name == call);
     println!("call       bytes  code      minimum us  median us  ns/byte  ratio of minima  ratio of medians");
+    for call in ["cut-999", "join-999"].into_iter().filter(|call| measured(call)) {
+        match call {
+            "cut-999" => compare(
+                call,
+                &fine(),
+                MOST_PIECES_BYTES,
+                |file, out: &mut [u8]| ordinary::cut(file, FINE_CAPACITY, ID, out).reply(),
+                |file, out| replies::cut(file, FINE_CAPACITY, ID, out),
+            ),
+            _ => compare(
+                call,
+                &shuffled(pieces_of(&fine(), FINE_CAPACITY)),
+                65_536,
+                |input, out: &mut [u8]| ordinary::join(input, out).reply(),
+                replies::join,
+            ),
+        }
+    }
     for call in ["check", "index", "canonical", "cut", "join"].into_iter().filter(|call| measured(call)) {
         for target in [1_000, 4_000, 16_000, 60_000] {
             let file = sample::sized(target);
@@ -63,14 +84,37 @@ fn main() {
     }
 }
 
+/// A file of some 60,000 bytes that cuts into 999 pieces: record 1, and 998 notes of 60 bytes, mostly kanji.
+fn fine() -> Vec<u8> {
+    let mut file = b"JAHISTC04,2\r\n1,A,1,H010108,,,,,,,\r\n".to_vec();
+    for _ in 0..998 {
+        file.extend(b"4,");
+        for _ in 0..26 {
+            file.extend([0x8a, 0xbf]);
+        }
+        file.extend(b"x,,2\r\n");
+    }
+    file
+}
+
+fn pieces_of(file: &[u8], capacity: u64) -> Vec<Vec<u8>> {
+    let mut out = vec![0; MOST_PIECES_BYTES];
+    let cut = ordinary::cut(file, capacity, ID, &mut out).expect("the sample can be cut");
+    let lines: Vec<&[u8]> = out[..cut.bytes as usize].split_inclusive(|&byte| byte == b'\n').collect();
+    lines.chunk_by(|_, next| !next.starts_with(b"JAHISTC04,")).map(|piece| piece.concat()).collect()
+}
+
 /// The pieces of a file from the last to the first.
 fn last_piece_first(file: &[u8]) -> Vec<u8> {
-    let mut out = vec![0; MOST_PIECES_BYTES];
-    let cut = ordinary::cut(file, CAPACITY, ID, &mut out).expect("the sample can be cut");
-    let lines: Vec<&[u8]> = out[..cut.bytes as usize].split_inclusive(|&byte| byte == b'\n').collect();
-    let mut pieces: Vec<&[&[u8]]> = lines.chunk_by(|_, next| !next.starts_with(b"JAHISTC04,")).collect();
+    let mut pieces = pieces_of(file, CAPACITY);
     pieces.reverse();
-    pieces.concat().concat()
+    pieces.concat()
+}
+
+/// The pieces in an order that jumps about: every 371st, modulo their number, which has no factor in common with it.
+fn shuffled(pieces: Vec<Vec<u8>>) -> Vec<u8> {
+    assert_eq!(pieces.len(), 999, "the file makes 999 pieces");
+    (0..pieces.len()).flat_map(|k| pieces[k * 371 % pieces.len()].iter().copied()).collect()
 }
 
 /// A call with its input and its buffer.
