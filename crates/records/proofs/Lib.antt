@@ -1,3 +1,4 @@
+pub mod Cases
 pub mod KindLaws
 pub mod Splits
 pub mod ItemLaws

@@ -4,3 +4,4 @@ pub mod Items
 pub mod Records
 pub mod Language
 pub mod Paper
+pub mod Cases
