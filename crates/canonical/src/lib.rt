@@ -205,7 +205,7 @@ fn close(st: order::State, at: usize) -> Canonical
 
 // The records of a file from behind line 1 on, which is written already.
 fn write_records(
-    classes: &[u8; 256],
+    classes: &[u8; 512],
     codes: &[usize; 83],
     stops: &mut [usize; 16],
     provider: bool,
@@ -244,7 +244,7 @@ fn write_records(
 
 // Line 1, which is kept, and the records behind it.
 fn write_file(
-    classes: &[u8; 256],
+    classes: &[u8; 512],
     codes: &[usize; 83],
     stops: &mut [usize; 16],
     provider: bool,

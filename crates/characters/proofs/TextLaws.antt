@@ -12,11 +12,11 @@ use lib.Dec.{leb, eqb}
 use lib.ListN.{length, take, drop, getD, set, length-set, length-take, List·getD-append}
 use lib.Seq.{drop-drop, sets, sets-eq}
 use Rattle.lists.specs.Lists.{within, all, upTo}
-use Rattle.lists.proofs.Tests.{both, either, or-first, within-in, within-above, below, below-at}
+use Rattle.lists.proofs.Tests.{both, either, or-first, within-in, within-below, within-above}
 use Rattle.lists.proofs.Cuts.{drop-step, drop-end, two-on}
 use Rattle.characters.specs.Cells.{isOne, isPair, isTrail, isLead, allowed, fullRow, partRow}
 use Rattle.characters.specs.Text.{Char, One, Two, Bad, charOf, charAt, allChars, isStop, clean, commaCount, commasFrom, Stops, Sixteen, text, ScanOf}
-use Rattle.characters.specs.Classes.{wholeLead, classOf, classesFrom, Classes, signTrail, wideTrail, kataTrail, isFrequent, LeadAt, PairAt}
+use Rattle.characters.specs.Classes.{classesFrom, Classes, pairOf, pairAt}
 
 -- ---- no character has a 0Dh, 0Ah or 1Ah in it
 
@@ -89,28 +89,26 @@ trail-high b e =
 no-comma : (b : ℕ) → 0x40 ≤ b → eqb b 0x2c ≡ false
 no-comma b h = ne-eqb b 0x2c (λ e. omega arith)
 
-two-parts : (a b : ℕ) (r : List ℕ) → charOf (a ∷ b ∷ r) ≡ Two → (isOne a ≡ false) × (isPair a b ≡ true)
-two-parts a b r h = go (isOne a) (isPair a b) h
+-- a lead is no character of one byte
+lead-no-one : (a : ℕ) → isLead a ≡ true → isOne a ≡ false
+lead-no-one a e =
+    ⊎-elim
+    (λ h. let p = both (leb 0x81 a) (leb a 0x9f) h in outside (leb-true 0x81 a (p .0)) (inl (leb-true a 0x9f (p .1))))
+    (λ h. let p = both (leb 0xe0 a) (leb a 0xef) h in outside (omega (arith, leb-true 0xe0 a (p .0))) (inr (leb-true 0xe0 a (p .0))))
+    (either (within 0x81 0x9f a) (within 0xe0 0xef a) e)
   where
-    go : (x y : Bool) → cond x One (cond y Two Bad) ≡ Two → (x ≡ false) × (y ≡ true)
-    go true y e = let z : _≡_ {A = ℕ} 0 1 = cc in absurd (omega arith)
-    go false false e = let z : _≡_ {A = ℕ} 0 1 = cc in absurd (omega arith)
-    go false true e = (refl, refl)
+    outside : 0x81 ≤ a → (a ≤ 0x9f) ⊎ (0xe0 ≤ a) → isOne a ≡ false
+    outside h k =
+        rw (within-above 0x20 0x7e a (omega arith))
+        (⊎-elim (λ u. within-below 0xa1 0xdf a (omega arith)) (λ u. within-above 0xa1 0xdf a (omega arith)) k)
 
-two-lone : (a : ℕ) → charOf (a ∷ []) ≡ Two → ⊥
-two-lone a h = go (isOne a) h
-  where
-    go : (b : Bool) → cond b One Bad ≡ Two → ⊥
-    go true e = let z : _≡_ {A = ℕ} 0 1 = cc in omega arith
-    go false e = let z : _≡_ {A = ℕ} 0 1 = cc in omega arith
-
-two-text : (a : ℕ) (l : List ℕ) → charOf (a ∷ l) ≡ Two
+two-text : (a : ℕ) (l : List ℕ) → pairOf (a ∷ l) ≡ true
     → Leaves (a ∷ l) (drop 1 l) 2 × (commaCount (text (a ∷ l)) ≡ commaCount (text (drop 1 l))) × ((k : ℕ) → commasFrom k (text (a ∷ l)) ≡ commasFrom (suc (suc k)) (text (drop 1 l)))
-two-text a [] h = absurd (two-lone a h)
+two-text a [] h = absurd (false≢true h)
 two-text a (b ∷ r) h =
-    let p : (isOne a ≡ false) × (isPair a b ≡ true) = two-parts a b r h in
-    let s : (isStop a ≡ false) × (isStop b ≡ false) = pair-go a b (p .1) in
-    let q : (isLead a ≡ true) × (isTrail b ≡ true) = pair-parts a b (p .1) in
+    let q : (isLead a ≡ true) × (isTrail b ≡ true) = pair-parts a b h in
+    let p : (isOne a ≡ false) × (isPair a b ≡ true) = (lead-no-one a (q .0), h) in
+    let s : (isStop a ≡ false) × (isStop b ≡ false) = pair-go a b h in
     let m : 0x81 ≤ a = lead-high a (q .0) in
     (record { size = simp (s .0, s .1) (omega arith); chars = simp (s .0, s .1, p .0, p .1) }, simp (s .0, s .1, no-comma a (omega arith), no-comma b (trail-high b (q .1))) (omega arith), λ k. simp (s .0, s .1, no-comma a (omega arith), no-comma b (trail-high b (q .1))))
 
@@ -127,237 +125,6 @@ bad-text a (b ∷ r) s h = go (isOne a) refl (isPair a b) refl (isStop b) refl h
     go false p true q z t e = cc
     go false p false q true t e = simp (s, t, p)
     go false p false q false t e = simp (s, t, p, q)
-
--- ---- classes: what the table tells of a byte
-
-class-from : (a n k : ℕ) → k < n → getD (classesFrom a n) k 0 ≡ classOf (a + k)
-class-from a zero k h = absurd (omega arith)
-class-from a (suc n) zero h = ap classOf (sym (add-zero a))
-class-from a (suc n) (suc k) h =
-    let e : suc a + k ≡ a + suc k = omega arith in
-    class-from (suc a) n k (omega arith) ∙ ap classOf e
-
-pub class-at : {l : List ℕ} (b : ℕ) {i : ℕ} → Classes l → i ≡ b → i < 256 → getD l i 0 ≡ classOf b
-class-at b {i} v e h = ap (λ (x : List ℕ). getD x i 0) (v .is) ∙ class-from 0 256 i h ∙ ap classOf (zero-add i ∙ e)
-
--- what a class says of its byte
-record Told (a : ℕ) (c : ℕ) : Type 0 where
-  one : c ≡ 0 → (isOne a ≡ true) × (eqb a 0x2c ≡ false)
-  comma : c ≡ 2 → (isOne a ≡ true) × (eqb a 0x2c ≡ true)
-  none : c ≡ 1 → (isOne a ≡ false) × (isLead a ≡ false)
-  lead : (c ≡ 0 → ⊥) → (c ≡ 2 → ⊥) → isOne a ≡ false
-  whole : c ≡ 3 → wholeLead a ≡ true
-  high : (c ≡ 1 → ⊥) → (c ≡ 0 → ⊥) → (c ≡ 2 → ⊥) → isLead a ≡ true
-
-whole-lead : (a : ℕ) → wholeLead a ≡ true → isLead a ≡ true
-whole-lead a e =
-    let lo : 0x81 ≤ a = omega (arith, parts .0) in
-    go (leb a 0x9f) refl
-  where
-    parts : (0x89 ≤ a) × ((a ≤ 0x9f) ⊎ ((0xe0 ≤ a) × (a ≤ 0xe9)))
-    parts =
-        ⊎-elim
-        (λ h. ⊎-elim
-        (λ k. (leb-true 0x89 a (both (leb 0x89 a) (leb a 0x97) k .0), inl (omega (arith, leb-true a 0x97 (both (leb 0x89 a) (leb a 0x97) k .1)))))
-        (λ k. (omega (arith, leb-true 0x99 a (both (leb 0x99 a) (leb a 0x9f) k .0)), inl (leb-true a 0x9f (both (leb 0x99 a) (leb a 0x9f) k .1))))
-        (either (within 0x89 0x97 a) (within 0x99 0x9f a) h))
-        (λ k. let p = both (leb 0xe0 a) (leb a 0xe9) k in (omega (arith, leb-true 0xe0 a (p .0)), inr (leb-true 0xe0 a (p .0), leb-true a 0xe9 (p .1))))
-        (either (within 0x89 0x97 a || within 0x99 0x9f a) (within 0xe0 0xe9 a) e)
-
-    go : (x : Bool) → leb a 0x9f ≡ x → isLead a ≡ true
-    go true q = or-first (within 0x81 0x9f a) (within 0xe0 0xef a) (within-in 0x81 0x9f a (omega (arith, parts .0)) (leb-true a 0x9f q))
-    go false q =
-        ⊎-elim
-        (λ h. absurd (omega (arith, h, leb-false a 0x9f q)))
-        (λ h. rw (within-above 0x81 0x9f a (leb-false a 0x9f q)) (within-in 0xe0 0xef a (h .0) (omega (arith, h .1))))
-        (parts .1)
-
-told : (a : ℕ) → Told a (classOf a)
-unfolding classOf
-told a = go (eqb a 0x2c) refl (isOne a) refl (wholeLead a) refl (isLead a) refl
-  where
-    comma-one : eqb a 0x2c ≡ true → isOne a ≡ true
-    comma-one e = rw (eqb-true a 0x2c e)
-
-    go : (x : Bool) → eqb a 0x2c ≡ x → (y : Bool) → isOne a ≡ y → (z : Bool) → wholeLead a ≡ z → (w : Bool) → isLead a ≡ w → Told a (cond x 2 (cond y 0 (cond z 3 (cond w 4 1))))
-    go true p y q z r w t = record {
-      one = λ e. absurd (omega arith);
-      comma = λ e. (comma-one p, p);
-      none = λ e. absurd (omega arith);
-      lead = λ e f. absurd (f refl);
-      whole = λ e. absurd (omega arith);
-      high = λ e f g. absurd (g refl);
-    }
-    go false p true q z r w t = record {
-      one = λ e. (q, p);
-      comma = λ e. absurd (omega arith);
-      none = λ e. absurd (omega arith);
-      lead = λ e f. absurd (e refl);
-      whole = λ e. absurd (omega arith);
-      high = λ e f g. absurd (f refl);
-    }
-    go false p false q true r w t = record {
-      one = λ e. absurd (omega arith);
-      comma = λ e. absurd (omega arith);
-      none = λ e. absurd (omega arith);
-      lead = λ e f. q;
-      whole = λ e. r;
-      high = λ e f g. whole-lead a r;
-    }
-    go false p false q false r true t = record {
-      one = λ e. absurd (omega arith);
-      comma = λ e. absurd (omega arith);
-      none = λ e. absurd (omega arith);
-      lead = λ e f. q;
-      whole = λ e. absurd (omega arith);
-      high = λ e f g. t;
-    }
-    go false p false q false r false t = record {
-      one = λ e. absurd (omega arith);
-      comma = λ e. absurd (omega arith);
-      none = λ e. (q, t);
-      lead = λ e f. q;
-      whole = λ e. absurd (omega arith);
-      high = λ e f g. absurd (e refl);
-    }
-
--- every trail makes a character with a lead of whole rows; rows 1, 3, 4 and 5 have what is_frequent says: computed over the bytes
-abbrev onlyIf : Bool → Bool → Bool
-onlyIf x y = not x || y
-
-onlyIf-at : (x y : Bool) → onlyIf x y ≡ true → x ≡ true → y ≡ true
-onlyIf-at true y e h = e
-onlyIf-at false y e h = absurd (false≢true h)
-
-wholeTrails : ℕ → Bool
-wholeTrails a = onlyIf (wholeLead a) (below (λ b. onlyIf (isTrail b) (isPair a b)) 256)
-
-whole-trails : below wholeTrails 256 ≡ true
-unfolding below wholeTrails isPair allowed fullRow partRow
-whole-trails = refl
-
-frequentTrails : ℕ → Bool
-frequentTrails b = onlyIf (signTrail b) (isPair 0x81 b) && (onlyIf (wideTrail b) (isPair 0x82 b) && onlyIf (kataTrail b) (isPair 0x83 b))
-
-frequent-trails : below frequentTrails 256 ≡ true
-unfolding below frequentTrails isPair allowed fullRow partRow
-frequent-trails = refl
-
-lead-byte : (a : ℕ) → isLead a ≡ true → a < 256
-lead-byte a e =
-    ⊎-elim
-    (λ h. omega (arith, leb-true a 0x9f (both (leb 0x81 a) (leb a 0x9f) h .1)))
-    (λ h. omega (arith, leb-true a 0xef (both (leb 0xe0 a) (leb a 0xef) h .1)))
-    (either (within 0x81 0x9f a) (within 0xe0 0xef a) e)
-
-trail-byte : (b : ℕ) → isTrail b ≡ true → b < 256
-trail-byte b e =
-    ⊎-elim
-    (λ h. omega (arith, leb-true b 0x7e (both (leb 0x40 b) (leb b 0x7e) h .1)))
-    (λ h. omega (arith, leb-true b 0xfc (both (leb 0x80 b) (leb b 0xfc) h .1)))
-    (either (within 0x40 0x7e b) (within 0x80 0xfc b) e)
-
-whole-pair : (a b : ℕ) → wholeLead a ≡ true → isTrail b ≡ isPair a b
-unfolding wholeTrails
-whole-pair a b e = go (isTrail b) refl (isPair a b) refl
-  where
-    go : (x : Bool) → isTrail b ≡ x → (y : Bool) → isPair a b ≡ y → x ≡ y
-    go true p y q =
-        sym (onlyIf-at (isTrail b) (isPair a b)
-        (below-at (λ b. onlyIf (isTrail b) (isPair a b)) 256
-        (onlyIf-at (wholeLead a) (below (λ b. onlyIf (isTrail b) (isPair a b)) 256) (below-at wholeTrails 256 whole-trails a (lead-byte a (whole-lead a e))) e)
-        b (trail-byte b p)) p) ∙ q
-    go false p true q = absurd (false≢true (sym p ∙ pair-parts a b q .1))
-    go false p false q = refl
-
--- a trail of one of these rows is a byte
-inside-256 : (lo hi b : ℕ) → hi ≤ 0xff → within lo hi b ≡ true → b < 256
-inside-256 lo hi b h e = omega (arith, leb-true b hi (both (leb lo b) (leb b hi) e .1))
-
-two-ranges : (l h l′ h′ b : ℕ) → h ≤ 0xff → h′ ≤ 0xff → (within l h b || within l′ h′ b) ≡ true → b < 256
-two-ranges l h l′ h′ b p q e = ⊎-elim (inside-256 l h b p) (inside-256 l′ h′ b q) (either (within l h b) (within l′ h′ b) e)
-
-wide-byte : (b : ℕ) → wideTrail b ≡ true → b < 256
-wide-byte b e =
-    ⊎-elim
-    (λ x. ⊎-elim (two-ranges 0x4f 0x58 0x60 0x79 b (omega arith) (omega arith)) (inside-256 0x81 0x9a b (omega arith)) (either (within 0x4f 0x58 b || within 0x60 0x79 b) (within 0x81 0x9a b) x))
-    (inside-256 0x9f 0xf1 b (omega arith))
-    (either (within 0x4f 0x58 b || within 0x60 0x79 b || within 0x81 0x9a b) (within 0x9f 0xf1 b) e)
-
-frequent-pair : (a b : ℕ) → isFrequent a b ≡ true → isPair a b ≡ true
-unfolding isFrequent frequentTrails
-frequent-pair a b e = go (eqb a 0x81) refl (eqb a 0x82) refl (eqb a 0x83) refl e
-  where
-    Tested : Type 0
-    Tested = (onlyIf (signTrail b) (isPair 0x81 b) ≡ true) × (onlyIf (wideTrail b) (isPair 0x82 b) ≡ true) × (onlyIf (kataTrail b) (isPair 0x83 b) ≡ true)
-
-    tested : b < 256 → Tested
-    tested h =
-        let p = both (onlyIf (signTrail b) (isPair 0x81 b)) (onlyIf (wideTrail b) (isPair 0x82 b) && onlyIf (kataTrail b) (isPair 0x83 b)) (below-at frequentTrails 256 frequent-trails b h) in
-        let q = both (onlyIf (wideTrail b) (isPair 0x82 b)) (onlyIf (kataTrail b) (isPair 0x83 b)) (p .1) in
-        (p .0, q .0, q .1)
-
-    go : (x : Bool) → eqb a 0x81 ≡ x → (y : Bool) → eqb a 0x82 ≡ y → (z : Bool) → eqb a 0x83 ≡ z
-        → cond x (signTrail b) (cond y (wideTrail b) (cond z (kataTrail b) false)) ≡ true → isPair a b ≡ true
-    go true p y q z r e = rw (eqb-true a 0x81 p) (onlyIf-at (signTrail b) (isPair 0x81 b) (tested (two-ranges 0x40 0x7e 0x80 0x9e b (omega arith) (omega arith) e) .0) e)
-    go false p true q z r e = rw (eqb-true a 0x82 q) (onlyIf-at (wideTrail b) (isPair 0x82 b) (tested (wide-byte b e) .1) e)
-    go false p false q true r e = rw (eqb-true a 0x83 r) (onlyIf-at (kataTrail b) (isPair 0x83 b) (tested (two-ranges 0x40 0x7e 0x80 0x96 b (omega arith) (omega arith) e) .2) e)
-    go false p false q false r e = absurd (false≢true e)
-
--- the ways through is_frequent
-module _ (a b : ℕ) where
-  pub frequent-81 : {x y : Bool} → a ≡ 0x81 → x ≡ within 0x40 0x7e b → y ≡ within 0x80 0x9e b → (x || y) ≡ isFrequent a b
-  unfolding isFrequent
-  frequent-81 h e f = rw (e, f) (simp (eq-eqb a 0x81 h))
-
-  module _ (n81 : a ≡ 0x81 → ⊥) where
-    pub frequent-82 : {x y z w : Bool} → a ≡ 0x82 → x ≡ within 0x4f 0x58 b → y ≡ within 0x60 0x79 b → z ≡ within 0x81 0x9a b → w ≡ within 0x9f 0xf1 b → (x || y || z || w) ≡ isFrequent a b
-    unfolding isFrequent
-    frequent-82 h e f g i = rw (e, f, g, i) (simp (ne-eqb a 0x81 n81, eq-eqb a 0x82 h))
-
-    pub frequent-83 : {x y : Bool} → (a ≡ 0x82 → ⊥) → a ≡ 0x83 → x ≡ within 0x40 0x7e b → y ≡ within 0x80 0x96 b → (x || y) ≡ isFrequent a b
-    unfolding isFrequent
-    frequent-83 n h e f = rw (e, f) (simp (ne-eqb a 0x81 n81, ne-eqb a 0x82 n, eq-eqb a 0x83 h))
-
-    pub frequent-none : (a ≡ 0x82 → ⊥) → (a ≡ 0x83 → ⊥) → false ≡ isFrequent a b
-    unfolding isFrequent
-    frequent-none n m = simp (ne-eqb a 0x81 n81, ne-eqb a 0x82 n, ne-eqb a 0x83 m)
-
--- ---- a lead at a position, and the ways through pair_at
-
-pub lead-at : (s : List ℕ) (i : ℕ) {c : ℕ} → i < length s → c ≡ classOf (getD s i 0) → (c ≡ 0 → ⊥) → (c ≡ 2 → ⊥) → (c ≡ 1 → ⊥) → LeadAt s i c
-lead-at s i h q a b d = record { inside = h; class = q; one = a; comma = b; none = d }
-
-module _ (s : List ℕ) (i : ℕ) {c : ℕ} (v : LeadAt s i c) where
-  byte-told : Told (getD s i 0) c
-  byte-told = subst (Told (getD s i 0)) (sym (v .class)) (told (getD s i 0))
-
-  no-one : isOne (getD s i 0) ≡ false
-  no-one = byte-told .lead (v .one) (v .comma)
-
-  pub pair-short : length s ≤ i + 1 → PairAt s i false
-  unfolding charAt
-  pair-short k = record { tells = rw (drop-step s i 0 (v .inside), drop-end s (i + 1) k) (simp no-one) }
-
-  module _ (k : i + 1 < length s) where
-    by-pair : charAt s i ≡ cond (isPair (getD s i 0) (getD s (i + 1) 0)) Two Bad
-    unfolding charAt
-    by-pair = rw (two-on s i 0 k) (simp no-one)
-
-    pub pair-whole : {x : Bool} → c ≡ 3 → x ≡ isTrail (getD s (i + 1) 0) → PairAt s i x
-    pair-whole e q = record { tells = by-pair ∙ ap (λ (y : Bool). cond y Two Bad) (sym (whole-pair (getD s i 0) (getD s (i + 1) 0) (byte-told .whole e)) ∙ sym q) }
-
-    pub pair-frequent : {x : Bool} → x ≡ isFrequent (getD s i 0) (getD s (i + 1) 0) → x ≡ true → PairAt s i true
-    pair-frequent p q = record { tells = by-pair ∙ ap (λ (y : Bool). cond y Two Bad) (frequent-pair (getD s i 0) (getD s (i + 1) 0) (sym p ∙ q)) }
-
-    pub pair-other : {x : Bool} → x ≡ isPair (getD s i 0) (getD s (i + 1) 0) → PairAt s i x
-    pair-other q = record { tells = by-pair ∙ ap (λ (y : Bool). cond y Two Bad) (sym q) }
-
-pub ruleset pair-laws = (pair-short, pair-whole, pair-frequent, pair-other)
-
-no-pair : (a b : ℕ) → isLead a ≡ false → isPair a b ≡ false
-unfolding isPair
-no-pair a b e = simp e
 
 -- ---- the loop of scan_text: the text's end, its goodness and its commas, as told by what is left from i on
 
@@ -431,12 +198,9 @@ module _ {s : List ℕ} {at : ℕ} {a₀ a : List ℕ} {i : ℕ} {good : Bool} {
   pub scan-end : length s ≤ i → ScanOf s at a (record { end = i; good = good; commas = n })
   scan-end h = done (rw (drop-end s i h))
 
-  module _ (h : i < length s) {c : ℕ} (q : c ≡ classOf (getD s i 0)) where
+  module _ (h : i < length s) where
     now-at : drop i s ≡ getD s i 0 ∷ drop (i + 1) s
     now-at = drop-step s i 0 h
-
-    says : Told (getD s i 0) c
-    says = subst (Told (getD s i 0)) (sym q) (told (getD s i 0))
 
     -- a byte of text, with its commas
     byte-on : isStop (getD s i 0) ≡ false → (length (text (drop i s)) ≡ 1 + length (text (drop (i + 1) s))) × (commaCount (text (drop i s)) ≡ cond (eqb (getD s i 0) 0x2c) 1 0 + commaCount (text (drop (i + 1) s)))
@@ -466,20 +230,32 @@ module _ {s : List ℕ} {at : ℕ} {a₀ a : List ℕ} {i : ℕ} {good : Bool} {
     plain-on : isStop (getD s i 0) ≡ false → eqb (getD s i 0) 0x2c ≡ false → kept a n (commasFrom (i + 1 - at) (text (drop (i + 1) s))) ≡ kept a₀ 0 (commasFrom 0 (text (drop at s)))
     plain-on e z = ap (kept a n) (sym (places-on e ∙ rw z)) ∙ v .places
 
-    pub scan-one : c ≡ 0 → Scanned s at a₀ a (i + 1) good n
-    scan-one e =
-        let w = says .one e in
+    one-byte : isOne (getD s i 0) ≡ true → eqb (getD s i 0) 0x2c ≡ false → Scanned s at a₀ a (i + 1) good n
+    one-byte o e =
         let z : n + 0 ≡ n = add-zero n in
         subst (Scanned s at a₀ a (i + 1) good) z
-        (one-on (w .0) 0 (rw (w .1)) (omega arith) (ap (λ (k : ℕ). kept a k (commasFrom (i + 1 - at) (text (drop (i + 1) s)))) z ∙ plain-on (one-go (getD s i 0) (w .0)) (w .1)) (v .size))
+        (one-on o 0 (rw e) (omega arith) (ap (λ (k : ℕ). kept a k (commasFrom (i + 1 - at) (text (drop (i + 1) s)))) z ∙ plain-on (one-go (getD s i 0) o) e) (v .size))
+
+    pub scan-plain : {x : Bool} → x ≡ within 0x2d 0x7e (getD s i 0) → x ≡ true → Scanned s at a₀ a (i + 1) good n
+    scan-plain p e =
+        let w = both (leb 0x2d (getD s i 0)) (leb (getD s i 0) 0x7e) (sym p ∙ e) in
+        let lo : 0x2d ≤ getD s i 0 = leb-true 0x2d (getD s i 0) (w .0) in
+        let hi : getD s i 0 ≤ 0x7e = leb-true (getD s i 0) 0x7e (w .1) in
+        one-byte (or-first (within 0x20 0x7e (getD s i 0)) (within 0xa1 0xdf (getD s i 0)) (within-in 0x20 0x7e (getD s i 0) (omega arith) hi)) (ne-eqb (getD s i 0) 0x2c (λ d. omega arith))
+
+    pub scan-one : {x : Bool} → (getD s i 0 ≡ 0x2c → ⊥) → x ≡ isOne (getD s i 0) → x ≡ true → Scanned s at a₀ a (i + 1) good n
+    scan-one k p e = one-byte (sym p ∙ e) (ne-eqb (getD s i 0) 0x2c k)
+
+    comma-one : getD s i 0 ≡ 0x2c → isOne (getD s i 0) ≡ true
+    comma-one e = rw e
 
     comma-on : isOne (getD s i 0) ≡ true → eqb (getD s i 0) 0x2c ≡ true
         → kept a n ((i - at) ∷ commasFrom (i + 1 - at) (text (drop (i + 1) s))) ≡ kept a₀ 0 (commasFrom 0 (text (drop at s)))
     comma-on o z = ap (kept a n) (sym (places-on (one-go (getD s i 0) o) ∙ rw z)) ∙ v .places
 
-    pub scan-comma : c ≡ 2 → n < 16 → Scanned s at a₀ (set a n (i - at)) (i + 1) good (n + 1)
+    pub scan-comma : getD s i 0 ≡ 0x2c → n < 16 → Scanned s at a₀ (set a n (i - at)) (i + 1) good (n + 1)
     scan-comma e k =
-        let w = says .comma e in
+        let w : (isOne (getD s i 0) ≡ true) × (eqb (getD s i 0) 0x2c ≡ true) = (comma-one e, eq-eqb (getD s i 0) 0x2c e) in
         let x : 16 - n ≡ suc (16 - (n + 1)) = omega arith in
         let y : n + 1 ≡ suc n = add-one n in
         one-on (w .0) 1 (rw (w .1)) (omega arith)
@@ -487,9 +263,9 @@ module _ {s : List ℕ} {at : ℕ} {a₀ a : List ℕ} {i : ℕ} {good : Bool} {
         ∙ ap (λ (j : ℕ). sets a n (take j ((i - at) ∷ commasFrom (i + 1 - at) (text (drop (i + 1) s))))) (sym x) ∙ comma-on (w .0) (w .1))
         (simp length-set (v .size))
 
-    pub scan-more : c ≡ 2 → 16 ≤ n → Scanned s at a₀ a (i + 1) good (n + 1)
+    pub scan-more : getD s i 0 ≡ 0x2c → 16 ≤ n → Scanned s at a₀ a (i + 1) good (n + 1)
     scan-more e k =
-        let w = says .comma e in
+        let w : (isOne (getD s i 0) ≡ true) × (eqb (getD s i 0) 0x2c ≡ true) = (comma-one e, eq-eqb (getD s i 0) 0x2c e) in
         let x : 16 - n ≡ 0 = omega arith in
         let y : 16 - (n + 1) ≡ 0 = omega arith in
         one-on (w .0) 1 (rw (w .1)) (omega arith)
@@ -498,8 +274,8 @@ module _ {s : List ℕ} {at : ℕ} {a₀ a : List ℕ} {i : ℕ} {good : Bool} {
         (v .size)
 
     -- x is what is_stop said
-    pub scan-stop : {x : Bool} → c ≡ 1 → x ≡ isStop (getD s i 0) → x ≡ true → ScanOf s at a (record { end = i; good = good; commas = n })
-    scan-stop e p t = done (rw now-at (simp (sym p ∙ t)))
+    pub scan-stop : {x : Bool} → x ≡ isStop (getD s i 0) → x ≡ true → ScanOf s at a (record { end = i; good = good; commas = n })
+    scan-stop p t = done (rw now-at (simp (sym p ∙ t)))
 
     -- a byte that begins no character and is no comma
     bad-on : isOne (getD s i 0) ≡ false → isStop (getD s i 0) ≡ false → charAt s i ≡ Bad → Scanned s at a₀ a (i + 1) false n
@@ -521,82 +297,36 @@ module _ {s : List ℕ} {at : ℕ} {a₀ a : List ℕ} {i : ℕ} {good : Bool} {
         no-one-comma : (a : ℕ) → isOne a ≡ false → eqb a 0x2c ≡ false
         no-one-comma a o = ne-eqb a 0x2c (λ e. true≢false (sym (rw e) ∙ o))
 
-    pub scan-bad : {x : Bool} → c ≡ 1 → x ≡ isStop (getD s i 0) → x ≡ false → Scanned s at a₀ a (i + 1) false n
-    unfolding charAt
-    scan-bad e p t =
-        let w = says .none e in
-        bad-on (w .0) (sym p ∙ t) (rw now-at (no-char (getD s i 0) (drop (i + 1) s) (w .0) (w .1)))
+    pub scan-bad : {x y z : Bool} → x ≡ pairAt s i → x ≡ false → y ≡ isOne (getD s i 0) → y ≡ false → z ≡ isStop (getD s i 0) → z ≡ false → Scanned s at a₀ a (i + 1) false n
+    unfolding charAt pairAt
+    scan-bad p e q f r g = bad-on (sym q ∙ f) (sym r ∙ g) (rw now-at (no-char (getD s i 0) (drop (i + 1) s) (sym q ∙ f) (ap pairOf (sym now-at) ∙ sym p ∙ e)))
       where
-        no-char : (a : ℕ) (l : List ℕ) → isOne a ≡ false → isLead a ≡ false → charOf (a ∷ l) ≡ Bad
-        no-char a [] o l = rw o
-        no-char a (b ∷ r) o l = rw (o, no-pair a b l)
+        no-char : (a : ℕ) (l : List ℕ) → isOne a ≡ false → pairOf (a ∷ l) ≡ false → charOf (a ∷ l) ≡ Bad
+        no-char a [] o p = rw o
+        no-char a (b ∷ r) o p = rw (o, p)
 
-    module _ (no1 : c ≡ 0 → ⊥) (no2 : c ≡ 2 → ⊥) (no0 : c ≡ 1 → ⊥) {x : Bool} (p : PairAt s i x) where
-      pub scan-two : x ≡ true → Scanned s at a₀ a (i + 2) good n
-      unfolding charAt
-      scan-two e =
-          let two : i + 1 + 1 ≡ i + 2 = omega arith in
-          let t : charOf (getD s i 0 ∷ drop (i + 1) s) ≡ Two = ap charOf (sym now-at) ∙ p .tells ∙ rw e in
-          let r : drop 1 (drop (i + 1) s) ≡ drop (i + 2) s = drop-drop 1 (i + 1) s ∙ ap (λ (k : ℕ). drop k s) two in
-          let w = two-text (getD s i 0) (drop (i + 1) s) t in
-          let u : Leaves (drop i s) (drop (i + 2) s) 2 = rw (now-at, ← r) (w .0) in
-          let f : suc (suc (i - at)) ≡ i + 2 - at = omega (arith, v .few) in
-          let m : commaCount (text (drop i s)) ≡ commaCount (text (drop (i + 2) s)) = rw (now-at, ← r) (w .1) in
-          record {
-            ends = omega (arith, v .ends, u .size);
-            chars = v .chars ∙ ap (λ (b : Bool). good && b) (u .chars);
-            commas = omega (arith, v .commas, m);
-            few = omega (arith, v .few);
-            places = ap (kept a n) (sym (rw (now-at, ← r) (w .2 (i - at)) ∙ ap (λ (k : ℕ). commasFrom k (text (drop (i + 2) s))) f)) ∙ v .places;
-            size = v .size;
-            first = v .first;
-          }
+    pub scan-two : {x : Bool} → x ≡ pairAt s i → x ≡ true → Scanned s at a₀ a (i + 2) good n
+    unfolding pairAt
+    scan-two p e =
+        let two : i + 1 + 1 ≡ i + 2 = omega arith in
+        let t : pairOf (getD s i 0 ∷ drop (i + 1) s) ≡ true = ap pairOf (sym now-at) ∙ sym p ∙ e in
+        let r : drop 1 (drop (i + 1) s) ≡ drop (i + 2) s = drop-drop 1 (i + 1) s ∙ ap (λ (k : ℕ). drop k s) two in
+        let w = two-text (getD s i 0) (drop (i + 1) s) t in
+        let u : Leaves (drop i s) (drop (i + 2) s) 2 = rw (now-at, ← r) (w .0) in
+        let f : suc (suc (i - at)) ≡ i + 2 - at = omega (arith, v .few) in
+        let m : commaCount (text (drop i s)) ≡ commaCount (text (drop (i + 2) s)) = rw (now-at, ← r) (w .1) in
+        record {
+          ends = omega (arith, v .ends, u .size);
+          chars = v .chars ∙ ap (λ (b : Bool). good && b) (u .chars);
+          commas = omega (arith, v .commas, m);
+          few = omega (arith, v .few);
+          places = ap (kept a n) (sym (rw (now-at, ← r) (w .2 (i - at)) ∙ ap (λ (k : ℕ). commasFrom k (text (drop (i + 2) s))) f)) ∙ v .places;
+          size = v .size;
+          first = v .first;
+        }
 
-      pub scan-half : x ≡ false → Scanned s at a₀ a (i + 1) false n
-      scan-half e = bad-on (says .lead no1 no2) (high-go (getD s i 0) (omega (arith, lead-high (getD s i 0) (says .high no0 no1 no2)))) (p .tells ∙ rw e)
-
--- a byte from 2Dh to 7Eh is of class 0
-plain-class : (b : ℕ) → within 0x2d 0x7e b ≡ true → classOf b ≡ 0
-unfolding classOf
-plain-class b e =
-    let p = both (leb 0x2d b) (leb b 0x7e) e in
-    let lo : 0x2d ≤ b = leb-true 0x2d b (p .0) in
-    let hi : b ≤ 0x7e = leb-true b 0x7e (p .1) in
-    let t : within 0x20 0x7e b ≡ true = within-in 0x20 0x7e b (omega arith) hi in
-    let z : eqb b 0x2c ≡ false = ne-eqb b 0x2c (λ d. omega arith) in
-    simp (z, t)
-
--- the class that is left where neither a lead, a comma nor another character stands
-class-left : (c : ℕ) → c ≤ 2 → (c ≡ 2 → ⊥) → (c ≡ 0 → ⊥) → c ≡ 1
-class-left zero k m n = absurd (n refl)
-class-left (suc zero) k m n = refl
-class-left (suc (suc zero)) k m n = absurd (m refl)
-class-left (suc (suc (suc c))) k m n = absurd (omega arith)
-
-pub lead-over : (s : List ℕ) (i : ℕ) {c : ℕ} → i < length s → c ≡ classOf (getD s i 0) → 2 < c → LeadAt s i c
-lead-over s i h q k = lead-at s i h q (λ e. omega arith) (λ e. omega arith) (λ e. omega arith)
-
--- the ways through the loop, by the tests of the code
-module _ {s : List ℕ} {at : ℕ} {a₀ a : List ℕ} {i : ℕ} {good : Bool} {n : ℕ} (v : Scanned s at a₀ a i good n) (h : i < length s) where
-  pub go-plain : {x : Bool} → x ≡ within 0x2d 0x7e (getD s i 0) → x ≡ true → Scanned s at a₀ a (i + 1) good n
-  go-plain p e = scan-one v h {c = classOf (getD s i 0)} refl (plain-class (getD s i 0) (sym p ∙ e))
-
-  module _ {c : ℕ} (q : c ≡ classOf (getD s i 0)) where
-    pub go-two : {x : Bool} → 2 < c → PairAt s i x → x ≡ true → Scanned s at a₀ a (i + 2) good n
-    go-two k p e = scan-two v h q (λ d. omega arith) (λ d. omega arith) (λ d. omega arith) p e
-
-    pub go-half : {x : Bool} → 2 < c → PairAt s i x → x ≡ false → Scanned s at a₀ a (i + 1) false n
-    go-half k p e = scan-half v h q (λ d. omega arith) (λ d. omega arith) (λ d. omega arith) p e
-
-    pub go-stop : {x : Bool} → c ≤ 2 → (c ≡ 2 → ⊥) → (c ≡ 0 → ⊥) → x ≡ isStop (getD s i 0) → x ≡ true
-        → ScanOf s at a (record { end = i; good = good; commas = n })
-    go-stop k m o p e = scan-stop v h q (class-left c k m o) p e
-
-    pub go-bad : {x : Bool} → c ≤ 2 → (c ≡ 2 → ⊥) → (c ≡ 0 → ⊥) → x ≡ isStop (getD s i 0) → x ≡ false → Scanned s at a₀ a (i + 1) false n
-    go-bad k m o p e = scan-bad v h q (class-left c k m o) p e
-
-pub ruleset scan-laws = (scan-start, go-plain, scan-one, scan-comma, scan-more, go-stop, go-bad, lead-over, go-two, go-half, scan-end)
+pub ruleset scan-laws = (scan-start, scan-plain, scan-one, scan-comma, scan-more, scan-stop, scan-bad, scan-two, scan-end)
 
 -- what a caller lends is the table
-pub classes-lent : Classes (classesFrom 0 256)
+pub classes-lent : Classes (classesFrom 0 512)
 classes-lent = record { is = refl }

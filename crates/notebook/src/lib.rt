@@ -69,7 +69,7 @@ pub fn step_line(
 
 // The records of a file from behind line 1 on.
 fn check_records(
-    classes: &[u8; 256],
+    classes: &[u8; 512],
     codes: &[usize; 83],
     stops: &mut [usize; 16],
     provider: bool,

@@ -3,7 +3,8 @@ use Prim.Native.Nat.{_-_}
 use lib.ListN.{length}
 use Rattle.lines.specs.Codes.{codes}
 use Rattle.lines.proofs.LineLaws.{lent}
-use Rattle.characters.specs.Classes.{classOf}
+use Rattle.characters.specs.Cells.{isPair, allowed, fullRow, partRow}
+use Rattle.characters.specs.Classes.{classOf, leadOf, trailOf}
 use Rattle.characters.proofs.TextLaws.{classes-lent}
 use Rattle.notebook.proofs.ReadLaws.{line-1-behind}
 use Rattle.notebook.proofs.LineFacts.{line-size}
@@ -21,7 +22,7 @@ returns : tie.Need-returns
 returns c = search (needs, into-laws)
 
 line-at-requires : tie.Need-line-at-requires
-unfolding classOf
+unfolding classOf leadOf trailOf isPair allowed fullRow partRow
 line-at-requires c κs = search (needs, into-laws, classes-lent)
 
 enum-told : tie.Need-enum-told
@@ -55,7 +56,7 @@ add-from : tie.Need-add-from
 add-from c = search (needs, into-laws)
 
 write-file-requires : tie.Need-write-file-requires
-unfolding codes classOf
+unfolding codes classOf leadOf trailOf isPair allowed fullRow partRow
 write-file-requires c κs = (search (needs, classes-lent), (search (needs, lent), (search (needs, line-size), (search (needs, line-1-behind), search needs))))
 
 returns-3 : tie.Need-returns-3

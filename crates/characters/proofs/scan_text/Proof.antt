@@ -1,12 +1,12 @@
 use borrow.Author.Needs.{needs}
 use Prim.Native.Nat.{_-_}
 use lib.ListN.{length}
-use Rattle.characters.proofs.TextLaws.{Scanned, scan-laws}
+use Rattle.characters.proofs.TextLaws.{Scanned, scan-laws, scan-bad}
 use Rattle.characters.proofs.scan_text.Statement.{statement}
 use Rattle.characters.proofs.scan_text.Tie as tie
 use Rattle.characters.proofs.scan_text.Reads as reads
 use Rattle.characters.proofs.scan_text.Lts as lts
-use Rattle.characters.proofs.class_of.Reads as class-of-reads
+use Rattle.characters.proofs.is_one.Reads as is-one-reads
 use Rattle.characters.proofs.is_stop.Reads as is-stop-reads
 use Rattle.characters.proofs.pair_at.Reads as pair-at-reads
 use Rattle.characters.proofs.plain.Reads as plain-reads
@@ -35,9 +35,6 @@ loop-less c = search (needs, scan-laws)
 loop-again : tie.Need-loop-again Inv-loop μ-loop
 loop-again c = search (needs, scan-laws)
 
-class-of-requires : tie.Need-class-of-requires Inv-loop μ-loop
-class-of-requires c κs = search (needs, scan-laws)
-
 pair-at-requires : tie.Need-pair-at-requires Inv-loop μ-loop
 pair-at-requires c κs = search (needs, scan-laws)
 
@@ -49,15 +46,6 @@ loop-less-2 c = search (needs, scan-laws)
 
 loop-again-2 : tie.Need-loop-again-2 Inv-loop μ-loop
 loop-again-2 c = search (needs, scan-laws)
-
-add-i-3 : tie.Need-add-i-3 Inv-loop μ-loop
-add-i-3 c = search (needs, scan-laws)
-
-loop-less-3 : tie.Need-loop-less-3 Inv-loop μ-loop
-loop-less-3 c = search (needs, scan-laws)
-
-loop-again-3 : tie.Need-loop-again-3 Inv-loop μ-loop
-loop-again-3 c = search (needs, scan-laws)
 
 sub-stops : tie.Need-sub-stops Inv-loop μ-loop
 sub-stops c = search (needs, scan-laws)
@@ -71,6 +59,18 @@ element-write-stops c = search (needs, scan-laws)
 add-commas : tie.Need-add-commas Inv-loop μ-loop
 add-commas c = search (needs, scan-laws)
 
+add-i-3 : tie.Need-add-i-3 Inv-loop μ-loop
+add-i-3 c = search (needs, scan-laws)
+
+loop-less-3 : tie.Need-loop-less-3 Inv-loop μ-loop
+loop-less-3 c = search (needs, scan-laws)
+
+loop-again-3 : tie.Need-loop-again-3 Inv-loop μ-loop
+loop-again-3 c = search (needs, scan-laws)
+
+add-commas-2 : tie.Need-add-commas-2 Inv-loop μ-loop
+add-commas-2 c = search (needs, scan-laws)
+
 add-i-4 : tie.Need-add-i-4 Inv-loop μ-loop
 add-i-4 c = search (needs, scan-laws)
 
@@ -80,8 +80,8 @@ loop-less-4 c = search (needs, scan-laws)
 loop-again-4 : tie.Need-loop-again-4 Inv-loop μ-loop
 loop-again-4 c = search (needs, scan-laws)
 
-add-commas-2 : tie.Need-add-commas-2 Inv-loop μ-loop
-add-commas-2 c = search (needs, scan-laws)
+is-one-requires : tie.Need-is-one-requires Inv-loop μ-loop
+is-one-requires c κs = search (needs, scan-laws)
 
 add-i-5 : tie.Need-add-i-5 Inv-loop μ-loop
 add-i-5 c = search (needs, scan-laws)
@@ -92,6 +92,12 @@ loop-less-5 c = search (needs, scan-laws)
 loop-again-5 : tie.Need-loop-again-5 Inv-loop μ-loop
 loop-again-5 c = search (needs, scan-laws)
 
+is-stop-requires : tie.Need-is-stop-requires Inv-loop μ-loop
+is-stop-requires c κs = search (needs, scan-laws)
+
+returns : tie.Need-returns Inv-loop μ-loop
+returns c = search (needs, scan-laws)
+
 add-i-6 : tie.Need-add-i-6 Inv-loop μ-loop
 add-i-6 c = search (needs, scan-laws)
 
@@ -99,22 +105,11 @@ loop-less-6 : tie.Need-loop-less-6 Inv-loop μ-loop
 loop-less-6 c = search (needs, scan-laws)
 
 loop-again-6 : tie.Need-loop-again-6 Inv-loop μ-loop
-loop-again-6 c = search (needs, scan-laws)
-
-is-stop-requires : tie.Need-is-stop-requires Inv-loop μ-loop
-is-stop-requires c κs = search (needs, scan-laws)
-
-returns : tie.Need-returns Inv-loop μ-loop
-returns c = search (needs, scan-laws)
-
-add-i-7 : tie.Need-add-i-7 Inv-loop μ-loop
-add-i-7 c = search (needs, scan-laws)
-
-loop-less-7 : tie.Need-loop-less-7 Inv-loop μ-loop
-loop-less-7 c = search (needs, scan-laws)
-
-loop-again-7 : tie.Need-loop-again-7 Inv-loop μ-loop
-loop-again-7 c = search (needs, scan-laws)
+loop-again-6 c =
+    scan-bad (c .before .before .before .before .before .before .before .before .before .before .before .loop .inv) (c .before .before .before .before .before .before .before .before .before .before .loop-test .taken)
+    (c .before .before .before .before .before .before .pair-at .ensures) (c .before .before .before .before .before .if2 .left)
+    (c .before .before .before .is-one .ensures) (c .before .before .if5 .left)
+    (c .before .is-stop .ensures) (c .if6 .left)
 
 returns-2 : tie.Need-returns-2 Inv-loop μ-loop
 returns-2 c = search (needs, scan-laws)
@@ -131,31 +126,28 @@ scan-text-spec =
     add-i
     loop-less
     loop-again
-    class-of-requires
     pair-at-requires
     add-i-2
     loop-less-2
     loop-again-2
-    add-i-3
-    loop-less-3
-    loop-again-3
     sub-stops
     mul-stops
     element-write-stops
     add-commas
+    add-i-3
+    loop-less-3
+    loop-again-3
+    add-commas-2
     add-i-4
     loop-less-4
     loop-again-4
-    add-commas-2
+    is-one-requires
     add-i-5
     loop-less-5
     loop-again-5
+    is-stop-requires
+    returns
     add-i-6
     loop-less-6
     loop-again-6
-    is-stop-requires
-    returns
-    add-i-7
-    loop-less-7
-    loop-again-7
     returns-2)

@@ -6,7 +6,8 @@ use Rattle.notebook.proofs.CheckLaws.{check-laws}
 use Rattle.notebook.proofs.LineFacts.{line-size}
 use Rattle.lines.specs.Codes.{codes}
 use Rattle.lines.proofs.LineLaws.{lent}
-use Rattle.characters.specs.Classes.{classOf}
+use Rattle.characters.specs.Cells.{isPair, allowed, fullRow, partRow}
+use Rattle.characters.specs.Classes.{classOf, leadOf, trailOf}
 use Rattle.characters.proofs.TextLaws.{classes-lent}
 use Rattle.index.proofs.FileLaws.{fill-laws, fill-room}
 use Rattle.index.proofs.fill.Statement.{statement}
@@ -18,7 +19,7 @@ use Rattle.index.proofs.fill_records.Reads as fill-records-reads
 use Rattle.notebook.proofs.direction.Reads as direction-reads
 
 line-at-requires : tie.Need-line-at-requires
-unfolding classOf
+unfolding classOf leadOf trailOf isPair allowed fullRow partRow
 line-at-requires c κs = search (needs, check-laws, fill-laws, lent, classes-lent)
 
 enum-told : tie.Need-enum-told
@@ -49,7 +50,7 @@ add-from : tie.Need-add-from
 add-from c = search (needs, check-laws, fill-laws, lent, classes-lent)
 
 fill-records-requires : tie.Need-fill-records-requires
-unfolding codes classOf
+unfolding codes classOf leadOf trailOf isPair allowed fullRow partRow
 fill-records-requires c κs = (search (needs, classes-lent), (search (needs, lent), (search (needs, line-size), (search (needs, line-1-behind), search (needs, fill-room)))))
 
 returns : tie.Need-returns

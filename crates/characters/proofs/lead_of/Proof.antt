@@ -1,0 +1,21 @@
+use borrow.Author.Needs.{needs}
+use Prim.Native.Nat.{_-_}
+use lib.ListN.{length}
+use Rattle.characters.proofs.PairLaws.{lead-at, byte-small}
+use Rattle.characters.proofs.lead_of.Statement.{statement}
+use Rattle.characters.proofs.lead_of.Tie as tie
+use Rattle.characters.proofs.lead_of.Reads as reads
+use Rattle.characters.proofs.lead_of.Lts as lts
+use Rattle.characters.proofs.wide.Reads as wide-reads
+
+wide-requires : tie.Need-wide-requires
+wide-requires c κs = search needs
+
+element-copy-out-result : tie.Need-element-copy-out-result
+element-copy-out-result c = search needs
+
+returns : tie.Need-returns
+returns c = search (needs, lead-at, byte-small)
+
+pub lead-of-spec : {M : Type 1} → statement M
+lead-of-spec = tie.close (tie.spec wide-requires element-copy-out-result returns)
