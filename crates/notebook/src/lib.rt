@@ -67,7 +67,8 @@ pub fn step_line(
     }
 }
 
-// The records of a file from behind line 1 on.
+// The records of a file from behind line 1 on. The next line is found before the state is moved: what a call has just stored is read back
+// slowly.
 fn check_records(
     classes: &[u8; 512],
     codes: &[usize; 83],
@@ -84,8 +85,9 @@ fn check_records(
 {
     let mut st = order::State::new(provider);
     let mut at = from;
+    let mut line = characters::line_at(classes, stops, s, at);
     loop {
-        match characters::line_at(classes, stops, s, at) {
+        match line {
             characters::Line::End => return close(st),
             characters::Line::Mark => return close(st),
             characters::Line::Broken => return Checked::Refused(2, st.line + 1),
@@ -93,8 +95,9 @@ fn check_records(
                 match step_line(codes, st, good, commas, stops, &s[at..end]) {
                     order::Moved::Refused(n) => return Checked::Refused(n, st.line + 1),
                     order::Moved::On(next, _, _) => {
-                        st = next;
                         at = end + 2;
+                        line = characters::line_at(classes, stops, s, at);
+                        st = next;
                     }
                 }
             }

@@ -3,7 +3,7 @@ use Prim.Native.Nat.{_-_}
 use lib.ListN.{length}
 use Rattle.notebook.proofs.CheckLaws.{Reading, reading-laws}
 use Rattle.notebook.proofs.LineFacts.{whole-commas, whole-places, whole-judged, line-size}
-use Rattle.characters.specs.Text.{Sixteen}
+use Rattle.characters.specs.Rows.{LineOf}
 use Rattle.notebook.proofs.check_records.Statement.{statement}
 use Rattle.notebook.proofs.check_records.Tie as tie
 use Rattle.notebook.proofs.check_records.Reads as reads
@@ -14,19 +14,19 @@ use Rattle.notebook.proofs.step_line.Reads as step-line-reads
 use Rattle.order.proofs.State.new.Reads as new-reads
 
 abbrev Inv-loop : tie.InvT-loop
-Inv-loop classes codes stops₀ provider s from st₀ at₀ stops st at = Reading provider s from st at × Sixteen stops
+Inv-loop classes codes stops₀ provider s from st₀ at₀ line₀ stops st at line = Reading provider s from st at × LineOf s at stops line
 
 abbrev μ-loop : tie.MeasureT-loop
-μ-loop classes codes stops₀ provider s from st₀ at₀ stops st at = length s - at
+μ-loop classes codes stops₀ provider s from st₀ at₀ line₀ stops st at line = length s - at
 
 new-requires : tie.Need-new-requires Inv-loop μ-loop
 new-requires c κs = search (needs, reading-laws)
 
-loop-holds : tie.Need-loop-holds Inv-loop μ-loop
-loop-holds c = search (needs, reading-laws)
-
 line-at-requires : tie.Need-line-at-requires Inv-loop μ-loop
 line-at-requires c κs = search (needs, reading-laws)
+
+loop-holds : tie.Need-loop-holds Inv-loop μ-loop
+loop-holds c = search (needs, reading-laws)
 
 enum-told : tie.Need-enum-told Inv-loop μ-loop
 enum-told c = search (needs, reading-laws)
@@ -55,8 +55,8 @@ add-t16 c = search (needs, reading-laws)
 returns-3 : tie.Need-returns-3 Inv-loop μ-loop
 returns-3 c = search (needs, reading-laws)
 
-enum-known-end : tie.Need-enum-known-end Inv-loop μ-loop
-enum-known-end c = search (needs, reading-laws)
+enum-known-line : tie.Need-enum-known-line Inv-loop μ-loop
+enum-known-line c = search (needs, reading-laws)
 
 sub-step-line : tie.Need-sub-step-line Inv-loop μ-loop
 sub-step-line c = search (needs, reading-laws)
@@ -85,6 +85,9 @@ enum-known-next c = search (needs, reading-laws)
 add-at : tie.Need-add-at Inv-loop μ-loop
 add-at c = search (needs, reading-laws)
 
+line-at-requires-2 : tie.Need-line-at-requires-2 Inv-loop μ-loop
+line-at-requires-2 c κs = search (needs, reading-laws)
+
 loop-less : tie.Need-loop-less Inv-loop μ-loop
 loop-less c = search (needs, reading-laws)
 
@@ -98,8 +101,8 @@ check-records-spec =
     Inv-loop
     μ-loop
     new-requires
-    loop-holds
     line-at-requires
+    loop-holds
     enum-told
     close-requires
     returns
@@ -109,7 +112,7 @@ check-records-spec =
     enum-told-3
     add-t16
     returns-3
-    enum-known-end
+    enum-known-line
     sub-step-line
     part-step-line-start
     part-step-line-end
@@ -119,5 +122,6 @@ check-records-spec =
     returns-4
     enum-known-next
     add-at
+    line-at-requires-2
     loop-less
     loop-again)
