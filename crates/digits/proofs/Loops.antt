@@ -1,15 +1,11 @@
--- One turn of the loop of `short_value`, and the ways through `plain_number`. Assumes nothing.
-use Prim.Native.Nat.{ℕ, zero, suc, _+_, _*_, _-_, _^_, _≤_, _<_}
-use mathlib.Core.Path.{_≡_, refl, sym, ap, _∙_}
+-- The ways through `short_value`, digit by digit, and the ways through `plain_number`. Assumes nothing.
+use Prim.Native.Nat.{ℕ, zero, suc, _+_, _*_, _-_, _≤_, _<_}
+use mathlib.Core.Path.{_≡_, refl, sym, ap, _∙_, subst}
 use mathlib.Core.Bool.{Bool, true, false, cond, _&&_, and-false}
 use mathlib.Core.Option.{Option, none, some}
 use mathlib.Core.List.{List, [], _∷_}
 use native.Mathlib.Omega.{arith}
-use native.Mathlib.Numerals.{add-one}
-use native.Mathlib.Nat.{pow-suc, pow-le-pow-right}
 use borrow.Author.Tests.{le-leb, lt-leb, eq-eqb, ne-eqb}
-use mir.Val.{Fits}
-use mir.Syntax.{w32}
 use lib.Dec.{leb, eqb}
 use lib.ListN.{length, getD, drop}
 use Rattle.lists.specs.Lists.{all}
@@ -44,11 +40,9 @@ short-is s = go (leb 1 (length s)) (leb (length s) 3) (all isDigit s) (num-value
     go true false z i = refl
     go false y z i = refl
 
-pub record NumLeft (s : List ℕ) (n i : ℕ) : Type 0 where
-  pub left : shortValue s ≡ numFrom n (drop i s)
-  pub short : length s ≤ 3
-  pub inside : i ≤ length s
-  pub small : n < 10 ^ i
+record NumLeft (s : List ℕ) (n i : ℕ) : Type 0 where
+  left : shortValue s ≡ numFrom n (drop i s)
+  inside : i ≤ length s
 
 pub num-none : (s : List ℕ) → length s ≡ 0 → 1000 ≡ shortValue s
 num-none s h = sym (short-is s ∙ simp (lt-leb 1 (length s) (omega arith)))
@@ -56,66 +50,77 @@ num-none s h = sym (short-is s ∙ simp (lt-leb 1 (length s) (omega arith)))
 pub num-long : (s : List ℕ) → 3 < length s → 1000 ≡ shortValue s
 num-long s h = sym (short-is s ∙ simp (lt-leb (length s) 3 h, and-false))
 
-pub num-start : (s : List ℕ) → (length s ≡ 0 → ⊥) → length s ≤ 3 → NumLeft s 0 0
+num-start : (s : List ℕ) → (length s ≡ 0 → ⊥) → length s ≤ 3 → NumLeft s 0 0
 num-start s h k = record {
   left = short-is s ∙ simp (le-leb 1 (length s) (omega arith), le-leb (length s) 3 k);
-  short = k;
   inside = omega arith;
-  small = omega arith;
 }
 
 module _ {s : List ℕ} {n i : ℕ} (v : NumLeft s n i) (h : i < length s) where
-  pub num-low : getD s i 0 < 48 → 1000 ≡ shortValue s
+  num-low : getD s i 0 < 48 → 1000 ≡ shortValue s
   unfolding numFrom
   num-low t = sym (v .left ∙ rw (drop-step s i 0 h) (simp (lt-leb 48 (getD s i 0) t)))
 
-  pub num-high : 57 < getD s i 0 → 1000 ≡ shortValue s
+  num-high : 57 < getD s i 0 → 1000 ≡ shortValue s
   unfolding numFrom
   num-high t = sym (v .left ∙ rw (drop-step s i 0 h) (simp (lt-leb (getD s i 0) 57 t, and-false)))
 
-  pub num-next : {w : ℕ} → 48 ≤ getD s i 0 → getD s i 0 ≤ 57 → w ≡ getD s i 0 - 48 → NumLeft s (10 * n + w) (i + 1)
+  num-next : {w : ℕ} → 48 ≤ getD s i 0 → getD s i 0 ≤ 57 → w ≡ getD s i 0 - 48 → NumLeft s (10 * n + w) (i + 1)
   unfolding numFrom
   num-next a b e =
-      let p : 10 ^ (i + 1) ≡ 10 ^ i * 10 = rw (add-one i) (pow-suc 10 i) in
       record {
         left = v .left ∙ rw (drop-step s i 0 h) (simp (le-leb 48 (getD s i 0) (omega arith), le-leb (getD s i 0) 57 (omega arith), e));
-        short = v .short;
         inside = omega arith;
-        small = omega (arith, v .small, p);
       }
 
-  room : n < 100
-  room =
-      let k : i ≤ 2 = omega (arith, v .short) in
-      omega (arith, v .small, pow-le-pow-right {n = 10} (omega arith) k)
-
-  pub num-mul : Fits w32 (10 * n)
-  num-mul = omega (arith, room)
-
-  pub num-add : {w : ℕ} → w < 256 → Fits w32 (10 * n + w)
-  num-add k = omega (arith, room)
-
-pub num-out : {s : List ℕ} {n i : ℕ} → NumLeft s n i → length s ≤ i → n ≡ shortValue s
+num-out : {s : List ℕ} {n i : ℕ} → NumLeft s n i → length s ≤ i → n ≡ shortValue s
 unfolding numFrom
 num-out {s} {n} {i} v h = sym (v .left ∙ rw (drop-end s i h))
 
--- one digit
-module _ (s : List ℕ) (h : length s ≡ 1) where
-  start-one : NumLeft s 0 0
-  start-one = num-start s (λ e. omega arith) (omega arith)
+module _ (s : List ℕ) (some : length s ≡ 0 → ⊥) (few : length s ≤ 3) where
+  before-1 : NumLeft s 0 0
+  before-1 = num-start s some few
 
-  pub one-low : getD s 0 0 < 48 → 1000 ≡ shortValue s
-  one-low t = num-low start-one (omega arith) t
+  pub low-1 : getD s 0 0 < 48 → 1000 ≡ shortValue s
+  low-1 t = num-low before-1 (omega arith) t
 
-  pub one-high : 57 < getD s 0 0 → 1000 ≡ shortValue s
-  one-high t = num-high start-one (omega arith) t
+  pub high-1 : 57 < getD s 0 0 → 1000 ≡ shortValue s
+  high-1 t = num-high before-1 (omega arith) t
 
-  pub one-value : {w : ℕ} → 48 ≤ getD s 0 0 → getD s 0 0 ≤ 57 → w ≡ getD s 0 0 - 48 → w ≡ shortValue s
-  one-value {w} a b e =
-      let z : w ≡ 10 * 0 + w = omega arith in
-      z ∙ num-out (num-next start-one (omega arith) a b e) (omega arith)
+  module _ {x : ℕ} (a : 48 ≤ getD s 0 0) (b : getD s 0 0 ≤ 57) (e : x ≡ getD s 0 0 - 48) where
+    before-2 : NumLeft s x 1
+    before-2 =
+        let z : 10 * 0 + x ≡ x = omega arith in
+        subst (λ (n : ℕ). NumLeft s n 1) z (num-next before-1 (omega arith) a b e)
 
-pub ruleset num-laws = (one-low, one-high, one-value, num-none, num-long, num-start, num-low, num-high, num-next, num-mul, num-add, num-out)
+    pub value-1 : length s ≡ 1 → x ≡ shortValue s
+    value-1 h = num-out before-2 (omega arith)
+
+    module _ (more : length s ≡ 1 → ⊥) where
+      pub low-2 : getD s 1 0 < 48 → 1000 ≡ shortValue s
+      low-2 t = num-low before-2 (omega arith) t
+
+      pub high-2 : 57 < getD s 1 0 → 1000 ≡ shortValue s
+      high-2 t = num-high before-2 (omega arith) t
+
+      module _ {y : ℕ} (a′ : 48 ≤ getD s 1 0) (b′ : getD s 1 0 ≤ 57) (e′ : y ≡ getD s 1 0 - 48) where
+        before-3 : NumLeft s (10 * x + y) 2
+        before-3 = num-next before-2 (omega arith) a′ b′ e′
+
+        pub value-2 : length s ≡ 2 → 10 * x + y ≡ shortValue s
+        value-2 h = num-out before-3 (omega arith)
+
+        module _ (most : length s ≡ 2 → ⊥) where
+          pub low-3 : getD s 2 0 < 48 → 1000 ≡ shortValue s
+          low-3 t = num-low before-3 (omega arith) t
+
+          pub high-3 : 57 < getD s 2 0 → 1000 ≡ shortValue s
+          high-3 t = num-high before-3 (omega arith) t
+
+          pub value-3 : {z : ℕ} → 48 ≤ getD s 2 0 → getD s 2 0 ≤ 57 → z ≡ getD s 2 0 - 48 → 10 * (10 * x + y) + z ≡ shortValue s
+          value-3 c d f = num-out (num-next before-3 (omega arith) c d f) (omega arith)
+
+pub ruleset num-laws = (num-none, num-long, low-1, high-1, value-1, low-2, high-2, value-2, low-3, high-3, value-3)
 
 module _ (s : List ℕ) {a : ℕ} (e : a ≡ getD s 0 0) where
   pub plain-zero : a ≡ 48 → 0 ≡ plainNumber s

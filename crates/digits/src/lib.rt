@@ -35,7 +35,7 @@ pub fn wide(b: u8) -> u32
     b as u32
 }
 
-// One to three digits: their value; else 1000. Most numbers of a notebook have one digit.
+// One to three digits: their value; else 1000. Read one by one, since a loop would cost more than its digits.
 pub fn short_value(s: &[u8]) -> u32
     ensures { λ r. ⌜ r ≡ shortValue (now (s .entry)) ⌝ }
 {
@@ -46,30 +46,36 @@ pub fn short_value(s: &[u8]) -> u32
     if 3 < len {
         return 1000;
     }
+    let a = s[0];
+    if a < 48 {
+        return 1000;
+    }
+    if 57 < a {
+        return 1000;
+    }
+    let one = wide(a - 48);
     if len == 1 {
-        let only = s[0];
-        if only < 48 {
-            return 1000;
-        }
-        if 57 < only {
-            return 1000;
-        }
-        return wide(only - 48);
+        return one;
     }
-    let mut n: u32 = 0;
-    let mut i = 0;
-    while i < s.len() {
-        let b = s[i];
-        if b < 48 {
-            return 1000;
-        }
-        if 57 < b {
-            return 1000;
-        }
-        n = 10 * n + wide(b - 48);
-        i += 1;
+    let b = s[1];
+    if b < 48 {
+        return 1000;
     }
-    n
+    if 57 < b {
+        return 1000;
+    }
+    let two = 10 * one + wide(b - 48);
+    if len == 2 {
+        return two;
+    }
+    let c = s[2];
+    if c < 48 {
+        return 1000;
+    }
+    if 57 < c {
+        return 1000;
+    }
+    10 * two + wide(c - 48)
 }
 
 // One to three digits with no leading zero: their value; else 0.
