@@ -186,6 +186,34 @@ comma-order (a ∷ l) j h = go (isComma a) (comma-order l) j h
     go false i j h =
         rw (comma-shift 0 l, getD-suc (commasFrom 0 l) j (omega (arith, count-places 0 l)), getD-suc (commasFrom 0 l) (suc j) (omega (arith, count-places 0 l))) (omega (arith, i j (omega arith)))
 
+-- ---- the ways through number_end
+
+none-left : (l : List ℕ) → commaCount l ≡ 0 → length (upTo isComma l) ≡ length l
+none-left [] h = refl
+none-left (a ∷ l) h = go (isComma a) (none-left l) h
+  where
+    go : (b : Bool) → (commaCount l ≡ 0 → length (upTo isComma l) ≡ length l) → cond b 1 0 + commaCount l ≡ 0 → length (cond b [] (a ∷ upTo isComma l)) ≡ suc (length l)
+    go true i e = absurd (omega arith)
+    go false i e = omega (arith, i (omega arith))
+
+first-left : (l : List ℕ) → 1 ≤ commaCount l → length (upTo isComma l) ≡ getD (commasFrom 0 l) 0 0
+first-left [] h = absurd (omega arith)
+first-left (a ∷ l) h = go (isComma a) (first-left l) h
+  where
+    go : (b : Bool) → (1 ≤ commaCount l → length (upTo isComma l) ≡ getD (commasFrom 0 l) 0 0) → 1 ≤ cond b 1 0 + commaCount l
+        → length (cond b [] (a ∷ upTo isComma l)) ≡ getD (cond b (0 ∷ commasFrom 1 l) (commasFrom 1 l)) 0 0
+    go true i e = refl
+    go false i e = rw (comma-shift 0 l, getD-suc (commasFrom 0 l) 0 (omega (arith, count-places 0 l))) (omega (arith, i (omega arith)))
+
+module _ (s : List ℕ) {n : ℕ} (v : Commas s n) where
+  pub end-bare : n ≡ 0 → length s ≡ findFrom 0x2c s 0
+  unfolding findFrom
+  end-bare e = omega (arith, none-left s (omega (arith, v .is)))
+
+  pub end-first : {stops : List ℕ} → Stops s stops → (n ≡ 0 → ⊥) → getD stops 0 0 ≡ findFrom 0x2c s 0
+  unfolding findFrom
+  end-first w h = omega (arith, w .here 0 (omega (arith, v .is, count-places 0 s)) (omega arith), first-left s (omega (arith, v .is)))
+
 -- ---- the ways through item_span
 
 no-item : (xs : List (List ℕ)) (j : ℕ) → length xs ≤ j → getD xs j [] ≡ []

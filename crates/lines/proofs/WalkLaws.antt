@@ -32,21 +32,23 @@ left-first cs k end l u h =
     let m : k < length cs = omega (arith, ap length l, codes-length) in
     rw (n, drop-step cs k 0 m)
 
-pub record Walk (cs : List ℕ) (b : Bool) (place : ℕ) (s : List ℕ) (end k j : ℕ) : Type 0 where
+pub record Walk (cs : List ℕ) (b : Bool) (place : ℕ) (s : List ℕ) (n end k j : ℕ) : Type 0 where
   pub same : itemsFault b (sliceOf place) (drop 1 (itemsOf s)) ≡ itemsFault b (left cs k end) (drop j (itemsOf s))
   pub high : end ≤ 83
   pub lent : cs ≡ codes
   pub some : 1 ≤ j
+  pub pace : k + n + 1 ≡ end + j
 
-pub walk-start : (cs : List ℕ) (b : Bool) (place : ℕ) (s : List ℕ) → Lent cs → InCodes place → Walk cs b place s (place / 16 + place % 16) (place / 16) 1
-walk-start cs b place s l p = record {
+pub walk-start : (cs : List ℕ) (b : Bool) (place : ℕ) (s : List ℕ) {n : ℕ} → Lent cs → InCodes place → n ≡ place % 16 → Walk cs b place s n (place / 16 + place % 16) (place / 16) 1
+walk-start cs b place s l p e = record {
   same = ap (λ (x : List Item). itemsFault b x (drop 1 (itemsOf s))) (left-all cs place (l .is));
   high = p .inside;
   lent = l .is;
   some = omega arith;
+  pace = omega (arith, e);
 }
 
-module _ {cs : List ℕ} {b : Bool} {place : ℕ} {s : List ℕ} {end k j : ℕ} (w : Walk cs b place s end k j) where
+module _ {cs : List ℕ} {b : Bool} {place : ℕ} {s : List ℕ} {n end k j : ℕ} (w : Walk cs b place s n end k j) where
   pub walk-over : end ≤ k → 0 ≡ itemsFault b (sliceOf place) (drop 1 (itemsOf s))
   unfolding itemsFault
   walk-over h =
@@ -60,22 +62,22 @@ module _ {cs : List ℕ} {b : Bool} {place : ℕ} {s : List ℕ} {end k j : ℕ}
   first : k < end → left cs k end ≡ itemOf (getD cs k 0) ∷ left cs (k + 1) end
   first h = left-first cs k end (w .lent) (w .high) h
 
-  pub walk-short : {stops : List ℕ} {n : ℕ} → Spanned s stops n → k < end → n < j → 0 ≡ itemsFault b (sliceOf place) (drop 1 (itemsOf s))
-  unfolding itemsFault
-  walk-short v h o = sym (w .same ∙ rw (first h, drop-end (itemsOf s) j (omega (arith, items-count s, v .commas .is))))
+  -- an item for each code that is left
+  pub walk-within : k < end → j ≤ n
+  walk-within h = omega (arith, w .pace)
 
-  module _ {stops : List ℕ} {n f : ℕ} {r : Span} (v : Spanned s stops n) (h : k < end) (o : j ≤ n) (q : SpanAt s j r)
+  module _ {stops : List ℕ} {f : ℕ} {r : Span} (v : Spanned s stops n) (h : k < end) (q : SpanAt s j r)
       (g : f ≡ itemFault b (itemOf (getD cs k 0)) (take (r .to - r .from) (drop (r .from) s))) where
     turn : itemsFault b (sliceOf place) (drop 1 (itemsOf s)) ≡ f orElse itemsFault b (left cs (k + 1) end) (drop (j + 1) (itemsOf s))
     unfolding itemsFault
     turn =
-        let m : j < length (itemsOf s) = omega (arith, items-count s, v .commas .is) in
+        let m : j < length (itemsOf s) = omega (arith, items-count s, v .commas .is, walk-within h) in
         w .same ∙ rw (first h, drop-step (itemsOf s) j [] m) (ap (λ (x : ℕ). x orElse itemsFault b (left cs (k + 1) end) (drop (j + 1) (itemsOf s))) (ap (itemFault b (itemOf (getD cs k 0))) (sym (q .says)) ∙ sym g))
 
     pub walk-fault : (f ≡ 0 → ⊥) → f ≡ itemsFault b (sliceOf place) (drop 1 (itemsOf s))
-    walk-fault n = sym (turn ∙ or-stops f _ n)
+    walk-fault z = sym (turn ∙ or-stops f _ z)
 
-    pub walk-next : f ≡ 0 → Walk cs b place s end (k + 1) (j + 1)
-    walk-next z = record { same = turn ∙ ap (λ (x : ℕ). x orElse itemsFault b (left cs (k + 1) end) (drop (j + 1) (itemsOf s))) z; high = w .high; lent = w .lent; some = omega arith }
+    pub walk-next : f ≡ 0 → Walk cs b place s n end (k + 1) (j + 1)
+    walk-next z = record { same = turn ∙ ap (λ (x : ℕ). x orElse itemsFault b (left cs (k + 1) end) (drop (j + 1) (itemsOf s))) z; high = w .high; lent = w .lent; some = omega arith; pace = omega (arith, w .pace) }
 
-pub ruleset walk-laws = (walk-start, walk-over, walk-short, walk-fault, walk-next)
+pub ruleset walk-laws = (walk-start, walk-over, walk-within, walk-fault, walk-next)

@@ -4,9 +4,9 @@
 // the table.
 ghost use mathlib.Core.Path.{_≡_};
 ghost use mathlib.Core.List.{[], _∷_};
-ghost use Prim.Native.Nat.{_≤_};
+ghost use Prim.Native.Nat.{_≤_, _%_};
 ghost use lib.ListN.{getD, drop};
-ghost use Rattle.lists.specs.Lists.{same};
+ghost use Rattle.lists.specs.Lists.{same, findFrom};
 ghost use Rattle.records.specs.Split.{itemsOf};
 ghost use Rattle.characters.specs.Text.{Stops, Sixteen};
 ghost use Rattle.records.specs.Records.{orEmpty, isNum, itemsFault};
@@ -20,15 +20,13 @@ pub struct Span {
     pub to: usize,
 }
 
-// Item number j of a line, from 1 behind the record's number; nothing where there is none. n: the line's commas; stops: their places.
-pub fn item_span(stops: &[usize; 16], n: usize, s: &[u8], j: usize) -> Span
+// Item number j of a line, from 1 behind the record's number. n: the line's commas; stops: their places.
+pub fn span_within(stops: &[usize; 16], n: usize, s: &[u8], j: usize) -> Span
     requires { ⌜ Spanned (now s) (now stops) n ⌝ }
     requires { ⌜ 1 ≤ j ⌝ }
+    requires { ⌜ j ≤ n ⌝ }
     ensures { λ r. ⌜ SpanAt (now (s .entry)) j r ⌝ }
 {
-    if n < j {
-        return Span { from: 0, to: 0 };
-    }
     let before = j - 1;
     let from = stops[before] + 1;
     if j < n {
@@ -37,6 +35,30 @@ pub fn item_span(stops: &[usize; 16], n: usize, s: &[u8], j: usize) -> Span
     }
     let end = s.len();
     Span { from, to: end }
+}
+
+// The same, and nothing where there is none.
+pub fn item_span(stops: &[usize; 16], n: usize, s: &[u8], j: usize) -> Span
+    requires { ⌜ Spanned (now s) (now stops) n ⌝ }
+    requires { ⌜ 1 ≤ j ⌝ }
+    ensures { λ r. ⌜ SpanAt (now (s .entry)) j r ⌝ }
+{
+    if n < j {
+        return Span { from: 0, to: 0 };
+    }
+    span_within(stops, n, s, j)
+}
+
+// Where the record's number ends: at the first comma, or at the end.
+fn number_end(stops: &[usize; 16], n: usize, s: &[u8]) -> usize
+    requires { ⌜ Commas (now s) n ⌝ }
+    requires { ⌜ Stops (now s) (now stops) ⌝ }
+    ensures { λ r. ⌜ r ≡ findFrom 0x2c (now (s .entry)) 0 ⌝ }
+{
+    if n == 0 {
+        return s.len();
+    }
+    stops[0]
 }
 
 // ---- the table
@@ -171,16 +193,14 @@ fn items_fault(
     requires { ⌜ Lent (now codes) ⌝ }
     requires { ⌜ InCodes place ⌝ }
     requires { ⌜ Spanned (now s) (now stops) n ⌝ }
+    requires { ⌜ n ≡ place % 16 ⌝ }
     ensures { λ r. ⌜ r ≡ itemsFault provider (sliceOf place) (drop 1 (itemsOf (now (s .entry)))) ⌝ }
 {
     let mut k = place / 16;
     let end = k + place % 16;
     let mut j = 1;
     while k < end {
-        if n < j {
-            return 0;
-        }
-        let span = item_span(stops, n, s, j);
+        let span = span_within(stops, n, s, j);
         let a = span.from;
         let e = span.to;
         let c = codes[k];
@@ -456,7 +476,7 @@ pub fn read_line(
         return LineRead::Fault(4);
     }
     let start = 0;
-    let end = lists::find_byte(s, start, 0x2c);
+    let end = number_end(stops, commas, s);
     let n = digits::plain_number(&s[start..end]);
     if n == 911 {
         return LineRead::Fault(6);

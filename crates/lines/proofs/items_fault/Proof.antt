@@ -7,10 +7,10 @@ use Rattle.lines.proofs.items_fault.Tie as tie
 use Rattle.lines.proofs.items_fault.Reads as reads
 use Rattle.lines.proofs.items_fault.Lts as lts
 use Rattle.items.proofs.item_fault.Reads as item-fault-reads
-use Rattle.lines.proofs.item_span.Reads as item-span-reads
+use Rattle.lines.proofs.span_within.Reads as span-within-reads
 
 abbrev Inv-loop : tie.InvT-loop
-Inv-loop codes place provider stops n s k₀ end j₀ k j = Walk codes provider place s end k j
+Inv-loop codes place provider stops n s k₀ end j₀ k j = Walk codes provider place s n end k j
 
 abbrev μ-loop : tie.MeasureT-loop
 μ-loop codes place provider stops n s k₀ end j₀ k j = end - k
@@ -21,11 +21,8 @@ add-end c = search (needs, walk-laws)
 loop-holds : tie.Need-loop-holds Inv-loop μ-loop
 loop-holds c = search (needs, walk-laws)
 
-returns : tie.Need-returns Inv-loop μ-loop
-returns c = search (needs, walk-laws)
-
-item-span-requires : tie.Need-item-span-requires Inv-loop μ-loop
-item-span-requires c κs = search (needs, walk-laws)
+span-within-requires : tie.Need-span-within-requires Inv-loop μ-loop
+span-within-requires c κs = search (needs, walk-laws)
 
 mul-c : tie.Need-mul-c Inv-loop μ-loop
 mul-c c = search (needs, walk-laws)
@@ -45,8 +42,8 @@ part-item-fault-end c = search (needs, walk-laws)
 item-fault-requires : tie.Need-item-fault-requires Inv-loop μ-loop
 item-fault-requires c κs = search (needs, walk-laws)
 
-returns-2 : tie.Need-returns-2 Inv-loop μ-loop
-returns-2 c = search (needs, walk-laws)
+returns : tie.Need-returns Inv-loop μ-loop
+returns c = search (needs, walk-laws)
 
 add-j : tie.Need-add-j Inv-loop μ-loop
 add-j c = search (needs, walk-laws)
@@ -60,8 +57,8 @@ loop-less c = search (needs, walk-laws)
 loop-again : tie.Need-loop-again Inv-loop μ-loop
 loop-again c = search (needs, walk-laws)
 
-returns-3 : tie.Need-returns-3 Inv-loop μ-loop
-returns-3 c = search (needs, walk-laws)
+returns-2 : tie.Need-returns-2 Inv-loop μ-loop
+returns-2 c = search (needs, walk-laws)
 
 pub items-fault-spec : {M : Type 1} → statement M
 items-fault-spec =
@@ -71,17 +68,16 @@ items-fault-spec =
     μ-loop
     add-end
     loop-holds
-    returns
-    item-span-requires
+    span-within-requires
     mul-c
     element-copy-out-c
     sub-item-fault
     part-item-fault-start
     part-item-fault-end
     item-fault-requires
-    returns-2
+    returns
     add-j
     add-k
     loop-less
     loop-again
-    returns-3)
+    returns-2)

@@ -8,15 +8,15 @@ use Rattle.lines.proofs.read_line.Reads as reads
 use Rattle.lines.proofs.read_line.Lts as lts
 use Rattle.digits.proofs.plain_number.Reads as plain-number-reads
 use Rattle.lines.proofs.items_fault.Reads as items-fault-reads
+use Rattle.lines.proofs.number_end.Reads as number-end-reads
 use Rattle.lines.proofs.place_of.Reads as place-of-reads
 use Rattle.lines.proofs.record_details.Reads as record-details-reads
-use Rattle.lists.proofs.find_byte.Reads as find-byte-reads
 
 returns : tie.Need-returns
 returns c = search (needs, read-laws)
 
-find-byte-requires : tie.Need-find-byte-requires
-find-byte-requires c κs = search needs
+number-end-requires : tie.Need-number-end-requires
+number-end-requires c κs = search needs
 
 sub-plain-number : tie.Need-sub-plain-number
 sub-plain-number c = search needs
@@ -43,7 +43,7 @@ returns-4 : tie.Need-returns-4
 returns-4 c = search (needs, read-laws)
 
 items-fault-requires : tie.Need-items-fault-requires
-items-fault-requires c κs = search (needs, read-laws)
+items-fault-requires c κs = (search needs, (search needs, (search (needs, read-laws), search needs)))
 
 returns-5 : tie.Need-returns-5
 returns-5 c = search (needs, read-laws)
@@ -62,7 +62,7 @@ read-line-spec =
     tie.close
     (tie.spec
     returns
-    find-byte-requires
+    number-end-requires
     sub-plain-number
     part-plain-number-start
     part-plain-number-end
