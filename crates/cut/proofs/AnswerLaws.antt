@@ -3,21 +3,20 @@ use Prim.Native.Nat.{ℕ, suc, _+_, _-_, _≤_, _<_}
 use native.Mathlib.Omega.{arith}
 use mathlib.Core.Path.{_≡_, refl, sym, ap, _∙_, subst}
 use mathlib.Core.Option.{none, some}
-use mathlib.Core.List.{List, [], _∷_, _++_, append-nil}
+use mathlib.Core.List.{List, [], _∷_, append-nil}
 use borrow.Author.Tests.{le-leb, lt-leb}
 use mir.Val.{Fits}
 use mir.Syntax.{w32, w64}
-use lib.ListN.{length, length-append}
+use lib.ListN.{length}
 use Rattle.lists.specs.Lists.{part}
 use Rattle.characters.specs.Rows.{flat}
-use Rattle.buffers.specs.Buffers.{Room, Wrote}
-use Rattle.buffers.proofs.Runs.{then, sets-all}
+use Rattle.buffers.specs.Buffers.{Wrote}
+use Rattle.buffers.proofs.Runs.{sets-all}
 use Rattle.cut.specs.declared.Cutting.the-variants.{Pieces, Refused}
 use Rattle.cut.specs.declared.Chosen.{Chosen}
 use Rattle.cut.specs.declared.Chosen.the-variants.{Count, NoWidth}
-use Rattle.cut.specs.Loops.{chosen, numberedAs, restOf, Ready, plannedAs, cuttingOf, Given, CutBytes}
-use Rattle.cut.proofs.RowLaws.{part-length}
-use Rattle.cut.proofs.PlanLaws.{Found, plan-fits, plan-fails, plan-found, overheads-most, found-few, found-wide, found-count, found-bytes, found-length}
+use Rattle.cut.specs.Loops.{chosen, numberedAs, poured, Ready, plannedAs, cuttingOf, Given, CutBytes}
+use Rattle.cut.proofs.PlanLaws.{Found, plan-fits, plan-fails, plan-found, overheads-most, found-few, found-wide, found-ends, found-bytes, found-length}
 
 -- ---- a list of pieces is found, whose bytes are b
 
@@ -63,20 +62,12 @@ module _ {s id : List ℕ} {c : ℕ} (d : List ℕ) (g : Given s id) where
       found : Found s c w n t
       found = plan-found s c (g .header) h w n t (sym p ∙ q)
 
-      bytes : List ℕ
-      bytes = part s 0 13 ++ restOf s c w id n
-
       many : cuttingOf id c s ≡ some (numberedAs (part s 0 13) id n 1 (found .runs))
       unfolding cuttingOf
       many = ap (plannedAs id s) (found .is) ∙ ap (λ (m : ℕ). some (numberedAs (part s 0 13) id m 1 (found .runs))) (found .count)
 
-      size : t + (length s - 13) ≡ length bytes
-      unfolding bytes
+      size : t + (length s - 13) ≡ length (poured s c w id n 1 13)
       size = found-length found id (g .header) (g .ident) ∙ ap length (found-bytes found id)
-
-      behind : length bytes ≡ 13 + length (restOf s c w id n)
-      unfolding bytes
-      behind = omega (arith, length-append (part s 0 13) (restOf s c w id n), part-length s 0 13 (g .header) (omega arith))
 
       small : t + (length s - 13) < 200000
       small = omega (arith, g .bytes, found .sum, overheads-most w n (found-wide found), found-few found)
@@ -88,30 +79,24 @@ module _ {s id : List ℕ} {c : ℕ} (d : List ℕ) (g : Given s id) where
       total-fits-32 = omega (arith, small)
 
       pub split-short : length d < t + (length s - 13) → CutBytes s c id d d (Refused 20 0)
-      unfolding bytes
-      split-short l = held-short s c id d (numberedAs (part s 0 13) id n 1 (found .runs)) bytes many (found-bytes found id) (omega (arith, size))
+      split-short l =
+          held-short s c id d (numberedAs (part s 0 13) id n 1 (found .runs)) (poured s c w id n 1 13) many (found-bytes found id) (omega (arith, size))
 
       module _ (l : t + (length s - 13) ≤ length d) where
-        pub split-head : Room d 0 (part s 0 13)
-        split-head = omega (arith, size, behind, part-length s 0 13 (g .header) (omega arith))
+        pub split-ready : Ready d s c w n id
+        split-ready = record {
+          small = record { bytes = g .bytes; header = g .header; more = h };
+          wide = found-wide found;
+          few = found-few found;
+          count = found-ends found;
+          room = omega (arith, size);
+        }
 
-        module _ {d₁ : List ℕ} {o : ℕ} (x : Wrote d d₁ 0 o (part s 0 13)) where
-          pub split-ready : Ready d₁ o s c w n id
-          split-ready = record {
-            small = record { bytes = g .bytes; header = g .header; more = h };
-            wide = found-wide found;
-            few = found-few found;
-            ident = g .ident;
-            count = found-count found;
-            room = omega (arith, size, behind, x .next, x .size, part-length s 0 13 (g .header) (omega arith));
-          }
+        pub split-done : {d₁ : List ℕ} {y : ℕ} → Wrote d d₁ 0 y (poured s c w id n 1 13) → CutBytes s c id d d₁ (Pieces n (t + (length s - 13)))
+        split-done {d₁} {y} z =
+            let k : length (numberedAs (part s 0 13) id n 1 (found .runs)) ≡ n = numbered-count (part s 0 13) id n (found .runs) 1 ∙ found .count in
+            subst (λ (m : ℕ). CutBytes s c id d d₁ (Pieces m (t + (length s - 13)))) k
+            (held-done s c id d (numberedAs (part s 0 13) id n 1 (found .runs)) (poured s c w id n 1 13) many (found-bytes found id) (omega (arith, size))
+            size z)
 
-          pub split-done : {d₂ : List ℕ} {y : ℕ} → Wrote d₁ d₂ o y (restOf s c w id n) → CutBytes s c id d d₂ (Pieces n (t + (length s - 13)))
-          unfolding bytes
-          split-done {d₂} {y} z =
-              let k : length (numberedAs (part s 0 13) id n 1 (found .runs)) ≡ n = numbered-count (part s 0 13) id n (found .runs) 1 ∙ found .count in
-              subst (λ (m : ℕ). CutBytes s c id d d₂ (Pieces m (t + (length s - 13)))) k
-              (held-done s c id d (numberedAs (part s 0 13) id n 1 (found .runs)) bytes many (found-bytes found id) (omega (arith, size))
-              size (then x z))
-
-pub ruleset answer-laws = (whole-short, whole-done, no-width, total-fits, total-fits-32, split-short, split-head, split-ready, split-done)
+pub ruleset answer-laws = (whole-short, whole-done, no-width, total-fits, total-fits-32, split-short, split-ready, split-done)

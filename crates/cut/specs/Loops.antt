@@ -1,6 +1,6 @@
 -- What the code of cutting follows, over the bytes s of a canonical file: 13 bytes of line 1, then rows. Each form is a function of `pack`
--- or `tries` (packing, specs/) at the loop's place: a row i, the piece k, the bytes u that it holds so far. Cut.antt says the same of
--- notebooks; proofs/FileLaws.antt joins the two.
+-- or `tries` (packing, specs/) at the loop's place: piece k begins with the row at i. Cut.antt says the same of notebooks;
+-- proofs/FileLaws.antt joins the two.
 use Prim.Native.Nat.{ℕ, zero, suc, _+_, _-_, _≤_, _<_}
 use mathlib.Core.Path.{_≡_}
 use mathlib.Core.Option.{Option, none, some}
@@ -24,22 +24,30 @@ pub record OverOf (w k r : ℕ) : Type 0 where
   pub is : r ≡ over w k
   pub most : r ≤ 42
 
--- the rows from position i on, packed where piece k has u bytes taken
-unfoldable pub runsAt : List ℕ → ℕ → ℕ → ℕ → ℕ → ℕ → Option (List (List (List ℕ)))
-runsAt s c w k u i = pack length (over w) c k u (rows (drop i s))
+-- the bytes of the first row
+abbrev pub firstLength : List (List ℕ) → ℕ
+firstLength [] = 0
+firstLength (r ∷ rs) = length r
 
--- the number of the last piece, where the first is k
-abbrev pub lastPiece : ℕ → Option (List (List (List ℕ))) → Option ℕ
-lastPiece k none = none
-lastPiece k (some []) = some k
-lastPiece k (some (x ∷ xs)) = some (k + length xs)
+-- "Records are packed as many as fit, in order": the rows from i to before e fit the capacity c beside u bytes, and the next does not
+pub record RunAt (s : List ℕ) (i u c e : ℕ) : Type 0 where
+  pub low : i ≤ e
+  pub inside : e ≤ length s
+  pub cut : rows (drop i s) ≡ rows (part s i e) ++ rows (drop e s)
+  pub fits : i < e → u + (e - i) ≤ c
+  pub next : e < length s → c < u + (e - i) + firstLength (rows (drop e s))
 
-unfoldable pub packed : List ℕ → ℕ → ℕ → ℕ → ℕ → ℕ → Option ℕ
-packed s c w k u i = lastPiece k (runsAt s c w k u i)
+-- the rows from position i on, packed from piece k on
+unfoldable pub runsAt : List ℕ → ℕ → ℕ → ℕ → ℕ → Option (List (List (List ℕ)))
+runsAt s c w k i = pack length (over w) c k (over w k) (rows (drop i s))
 
--- the count for a width
-unfoldable pub countFor : List ℕ → ℕ → ℕ → Option ℕ
-countFor s c w = packed s c w 1 (over w 1) 13
+-- the number behind the last piece's, where the first is k
+abbrev pub pastLast : ℕ → Option (List (List (List ℕ))) → Option ℕ
+pastLast k none = none
+pastLast k (some xs) = some (k + length xs)
+
+unfoldable pub ends : List ℕ → ℕ → ℕ → ℕ → ℕ → Option ℕ
+ends s c w k i = pastLast k (runsAt s c w k i)
 
 -- what the pieces 1 to k hold besides their records
 unfoldable pub overheads : ℕ → ℕ → ℕ
@@ -72,18 +80,18 @@ unfoldable pub numberedAs : List ℕ → List ℕ → ℕ → ℕ → List (List
 numberedAs head id n k [] = []
 numberedAs head id n k (x ∷ xs) = (head ++ (flat x ++ markRow id n k)) ∷ numberedAs head id n (suc k) xs
 
--- the same one after another, without the first line 1
-abbrev pub behindHead : List ℕ → List ℕ → ℕ → ℕ → Option (List (List (List ℕ))) → List ℕ
-behindHead head id n k none = []
-behindHead head id n k (some []) = markRow id n k
-behindHead head id n k (some (x ∷ xs)) = flat x ++ (markRow id n k ++ flat (numberedAs head id n (suc k) xs))
+-- the same one after another
+abbrev pub piecesAs : List ℕ → List ℕ → ℕ → ℕ → Option (List (List (List ℕ))) → List ℕ
+piecesAs head id n k none = []
+piecesAs head id n k (some xs) = flat (numberedAs head id n k xs)
 
-unfoldable pub poured : List ℕ → ℕ → ℕ → List ℕ → ℕ → ℕ → ℕ → ℕ → List ℕ
-poured s c w id n k u i = behindHead (part s 0 13) id n k (runsAt s c w k u i)
+-- the pieces from piece k on, whose rows begin at i
+unfoldable pub poured : List ℕ → ℕ → ℕ → List ℕ → ℕ → ℕ → ℕ → List ℕ
+poured s c w id n k i = piecesAs (part s 0 13) id n k (runsAt s c w k i)
 
--- all of it: from piece 1 on
-unfoldable pub restOf : List ℕ → ℕ → ℕ → List ℕ → ℕ → List ℕ
-restOf s c w id n = poured s c w id n 1 (over w 1) 13
+-- piece k of n, whose rows are the bytes from i to before e
+unfoldable pub pieceAs : List ℕ → List ℕ → ℕ → ℕ → ℕ → ℕ → List ℕ
+pieceAs s id n k i e = part s 0 13 ++ (part s i e ++ markRow id n k)
 
 -- a record 911 fits d from index at on
 pub record MarkRoom (d : List ℕ) (at : ℕ) (id : List ℕ) (n k : ℕ) : Type 0 where
@@ -91,21 +99,22 @@ pub record MarkRoom (d : List ℕ) (at : ℕ) (id : List ℕ) (n k : ℕ) : Type
   pub few-k : k < 1000
   pub room : at + (8 + length id + length (spell n) + length (spell k)) ≤ length d
 
--- the same with a line 1 behind it
-pub record OpenRoom (d : List ℕ) (at : ℕ) (s id : List ℕ) (n k : ℕ) : Type 0 where
+-- a piece does
+pub record PieceRoom (d : List ℕ) (at : ℕ) (s : List ℕ) (i e : ℕ) (id : List ℕ) (n k : ℕ) : Type 0 where
   pub few-n : n < 1000
   pub few-k : k < 1000
   pub header : 13 ≤ length s
-  pub room : at + (8 + length id + length (spell n) + length (spell k) + 13) ≤ length d
+  pub low : i ≤ e
+  pub inside : e ≤ length s
+  pub room : at + length (pieceAs s id n k i e) ≤ length d
 
--- the pieces for a found width fit d from index at on, behind the first line 1
-pub record Ready (d : List ℕ) (at : ℕ) (s : List ℕ) (c w n : ℕ) (id : List ℕ) : Type 0 where
+-- the n pieces for a found width fit d
+pub record Ready (d s : List ℕ) (c w n : ℕ) (id : List ℕ) : Type 0 where
   pub small : Small s c
   pub wide : w ≤ 3
   pub few : n < 1000
-  pub ident : length id ≡ 14
-  pub count : countFor s c w ≡ some n
-  pub room : at + length (restOf s c w id n) ≤ length d
+  pub count : ends s c w 1 13 ≡ some (n + 1)
+  pub room : length (poured s c w id n 1 13) ≤ length d
 
 -- ---- the answer for canonical bytes
 

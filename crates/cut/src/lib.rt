@@ -1,17 +1,16 @@
 // Cutting: the canonical file of a notebook into pieces for a capacity. Definitions: specs/Cut.antt; specs/Loops.antt has the forms that
-// the loops follow. The width of the count is found first, with the count and the total length, so that nothing is written where the
-// answer is a refusal; then the rows are walked once more and written. A change of the record 911 moves together: `over` (packing),
-// `markRow` (pieces), `overhead` and `put_mark`.
+// the loops follow. The records of a piece are one run of the file's bytes, and the longest run that fits ends behind the last 0Ah within
+// the capacity: `run_end` looks for it from the back, so that a piece costs a row's bytes and not its own. The width of the count is found
+// first, with the count and the total length, so that nothing is written where the answer is a refusal; then the pieces are written.
+// A change of the record 911 moves together: `over` (packing), `markRow` (pieces), `overhead` and `put_mark`.
 ghost use mathlib.Core.Path.{_≡_};
-ghost use mathlib.Core.List.{_++_};
 ghost use Prim.Native.Nat.{_≤_};
 ghost use lib.ListN.{length};
-ghost use Rattle.lists.specs.Lists.{part};
 ghost use Rattle.buffers.specs.Buffers.{Wrote};
 ghost use Rattle.packing.specs.Widths.{digitsOf, serves};
 ghost use Rattle.pieces.specs.Marks.{markRow};
 ghost use Rattle.cut.specs.Cut.{cutOf, cutBuffer};
-ghost use Rattle.cut.specs.Loops.{OverOf, Small, chosen, restOf, MarkRoom, OpenRoom, Ready, Given, CutBytes};
+ghost use Rattle.cut.specs.Loops.{OverOf, RunAt, Small, chosen, MarkRoom, pieceAs, PieceRoom, poured, Ready, Given, CutBytes};
 
 // The count of pieces and their total length; or a refusal's number and line, and the output as it was.
 pub enum Cutting {
@@ -56,6 +55,30 @@ fn serves_width(w: usize, n: u32) -> bool
     (digits_of(n) == w) & (2 <= n)
 }
 
+// Where the longest run of rows from i on ends that fits a capacity beside u bytes: the end if all fit, else behind the last 0Ah that
+// does; i where no row fits.
+fn run_end(s: &[u8], i: usize, u: usize, c: usize) -> usize
+    requires { ⌜ i ≤ length (now s) ⌝ }
+    ensures { λ e. ⌜ RunAt (now (s .entry)) i u c e ⌝ }
+{
+    if c < u {
+        return i;
+    }
+    let room = c - u;
+    if s.len() - i <= room {
+        return s.len();
+    }
+    let mut e = i + room;
+    while i < e {
+        let last = e - 1;
+        if s[last] == 0x0a {
+            return e;
+        }
+        e = last;
+    }
+    e
+}
+
 // The first width that serves.
 fn first_width(s: &[u8], c: usize) -> Chosen
     requires { ⌜ Small (now s) c ⌝ }
@@ -72,33 +95,26 @@ fn first_width(s: &[u8], c: usize) -> Chosen
         let mut i: usize = 13;
         t = u;
         loop {
-            if i >= s.len() {
+            let e = run_end(s, i, u, c);
+            if s.len() <= e {
                 if serves_width(w, k) {
                     break 'widths k;
                 }
                 w += 1;
                 continue 'widths;
             }
-            let e = pieces::row_end(s, i);
-            let r = e - i;
-            i = e;
-            if u + r <= c {
-                u += r;
-            } else {
-                k += 1;
-                let d = digits_of(k);
-                if w < d {
-                    w += 1;
-                    continue 'widths;
-                }
-                let o = overhead(w, k);
-                t += o;
-                u = o + r;
-                if c < u {
-                    w += 1;
-                    continue 'widths;
-                }
+            if e <= i {
+                w += 1;
+                continue 'widths;
             }
+            i = e;
+            k += 1;
+            if w < digits_of(k) {
+                w += 1;
+                continue 'widths;
+            }
+            u = overhead(w, k);
+            t += u;
         }
     };
     Chosen::Count(w, count, t)
@@ -118,42 +134,45 @@ fn put_mark(out: &mut [u8], at: usize, id: &[u8], n: u32, k: u32) -> usize
     buffers::put_all(out, f, b"\r\n")
 }
 
-// Ends piece k with its record 911, and opens the next with line 1.
-fn open_next(out: &mut [u8], at: usize, s: &[u8], id: &[u8], n: u32, k: u32) -> usize
-    requires { ⌜ OpenRoom (now out) at (now s) (now id) n k ⌝ }
-    ensures { λ r. ⌜ Wrote (now (out .entry)) (now (out .exit)) at r (markRow (now (id .entry)) n k ++ part (now (s .entry)) 0 13) ⌝ }
+// Piece k of n: line 1, the rows from i to before e, and the record 911.
+fn put_piece(
+    out: &mut [u8],
+    at: usize,
+    s: &[u8],
+    i: usize,
+    e: usize,
+    id: &[u8],
+    n: u32,
+    k: u32,
+) -> usize
+    requires { ⌜ PieceRoom (now out) at (now s) i e (now id) n k ⌝ }
+    ensures { λ r. ⌜ Wrote (now (out .entry)) (now (out .exit)) at r (pieceAs (now (s .entry)) (now (id .entry)) n k i e) ⌝ }
 {
-    let o = put_mark(out, at, id, n, k);
     let start = 0;
     let end = 13;
-    buffers::put_all(out, o, &s[start..end])
+    let a = buffers::put_all(out, at, &s[start..end]);
+    let b = buffers::put_all(out, a, &s[i..e]);
+    put_mark(out, b, id, n, k)
 }
 
-// The pieces, one after another, but for the first line 1.
-fn pour_rows(out: &mut [u8], at: usize, s: &[u8], c: usize, w: usize, n: u32, id: &[u8]) -> usize
-    requires { ⌜ Ready (now out) at (now s) c w n (now id) ⌝ }
-    ensures { λ r. ⌜ Wrote (now (out .entry)) (now (out .exit)) at r (restOf (now (s .entry)) c w (now (id .entry)) n) ⌝ }
+// The pieces, one after another.
+fn pour_pieces(out: &mut [u8], s: &[u8], c: usize, w: usize, n: u32, id: &[u8]) -> usize
+    requires { ⌜ Ready (now out) (now s) c w n (now id) ⌝ }
+    ensures { λ r. ⌜ Wrote (now (out .entry)) (now (out .exit)) 0 r (poured (now (s .entry)) c w (now (id .entry)) n 1 13) ⌝ }
 {
-    let mut o = at;
+    let mut o: usize = 0;
     let mut k: u32 = 1;
-    let mut u = overhead(w, k);
     let mut i: usize = 13;
-    while i < s.len() {
-        let e = pieces::row_end(s, i);
-        let r = e - i;
-        if u + r <= c {
-            o = buffers::put_all(out, o, &s[i..e]);
-            u += r;
-            i = e;
-        } else {
-            o = open_next(out, o, s, id, n, k);
-            o = buffers::put_all(out, o, &s[i..e]);
-            k += 1;
-            u = overhead(w, k) + r;
-            i = e;
+    loop {
+        let u = overhead(w, k);
+        let e = run_end(s, i, u, c);
+        o = put_piece(out, o, s, i, e, id, n, k);
+        if s.len() <= e {
+            return o;
         }
+        k += 1;
+        i = e;
     }
-    put_mark(out, o, id, n, k)
 }
 
 // Cuts the bytes of a canonical file, for a valid ID. Where the file does not fit, the capacity is below 65,536.
@@ -177,10 +196,7 @@ fn cut_bytes(s: &[u8], capacity: u64, id: &[u8], out: &mut [u8]) -> Cutting
             if out.len() < total {
                 return Cutting::Refused(20, 0);
             }
-            let start = 0;
-            let end = 13;
-            let o = buffers::put_all(out, 0, &s[start..end]);
-            pour_rows(out, o, s, c, w, n, id);
+            pour_pieces(out, s, c, w, n, id);
             Cutting::Pieces(n, total as u32)
         }
     }

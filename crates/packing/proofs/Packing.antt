@@ -1,9 +1,9 @@
 -- The greedy packing fits and holds everything in order, and no other division into consecutive runs has fewer. `o k` is what piece k holds
 -- besides its things. Assumes nothing.
 use Prim.Native.Nat.{ℕ, suc, _+_, _≤_, _<_}
-use mathlib.Core.Path.{_≡_, refl, ap, _∙_, subst}
+use mathlib.Core.Path.{_≡_, refl, sym, ap, _∙_, subst}
 use mathlib.Core.Logic.{_⊎_, inl, inr}
-use mathlib.Core.Bool.{Bool, true, false}
+use mathlib.Core.Bool.{Bool, true, false, cond}
 use mathlib.Core.Option.{Option, none, some, Option·map}
 use mathlib.Core.List.{List, [], _∷_, _++_}
 use native.Mathlib.Omega.{arith}
@@ -34,6 +34,54 @@ module _ {A : Type 0} (len : A → ℕ) (o : ℕ → ℕ) (c k u : ℕ) (r : A) 
   pub pack-none : c < u + len r → c < o (suc k) + len r → pack len o c k u (r ∷ rs) ≡ none
   unfolding pack
   pack-none h g = rw (lt-leb (u + len r) c h, lt-leb (o (suc k) + len r) c g, pack)
+
+-- ---- a piece at a time: the longest run that fits is the next piece's
+
+module _ {A : Type 0} (len : A → ℕ) (o : ℕ → ℕ) (c : ℕ) where
+  -- all that is left fits
+  pub pack-last : (k u : ℕ) (rs : List A) → u + total len rs ≤ c → pack len o c k u rs ≡ some (rs ∷ [])
+  unfolding pack total put
+  pack-last k u [] h = refl
+  pack-last k u (r ∷ rs) h =
+      pack-stay len o c k u r rs (omega arith) ∙ ap (Option·map (put r)) (pack-last k (u + len r) rs (omega arith))
+
+  module _ (up : (i j : ℕ) → i ≤ j → o i ≤ o j) where
+    -- what does not fit an empty piece fits no later one
+    pub pack-stuck : (k : ℕ) (r : A) (rs : List A) → c < o k + len r → pack len o c k (o k) (r ∷ rs) ≡ none
+    pack-stuck k r rs h = pack-none len o c k (o k) r rs h (omega (arith, up k (suc k) (omega arith)))
+
+    pack-open : (k u : ℕ) (r : A) (rs : List A) → c < u + len r
+        → pack len o c k u (r ∷ rs) ≡ Option·map (λ xs. [] ∷ xs) (pack len o c (suc k) (o (suc k)) (r ∷ rs))
+    pack-open k u r rs h = go (leb (o (suc k) + len r) c) refl
+      where
+        twice : (m : Option (List (List A))) → Option·map (λ xs. [] ∷ put r xs) m ≡ Option·map (λ xs. [] ∷ xs) (Option·map (put r) m)
+        twice none = refl
+        twice (some xs) = refl
+
+        go : (b : Bool) → leb (o (suc k) + len r) c ≡ b
+            → pack len o c k u (r ∷ rs) ≡ Option·map (λ xs. [] ∷ xs) (pack len o c (suc k) (o (suc k)) (r ∷ rs))
+        go true e =
+            let l : o (suc k) + len r ≤ c = leb-true _ _ e in
+            pack-next len o c k u r rs h l
+            ∙ twice (pack len o c (suc k) (o (suc k) + len r) rs)
+            ∙ ap (Option·map (λ xs. [] ∷ xs)) (sym (pack-stay len o c (suc k) (o (suc k)) r rs l))
+        go false e =
+            let l : c < o (suc k) + len r = leb-false _ _ e in
+            pack-none len o c k u r rs h l ∙ ap (Option·map (λ xs. [] ∷ xs)) (sym (pack-stuck (suc k) r rs l))
+
+    -- a run fits and the next thing does not: the run is the piece's
+    pub pack-run : (k u : ℕ) (rs : List A) (t : A) (ts : List A) → u + total len rs ≤ c → c < u + total len rs + len t
+        → pack len o c k u (rs ++ t ∷ ts) ≡ Option·map (λ xs. rs ∷ xs) (pack len o c (suc k) (o (suc k)) (t ∷ ts))
+    unfolding total put
+    pack-run k u [] t ts h g = pack-open k u t ts (omega arith)
+    pack-run k u (r ∷ rs) t ts h g =
+        pack-stay len o c k u r (rs ++ t ∷ ts) (omega arith)
+        ∙ ap (Option·map (put r)) (pack-run k (u + len r) rs t ts (omega arith) (omega arith))
+        ∙ twice (pack len o c (suc k) (o (suc k)) (t ∷ ts))
+      where
+        twice : (m : Option (List (List A))) → Option·map (put r) (Option·map (λ xs. rs ∷ xs) m) ≡ Option·map (λ xs. (r ∷ rs) ∷ xs) m
+        twice none = refl
+        twice (some xs) = refl
 
 -- ---- the greedy packing is ahead of every way
 
@@ -115,6 +163,25 @@ Holds P (some b) = P b
 pub holds-map : {B : Type 0} (P Q : B → Type 0) (f : B → B) → ((b : B) → P b → Q (f b)) → (m : Option B) → Holds P m → Holds Q (Option·map f m)
 holds-map P Q f g none h = tt
 holds-map P Q f g (some b) h = g b h
+
+-- there is a run, even where there is nothing to pack
+pub pack-more : {A : Type 0} (len : A → ℕ) (o : ℕ → ℕ) (c k u : ℕ) (rs : List A) → Holds (λ xs. 0 < length xs) (pack len o c k u rs)
+unfolding pack put
+pack-more len o c k u [] = omega arith
+pack-more {A} len o c k u (r ∷ rs) =
+    go (leb (u + len r) c) (leb (o (suc k) + len r) c) (pack len o c k (u + len r) rs) (pack len o c (suc k) (o (suc k) + len r) rs)
+  where
+    more : (xs : List (List A)) → 0 < length (put r xs)
+    more [] = omega arith
+    more (x ∷ xs) = omega arith
+
+    go : (a b : Bool) (m m′ : Option (List (List A)))
+        → Holds (λ xs. 0 < length xs) (cond a (Option·map (put r) m) (cond b (Option·map (λ xs. [] ∷ put r xs) m′) none))
+    go true b none m′ = tt
+    go true b (some xs) m′ = more xs
+    go false true m none = tt
+    go false true m (some xs) = omega arith
+    go false false m m′ = tt
 
 -- the first run fits behind u bytes of piece k, and the others as pieces k + 1, ..
 unfoldable pub Taken : {A : Type 0} → (A → ℕ) → (ℕ → ℕ) → ℕ → ℕ → ℕ → List (List A) → Type 0

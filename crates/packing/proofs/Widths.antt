@@ -141,7 +141,7 @@ serves-no : (w n : ℕ) → (digitsOf n ≡ w → ⊥) → serves w n ≡ false
 unfolding serves
 serves-no w n h = rw (ne-eqb (digitsOf n) w h)
 
-serves-digits : (w n : ℕ) → serves w n ≡ true → (digitsOf n ≡ w) × (2 ≤ n)
+pub serves-digits : (w n : ℕ) → serves w n ≡ true → (digitsOf n ≡ w) × (2 ≤ n)
 unfolding serves
 serves-digits w n e = let p = both (eqb (digitsOf n) w) _ e in (eqb-true _ _ (p .0), omega (arith, leb-true _ n (p .1)))
 

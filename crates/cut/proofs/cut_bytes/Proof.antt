@@ -8,7 +8,7 @@ use Rattle.cut.proofs.cut_bytes.Reads as reads
 use Rattle.cut.proofs.cut_bytes.Lts as lts
 use Rattle.buffers.proofs.put_all.Reads as put-all-reads
 use Rattle.cut.proofs.first_width.Reads as first-width-reads
-use Rattle.cut.proofs.pour_rows.Reads as pour-rows-reads
+use Rattle.cut.proofs.pour_pieces.Reads as pour-pieces-reads
 
 returns : tie.Need-returns
 returns c = search (needs, answer-laws)
@@ -16,8 +16,8 @@ returns c = search (needs, answer-laws)
 put-all-requires : tie.Need-put-all-requires
 put-all-requires c κs = search needs
 
-cast-t19 : tie.Need-cast-t19
-cast-t19 c = search needs
+cast-t16 : tie.Need-cast-t16
+cast-t16 c = search needs
 
 same-length : tie.Need-same-length
 same-length c = search needs
@@ -43,23 +43,11 @@ add-total c = search (needs, answer-laws)
 returns-3 : tie.Need-returns-3
 returns-3 c = search (needs, answer-laws)
 
-sub-put-all : tie.Need-sub-put-all
-sub-put-all c = search needs
+pour-pieces-requires : tie.Need-pour-pieces-requires
+pour-pieces-requires c κs = search (needs, answer-laws)
 
-part-put-all-start : tie.Need-part-put-all-start
-part-put-all-start c = search needs
-
-part-put-all-end : tie.Need-part-put-all-end
-part-put-all-end c = search needs
-
-put-all-requires-2 : tie.Need-put-all-requires-2
-put-all-requires-2 c κs = search (needs, answer-laws)
-
-pour-rows-requires : tie.Need-pour-rows-requires
-pour-rows-requires c κs = search (needs, answer-laws)
-
-cast-t31 : tie.Need-cast-t31
-cast-t31 c = search (needs, answer-laws)
+cast-t23 : tie.Need-cast-t23
+cast-t23 c = search (needs, answer-laws)
 
 returns-4 : tie.Need-returns-4
 returns-4 c = search (needs, answer-laws)
@@ -69,13 +57,10 @@ same-length-2 c = search needs
 
 returns-5 : tie.Need-returns-5
 returns-5 c =
-    split-done _
-    (c .before .before .before .before .before .before .before .before .before .before .before .before .before .before .before .before .before .before
-    .pre) (c .before .before .before .before .before .before .before .before .before .before .before .before .before .before .if1 .left)
-    (c .before .before .before .before .before .before .before .before .before .before .before .before .before .first-width .ensures)
-    (c .before .before .before .before .before .before .before .before .before .before .before .w .given .1)
-    (c .before .before .before .before .before .before .before .before .before .if3 .left)
-    (c .before .before .before .before .before .before .put-all2 .ensures) (c .before .before .pour-rows .ensures)
+    split-done _ (c .before .before .before .before .before .before .before .before .before .before .before .before .before .pre)
+    (c .before .before .before .before .before .before .before .before .before .if1 .left)
+    (c .before .before .before .before .before .before .before .before .first-width .ensures) (c .before .before .before .before .before .before .w .given .1)
+    (c .before .before .before .before .if3 .left) (c .before .before .pour-pieces .ensures)
 
 pub cut-bytes-spec : {M : Type 1} → statement M
 cut-bytes-spec =
@@ -83,7 +68,7 @@ cut-bytes-spec =
     (tie.spec
     returns
     put-all-requires
-    cast-t19
+    cast-t16
     same-length
     returns-2
     first-width-requires
@@ -92,12 +77,8 @@ cut-bytes-spec =
     sub-total
     add-total
     returns-3
-    sub-put-all
-    part-put-all-start
-    part-put-all-end
-    put-all-requires-2
-    pour-rows-requires
-    cast-t31
+    pour-pieces-requires
+    cast-t23
     returns-4
     same-length-2
     returns-5)

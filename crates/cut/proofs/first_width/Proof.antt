@@ -1,16 +1,15 @@
 use borrow.Author.Needs.{needs}
 use Prim.Native.Nat.{_-_}
 use lib.ListN.{length}
-use native.Mathlib.Omega.{arith}
-use Rattle.cut.proofs.CountLaws.{Trying, Packing, row-stays, try-none, try-many, count-laws}
+use Rattle.cut.proofs.CountLaws.{Trying, Packing, count-laws}
 use Rattle.cut.proofs.first_width.Statement.{statement}
 use Rattle.cut.proofs.first_width.Tie as tie
 use Rattle.cut.proofs.first_width.Reads as reads
 use Rattle.cut.proofs.first_width.Lts as lts
 use Rattle.cut.proofs.digits_of.Reads as digits-of-reads
 use Rattle.cut.proofs.overhead.Reads as overhead-reads
+use Rattle.cut.proofs.run_end.Reads as run-end-reads
 use Rattle.cut.proofs.serves_width.Reads as serves-width-reads
-use Rattle.pieces.proofs.row_end.Reads as row-end-reads
 
 abbrev Inv-loop : tie.InvT-loop
 Inv-loop s c w₀ t₀ k₀ u₀ i₀ w t k u i = Packing s c w₀ w t k u i
@@ -36,6 +35,9 @@ overhead-requires c κs = search (needs, count-laws)
 loop-holds : tie.Need-loop-holds Inv-loop μ-loop Inv-widths μ-widths
 loop-holds c = search (needs, count-laws)
 
+run-end-requires : tie.Need-run-end-requires Inv-loop μ-loop Inv-widths μ-widths
+run-end-requires c κs = search (needs, count-laws)
+
 serves-width-requires : tie.Need-serves-width-requires Inv-loop μ-loop Inv-widths μ-widths
 serves-width-requires c κs = search (needs, count-laws)
 
@@ -48,30 +50,6 @@ widths-less c = search (needs, count-laws)
 widths-again : tie.Need-widths-again Inv-loop μ-loop Inv-widths μ-widths
 widths-again c = search (needs, count-laws)
 
-row-end-requires : tie.Need-row-end-requires Inv-loop μ-loop Inv-widths μ-widths
-row-end-requires c κs = search (needs, count-laws)
-
-sub-r : tie.Need-sub-r Inv-loop μ-loop Inv-widths μ-widths
-sub-r c = search (needs, count-laws)
-
-add-if4 : tie.Need-add-if4 Inv-loop μ-loop Inv-widths μ-widths
-add-if4 c = search (needs, count-laws)
-
-add-u : tie.Need-add-u Inv-loop μ-loop Inv-widths μ-widths
-add-u c = search (needs, count-laws)
-
-loop-less : tie.Need-loop-less Inv-loop μ-loop Inv-widths μ-widths
-loop-less c = search (needs, count-laws)
-
-loop-again : tie.Need-loop-again Inv-loop μ-loop Inv-widths μ-widths
-loop-again c = row-stays _ _ _ _ _ _ _ _ (c .before .before .before .loop .inv) (c .before .row-end .ensures) (omega arith)
-
-add-k : tie.Need-add-k Inv-loop μ-loop Inv-widths μ-widths
-add-k c = search (needs, count-laws)
-
-digits-of-requires : tie.Need-digits-of-requires Inv-loop μ-loop Inv-widths μ-widths
-digits-of-requires c κs = search (needs, count-laws)
-
 add-w-2 : tie.Need-add-w-2 Inv-loop μ-loop Inv-widths μ-widths
 add-w-2 c = search (needs, count-laws)
 
@@ -81,14 +59,11 @@ widths-less-2 c = search (needs, count-laws)
 widths-again-2 : tie.Need-widths-again-2 Inv-loop μ-loop Inv-widths μ-widths
 widths-again-2 c = search (needs, count-laws)
 
-overhead-requires-2 : tie.Need-overhead-requires-2 Inv-loop μ-loop Inv-widths μ-widths
-overhead-requires-2 c κs = search (needs, count-laws)
+add-k : tie.Need-add-k Inv-loop μ-loop Inv-widths μ-widths
+add-k c = search (needs, count-laws)
 
-add-t : tie.Need-add-t Inv-loop μ-loop Inv-widths μ-widths
-add-t c = search (needs, count-laws)
-
-add-u-2 : tie.Need-add-u-2 Inv-loop μ-loop Inv-widths μ-widths
-add-u-2 c = search (needs, count-laws)
+digits-of-requires : tie.Need-digits-of-requires Inv-loop μ-loop Inv-widths μ-widths
+digits-of-requires c κs = search (needs, count-laws)
 
 add-w-3 : tie.Need-add-w-3 Inv-loop μ-loop Inv-widths μ-widths
 add-w-3 c = search (needs, count-laws)
@@ -97,13 +72,19 @@ widths-less-3 : tie.Need-widths-less-3 Inv-loop μ-loop Inv-widths μ-widths
 widths-less-3 c = search (needs, count-laws)
 
 widths-again-3 : tie.Need-widths-again-3 Inv-loop μ-loop Inv-widths μ-widths
-widths-again-3 c = try-none _ _ _ _ _ _ _ _ (c .before .before .before .before .before .before .before .loop .inv) (c .before .before .before .before .before .row-end .ensures) (omega arith) (c .before .overhead2 .ensures) (omega arith)
+widths-again-3 c = search (needs, count-laws)
 
-loop-less-2 : tie.Need-loop-less-2 Inv-loop μ-loop Inv-widths μ-widths
-loop-less-2 c = search (needs, count-laws)
+overhead-requires-2 : tie.Need-overhead-requires-2 Inv-loop μ-loop Inv-widths μ-widths
+overhead-requires-2 c κs = search (needs, count-laws)
 
-loop-again-2 : tie.Need-loop-again-2 Inv-loop μ-loop Inv-widths μ-widths
-loop-again-2 c = search (needs, count-laws)
+add-t : tie.Need-add-t Inv-loop μ-loop Inv-widths μ-widths
+add-t c = search (needs, count-laws)
+
+loop-less : tie.Need-loop-less Inv-loop μ-loop Inv-widths μ-widths
+loop-less c = search (needs, count-laws)
+
+loop-again : tie.Need-loop-again Inv-loop μ-loop Inv-widths μ-widths
+loop-again c = search (needs, count-laws)
 
 returns-2 : tie.Need-returns-2 Inv-loop μ-loop Inv-widths μ-widths
 returns-2 c = search (needs, count-laws)
@@ -120,27 +101,21 @@ first-width-spec =
     returns
     overhead-requires
     loop-holds
+    run-end-requires
     serves-width-requires
     add-w
     widths-less
     widths-again
-    row-end-requires
-    sub-r
-    add-if4
-    add-u
-    loop-less
-    loop-again
-    add-k
-    digits-of-requires
     add-w-2
     widths-less-2
     widths-again-2
-    overhead-requires-2
-    add-t
-    add-u-2
+    add-k
+    digits-of-requires
     add-w-3
     widths-less-3
     widths-again-3
-    loop-less-2
-    loop-again-2
+    overhead-requires-2
+    add-t
+    loop-less
+    loop-again
     returns-2)
