@@ -1,23 +1,22 @@
 -- The pass that checks and writes: what is left of the file from a row on, poured behind what is written, gives the whole. One law for
 -- each way through the code. Assumes nothing.
-use Prim.Native.Nat.{ℕ, _+_, _-_, _≤_, _<_}
+use Prim.Native.Nat.{ℕ, _+_, _-_, _≤_}
 use native.Mathlib.Omega.{arith}
 use mathlib.Core.Path.{_≡_, refl, sym, ap, _∙_, subst}
 use mathlib.Core.Bool.{Bool, true, false, cond}
-use mathlib.Core.List.{List, [], _∷_, _++_, append-nil}
-use borrow.Author.Tests.{eq-eqb, ne-eqb, le-leb, lt-leb}
+use mathlib.Core.List.{List, [], _++_, append-assoc}
+use borrow.Author.Tests.{eq-eqb, ne-eqb}
 use mir.Val.{Fits}
-use mir.Syntax.{w32, w64}
-use lib.Dec.{leb, eqb}
-use lib.ListN.{length, take, drop, length-append, length-drop}
-use lib.Seq.{sets, length-sets, length-take-le}
+use mir.Syntax.{w32}
+use lib.Dec.{eqb}
+use lib.ListN.{length, take, drop, length-append}
+use lib.Seq.{sets, length-sets, drop-drop, drop-at}
 use Rattle.lists.specs.Lists.{same, part, Res, ok, refused}
 use Rattle.characters.specs.declared.Line.{Line}
 use Rattle.characters.specs.declared.Line.the-variants.{Whole, Mark, End, Broken}
-use Rattle.characters.specs.Text.{Stops, Sixteen}
-use Rattle.characters.specs.Rows.{rows, flat, isLine, lineEnd, WholeLine, ScannedLine, BrokenRow, LineMeans, LineOf}
-use Rattle.characters.proofs.RowLaws.{line-is, line-text, line-no-mark, flat-rows}
-use Rattle.records.specs.Records.{Record, recordOf, header, lineFault, write}
+use Rattle.characters.specs.Rows.{rows, flat, lineEnd, WholeLine, LineOf}
+use Rattle.characters.proofs.RowLaws.{flat-rows}
+use Rattle.records.specs.Records.{Record, recordOf, lineFault, write}
 use Rattle.records.proofs.LineLaws.{line-good}
 use Rattle.order.specs.declared.State.{State}
 use Rattle.order.specs.declared.Moved.{Moved}
@@ -25,19 +24,18 @@ use Rattle.order.specs.declared.Moved.the-variants.{Refused as StepRefused, On}
 use Rattle.order.specs.State.{start, finishOf, Room as Countable}
 use Rattle.order.proofs.Laws.{next-line, room, room-start, line-start}
 use Rattle.lines.specs.Facts.{factsOf}
-use Rattle.lines.specs.Codes.{Commas}
 use Rattle.buffers.specs.Buffers.{Room, Wrote}
-use Rattle.buffers.proofs.Runs.{carry, sets-append, sets-all}
-use Rattle.notebook.specs.Notebook.{Notebook, stepLine, prepend, closed, onward, recordsFrom}
-use Rattle.notebook.specs.Check.{Judged, Behind, Closing}
+use Rattle.buffers.proofs.Runs.{sets-append}
+use Rattle.notebook.specs.Notebook.{stepLine, prepend, closed, onward, recordsFrom}
+use Rattle.notebook.specs.Check.{Behind, Closing}
 use Rattle.notebook.proofs.StepLaws.{Placed, placed, place-number}
 use Rattle.notebook.proofs.LineFacts.{line-facts, whole-line, whole-length, records-end, records-mark, records-broken, records-on}
 use Rattle.canonical.specs.declared.Canonical.{Canonical}
 use Rattle.canonical.specs.declared.Canonical.the-variants.{Written, Refused}
-use Rattle.canonical.specs.Canonical.{ended, recordRow, recordRows}
-use Rattle.canonical.specs.declared.Taken.{Taken}
-use Rattle.canonical.specs.declared.Taken.the-variants.{Refused as TakenRefused, On as TakenOn}
-use Rattle.canonical.specs.Writing.{Sound, LineRoom, Put, TakenMeans, TakenOf, Output, poured, PouredMeans, Poured, closing}
+use Rattle.canonical.specs.Canonical.{recordRow, recordRows}
+use Rattle.canonical.specs.declared.Run.{Run}
+use Rattle.canonical.specs.Writing.{ahead, reach, Ready, Passed, Sound, Ended, Output, poured, PouredMeans, Poured, closing, Finished}
+use Rattle.canonical.proofs.PartLaws.{part-length}
 
 -- ---- the end
 
@@ -79,24 +77,22 @@ pour-end d st at h e = subst (λ (r : Canonical). PouredMeans (poured d at (clos
 row-length : (st : State) (l : List ℕ) → lineFault (st .provider) l ≡ 0 → length (recordRow (recordOf l)) ≤ length l + 2
 row-length st l h = omega (arith, length-append (write (recordOf l)) lineEnd, line-good (st .provider) l h .short)
 
-module _ (st : State) (l : List ℕ) {m : Moved} (o : m ≡ stepLine st l) where
-  pub taken-refused : (d : List ℕ) (at : ℕ) {n : ℕ} → m ≡ StepRefused n → TakenOf st l d d at (TakenRefused n)
-  taken-refused d at u = record { means = (sym o ∙ u, refl); size = refl }
+pub line-sound : (st : State) (l : List ℕ) {m : Moved} {after : State} {rp doctor : ℕ} → m ≡ stepLine st l → m ≡ On after rp doctor → Sound (after .place) l
+line-sound st l {m} {after} {rp} {doctor} o u =
+    let p : Placed st l after rp doctor = placed st l after rp doctor (sym o ∙ u) in
+    record { provider = st .provider; good = p .sound; number = place-number p }
 
-  module _ {after : State} {rp doctor : ℕ} (u : m ≡ On after rp doctor) where
-    here : Placed st l after rp doctor
-    here = placed st l after rp doctor (sym o ∙ u)
-
-    pub taken-sound : Sound (after .place) l
-    taken-sound = record { provider = st .provider; good = here .sound; number = place-number here }
-
-    pub taken-room : {d : List ℕ} {at : ℕ} → LineRoom d at l → Room d at (recordRow (recordOf l))
-    taken-room r = omega (arith, r .room, row-length st l (here .sound))
-
-    pub taken-on : {d d′ : List ℕ} {at next : ℕ} → Wrote d d′ at next (recordRow (recordOf l)) → TakenOf st l d d′ at (TakenOn after next)
-    taken-on w = record { means = record { rp = rp; doctor = doctor; step = sym o ∙ u; wrote = w }; size = w .size }
-
-pub ruleset taken-laws = (taken-refused, taken-sound, taken-room, taken-on)
+-- the line end behind a line
+line-ended : {s : List ℕ} {at e : ℕ} {good : Bool} → WholeLine s at e good → Ended s at e
+line-ended {s} {at} {e} w =
+    let a : drop at s ≡ (part s at e ++ lineEnd) ++ flat (rows (drop (e + 2) s)) = sym (flat-rows (drop at s)) ∙ ap flat (w .cut) in
+    let n : length (part s at e) ≡ e - at = part-length s at e (w .low) (omega (arith, w .high)) in
+    let m : at + (e - at) ≡ e = omega (arith, w .low) in
+    let b : drop e s ≡ lineEnd ++ flat (rows (drop (e + 2) s)) =
+    ap (λ (k : ℕ). drop k s) (sym m) ∙ sym (drop-drop (e - at) at s) ∙ ap (drop (e - at)) (a ∙ append-assoc (part s at e) lineEnd (flat (rows (drop (e + 2) s))))
+    ∙ drop-at (part s at e) (lineEnd ++ flat (rows (drop (e + 2) s))) (e - at) n in
+    let z : e + 2 - e ≡ 2 = omega arith in
+    record { low = w .low; high = w .high; end = ap (λ (k : ℕ). take k (drop e s)) z ∙ ap (take 2) b }
 
 -- ---- the pass
 
@@ -111,7 +107,7 @@ pub record Pouring (provider : Bool) (s : List ℕ) (from : ℕ) (d : List ℕ) 
   pub high : at ≤ length s
   pub small : length s ≤ 65536
 
-pub pouring-start : (provider : Bool) (s : List ℕ) (from : ℕ) (d : List ℕ) {st : State} → Behind s from → length d ≡ 65536 → st ≡ start provider
+pouring-start : (provider : Bool) (s : List ℕ) (from : ℕ) (d : List ℕ) {st : State} → Behind s from → length d ≡ 65536 → st ≡ start provider
     → Pouring provider s from d st from d from
 pouring-start provider s from d b z e =
     subst (λ (x : State). Pouring provider s from d x from d from) (sym e) (record {
@@ -127,13 +123,13 @@ pouring-start provider s from d b z e =
     })
 
 module _ {provider : Bool} {s : List ℕ} {from : ℕ} {d : List ℕ} {st : State} {at : ℕ} {d′ : List ℕ} {next : ℕ} (v : Pouring provider s from d st at d′ next) where
-  pub pouring-closing : Closing st
+  pouring-closing : Closing st
   pouring-closing = record { low = v .low; small = omega (arith, v .line, v .high, v .small) }
 
-  pub pouring-end : next ≤ 65536
+  pouring-end : next ≤ 65536
   pouring-end = omega (arith, v .behind, v .high, v .small)
 
-  pub pouring-fits : Fits w32 (st .line + 1)
+  pouring-fits : Fits w32 (st .line + 1)
   pouring-fits = omega (arith, v .line, v .high, v .small)
 
   -- the answer, if what is left answers it
@@ -144,59 +140,173 @@ module _ {provider : Bool} {s : List ℕ} {from : ℕ} {d : List ℕ} {st : Stat
     ends : {r : Canonical} → recordsFrom st (rows (drop at s)) ≡ closed st → r ≡ closing st next → Poured (poured d from (recordsFrom (start provider) (rows (drop from s)))) d′ r
     ends {r} q e = answer (subst (λ (x : Res (List Record)). PouredMeans (poured d′ next x) d′ r) (sym q) (pour-end d′ st next pouring-end e))
 
-    pub poured-end : {r : Canonical} → k ≡ End → r ≡ closing st next → Poured (poured d from (recordsFrom (start provider) (rows (drop from s)))) d′ r
+    poured-end : {r : Canonical} → k ≡ End → r ≡ closing st next → Poured (poured d from (recordsFrom (start provider) (rows (drop from s)))) d′ r
     poured-end e q = ends (records-end w st e) q
 
-    pub poured-mark : {r : Canonical} → k ≡ Mark → r ≡ closing st next → Poured (poured d from (recordsFrom (start provider) (rows (drop from s)))) d′ r
+    poured-mark : {r : Canonical} → k ≡ Mark → r ≡ closing st next → Poured (poured d from (recordsFrom (start provider) (rows (drop from s)))) d′ r
     poured-mark e q = ends (records-mark w st e) q
 
     refusal : {n : ℕ} → recordsFrom st (rows (drop at s)) ≡ refused n (st .line + 1) → Poured (poured d from (recordsFrom (start provider) (rows (drop from s)))) d′ (Refused n (st .line + 1))
     unfolding poured
     refusal {n} q = answer {r = Refused n (st .line + 1)} (ap (poured d′ next) q)
 
-    pub poured-broken : k ≡ Broken → Poured (poured d from (recordsFrom (start provider) (rows (drop from s)))) d′ (Refused 2 (st .line + 1))
+    poured-broken : k ≡ Broken → Poured (poured d from (recordsFrom (start provider) (rows (drop from s)))) d′ (Refused 2 (st .line + 1))
     poured-broken e = refusal (records-broken w st e)
 
     module _ {e : ℕ} {good : Bool} {commas : ℕ} (q : k ≡ Whole e good commas) where
       onwards : Moved → Res (List Record)
       onwards = onward (st .line + 1) (recordOf (part s at e)) (λ t. recordsFrom t (rows (drop (e + 2) s)))
 
-      pub pouring-room : LineRoom d′ next (take (e - at) (drop at s))
-      pouring-room = record { room = omega (arith, whole-length w q, v .behind, v .size, v .full, v .small, whole-line w q .high, whole-line w q .low) }
+      poured-refused : {j : ℕ} → stepLine st (part s at e) ≡ StepRefused j → Poured (poured d from (recordsFrom (start provider) (rows (drop from s)))) d′ (Refused j (st .line + 1))
+      unfolding onward onwards
+      poured-refused u = refusal (records-on w q st ∙ ap onwards u)
 
-      module _ {d″ : List ℕ} {t : Taken} (o : TakenOf st (take (e - at) (drop at s)) d′ d″ next t) where
-        pub pouring-size : length d″ ≡ length d
-        pouring-size = o .size ∙ v .size
+      pouring-on : {d″ : List ℕ} {after : State} {rp doctor behind : ℕ} → stepLine st (part s at e) ≡ On after rp doctor → Wrote d′ d″ next behind (recordRow (recordOf (part s at e)))
+          → Pouring provider s from d after (e + 2) d″ behind
+      unfolding onward onwards
+      pouring-on {d″} {after} {rp} {doctor} {behind} u x =
+          let p : Placed st (part s at e) after rp doctor = placed st (part s at e) after rp doctor u in
+          let l : after .line ≡ st .line + 1 = next-line st (factsOf (recordOf (part s at e))) after rp doctor (p .step) in
+          let short : length (recordRow (recordOf (part s at e))) ≤ length (part s at e) + 2 = row-length st (part s at e) (p .sound) in
+          record {
+            left = v .left ∙ ap (poured d′ next) (records-on w q st ∙ ap onwards u)
+                ∙ pour-record d′ next (recordOf (part s at e)) (recordsFrom after (rows (drop (e + 2) s)))
+                ∙ ap (λ (y : List ℕ). poured y (next + length (recordRow (recordOf (part s at e)))) (recordsFrom after (rows (drop (e + 2) s)))) (sym (x .list))
+                ∙ ap (λ (y : ℕ). poured d″ y (recordsFrom after (rows (drop (e + 2) s)))) (sym (x .next));
+            size = x .size ∙ v .size;
+            full = v .full;
+            behind = omega (arith, x .next, short, whole-length w q, v .behind, whole-line w q .low);
+            room = room st (factsOf (recordOf (part s at e))) after rp doctor (p .step) (v .room) (omega (arith, l, v .line, v .high, v .small));
+            low = omega (arith, l);
+            line = omega (arith, l, v .line, whole-line w q .low);
+            high = whole-line w q .high;
+            small = v .small;
+          }
 
-        takes : {j : Taken} → t ≡ j → TakenMeans st (part s at e) d′ d″ next j
-        takes u = subst (TakenMeans st (part s at e) d′ d″ next) u (o .means)
+-- ---- the same where bytes wait
 
-        pub poured-refused : {j : ℕ} → t ≡ TakenRefused j → Poured (poured d from (recordsFrom (start provider) (rows (drop from s)))) d″ (Refused j (st .line + 1))
-        unfolding onward onwards
-        poured-refused {j} u =
-            let x = takes u in
-            subst (λ (y : List ℕ). Poured (poured d from (recordsFrom (start provider) (rows (drop from s)))) y (Refused j (st .line + 1))) (sym (x .1)) (refusal (records-on w q st ∙ ap onwards (x .0)))
+pub record Running (provider : Bool) (s : List ℕ) (from : ℕ) (d : List ℕ) (st : State) (at : ℕ) (d′ : List ℕ) (run : Run) : Type 0 where
+  pub pouring : Pouring provider s from (sets d 0 (part s 0 from)) st at (ahead s d′ run at) (reach run at)
+  pub low : run .from ≤ at
+  pub size : length d′ ≡ 65536
+  pub same : length d′ ≡ length d
 
-        pub pouring-on : {after : State} {behind : ℕ} → t ≡ TakenOn after behind → Pouring provider s from d after (e + 2) d″ behind
-        unfolding onward onwards
-        pouring-on {after} {behind} u =
-            let x : Put st (part s at e) d′ d″ next after behind = takes u in
-            let p : Placed st (part s at e) after (x .rp) (x .doctor) = placed st (part s at e) after (x .rp) (x .doctor) (x .step) in
-            let l : after .line ≡ st .line + 1 = next-line st (factsOf (recordOf (part s at e))) after (x .rp) (x .doctor) (p .step) in
-            let short : length (recordRow (recordOf (part s at e))) ≤ length (part s at e) + 2 = row-length st (part s at e) (p .sound) in
-            record {
-              left = v .left ∙ ap (poured d′ next) (records-on w q st ∙ ap onwards (x .step))
-                  ∙ pour-record d′ next (recordOf (part s at e)) (recordsFrom after (rows (drop (e + 2) s)))
-                  ∙ ap (λ (y : List ℕ). poured y (next + length (recordRow (recordOf (part s at e)))) (recordsFrom after (rows (drop (e + 2) s)))) (sym (x .wrote .list))
-                  ∙ ap (λ (y : ℕ). poured d″ y (recordsFrom after (rows (drop (e + 2) s)))) (sym (x .wrote .next));
-              size = o .size ∙ v .size;
-              full = v .full;
-              behind = omega (arith, x .wrote .next, short, whole-length w q, v .behind, whole-line w q .low);
-              room = room st (factsOf (recordOf (part s at e))) after (x .rp) (x .doctor) (p .step) (v .room) (omega (arith, l, v .line, v .high, v .small));
-              low = omega (arith, l);
-              line = omega (arith, l, v .line, whole-line w q .low);
-              high = whole-line w q .high;
-              small = v .small;
-            }
+pub running-start : (provider : Bool) (s : List ℕ) (from : ℕ) (d : List ℕ) {st : State} → Behind s from → length d ≡ 65536 → st ≡ start provider
+    → Running provider s from d st from d (record { from = 0; at = 0 })
+running-start provider s from d {st} b z e =
+    let n : from ≡ 0 + (from - 0) = omega arith in
+    record {
+      pouring = subst (λ (k : ℕ). Pouring provider s from (sets d 0 (part s 0 from)) st from (sets d 0 (part s 0 from)) k) n
+          (pouring-start provider s from (sets d 0 (part s 0 from)) b (length-sets d 0 (part s 0 from) ∙ z) e);
+      low = omega arith;
+      size = z;
+      same = refl;
+    }
 
-pub ruleset pouring-laws = (line-facts, pouring-start, pouring-closing, pouring-end, pouring-fits, poured-end, poured-mark, poured-broken, pouring-room, pouring-size, poured-refused, pouring-on)
+module _ {provider : Bool} {s : List ℕ} {from : ℕ} {d : List ℕ} {st : State} {at : ℕ} {d′ : List ℕ} {run : Run} (v : Running provider s from d st at d′ run) where
+  pub running-countable : Countable st
+  running-countable = v .pouring .room
+
+  pub running-closing : Closing st
+  running-closing = pouring-closing (v .pouring)
+
+  pub running-fits : Fits w32 (st .line + 1)
+  running-fits = pouring-fits (v .pouring)
+
+  pub running-inside : at ≤ length s
+  running-inside = v .pouring .high
+
+  pub running-small : length s ≤ 65536
+  running-small = v .pouring .small
+
+  pub running-ready : Ready d′ run at []
+  running-ready = record { low = v .low; room = omega (arith, v .pouring .behind, v .pouring .high, v .pouring .small, v .size) }
+
+  pub running-full : length d′ ≡ 65536
+  running-full = v .size
+
+  module _ {stops : List ℕ} {k : Line} (w : LineOf s at stops k) where
+    finished : {d″ : List ℕ} {r : Canonical} → Finished st s at d′ d″ run r → Poured (poured (sets d 0 (part s 0 from)) from (recordsFrom (start provider) (rows (drop from s)))) (ahead s d′ run at) r
+        → Poured (poured (sets d 0 (part s 0 from)) from (recordsFrom (start provider) (rows (drop from s)))) d″ r
+    finished {d″} {r} f p = subst (λ (y : List ℕ). Poured (poured (sets d 0 (part s 0 from)) from (recordsFrom (start provider) (rows (drop from s)))) y r) (sym (f .buffer)) p
+
+    pub running-end : {d″ : List ℕ} {r : Canonical} → k ≡ End → Finished st s at d′ d″ run r
+        → Poured (poured (sets d 0 (part s 0 from)) from (recordsFrom (start provider) (rows (drop from s)))) d″ r
+    running-end e f = finished f (poured-end (v .pouring) w e (f .answer))
+
+    pub running-mark : {d″ : List ℕ} {r : Canonical} → k ≡ Mark → Finished st s at d′ d″ run r
+        → Poured (poured (sets d 0 (part s 0 from)) from (recordsFrom (start provider) (rows (drop from s)))) d″ r
+    running-mark e f = finished f (poured-mark (v .pouring) w e (f .answer))
+
+    -- a refusal says nothing of the array
+    kept : {n line : ℕ} → Poured (poured (sets d 0 (part s 0 from)) from (recordsFrom (start provider) (rows (drop from s)))) (ahead s d′ run at) (Refused n line)
+        → Poured (poured (sets d 0 (part s 0 from)) from (recordsFrom (start provider) (rows (drop from s)))) d′ (Refused n line)
+    kept p = record { means = p .means; size = v .size }
+
+    pub running-broken : k ≡ Broken → Poured (poured (sets d 0 (part s 0 from)) from (recordsFrom (start provider) (rows (drop from s)))) d′ (Refused 2 (st .line + 1))
+    running-broken e = kept (poured-broken (v .pouring) w e)
+
+    module _ {e : ℕ} {good : Bool} {commas : ℕ} (q : k ≡ Whole e good commas) where
+      pub running-ended : Ended s at e
+      running-ended = line-ended (whole-line w q)
+
+      module _ {m : Moved} (o : m ≡ stepLine st (take (e - at) (drop at s))) where
+        pub running-refused : {n : ℕ} → m ≡ StepRefused n → Poured (poured (sets d 0 (part s 0 from)) from (recordsFrom (start provider) (rows (drop from s)))) d′ (Refused n (st .line + 1))
+        running-refused u = kept (poured-refused (v .pouring) w q (sym o ∙ u))
+
+        module _ {after : State} {rp doctor : ℕ} (u : m ≡ On after rp doctor) where
+          pub running-sound : Sound (after .place) (take (e - at) (drop at s))
+          running-sound = line-sound st (part s at e) o u
+
+          pub running-room : Ready d′ run at (recordRow (recordOf (take (e - at) (drop at s))))
+          running-room =
+              let p : Placed st (part s at e) after rp doctor = placed st (part s at e) after rp doctor (sym o ∙ u) in
+              record {
+                low = v .low;
+                room = omega (arith, v .pouring .behind, v .pouring .small, v .size, whole-line w q .high, whole-line w q .low, whole-length w q, row-length st (part s at e) (p .sound));
+              }
+
+          pub running-on : {d″ : List ℕ} {r : Run} → Passed s d′ d″ run r at (e + 2) (recordRow (recordOf (take (e - at) (drop at s)))) → Running provider s from d after (e + 2) d″ r
+          running-on x = record { pouring = pouring-on (v .pouring) w q (sym o ∙ u) (x .wrote); low = x .low; size = x .size ∙ v .size; same = x .size ∙ v .same }
+
+pub ruleset running-laws = (
+  line-facts,
+  running-start,
+  running-countable,
+  running-closing,
+  running-fits,
+  running-inside,
+  running-small,
+  running-ready,
+  running-full,
+  running-end,
+  running-mark,
+  running-broken,
+  running-ended,
+  running-refused,
+  running-sound,
+  running-room,
+  running-on,
+)
+
+-- ---- the last run
+
+module _ (st : State) (s : List ℕ) (at : ℕ) (d : List ℕ) (run : Run) (i : at ≤ length s) (r : Ready d run at []) where
+  pub finish-from : run .from ≤ at
+  finish-from = r .low
+
+  pub finish-room : Room d (run .at) (take (at - run .from) (drop (run .from) s))
+  finish-room = omega (arith, r .room, r .low, part-length s (run .from) at (r .low) i)
+
+  module _ {d₁ : List ℕ} {n : ℕ} (x : Wrote d d₁ (run .at) n (take (at - run .from) (drop (run .from) s))) where
+    pub finish-small : length d ≡ 65536 → n ≤ 65536
+    finish-small z = omega (arith, x .high, z)
+
+    pub finish-done : {c : Canonical} → c ≡ closing st n → Finished st s at d d₁ run c
+    finish-done e = record {
+      answer = e ∙ ap (closing st) (x .next ∙ ap (λ (k : ℕ). run .at + k) (part-length s (run .from) at (r .low) i));
+      buffer = x .list;
+      size = x .size;
+    }
+
+pub ruleset finish-laws = (finish-from, finish-room, finish-small, finish-done)

@@ -1,30 +1,32 @@
 -- An item in its one spelling: what is written for each kind. Assumes nothing.
-use Prim.Native.Nat.{ℕ, _+_, _-_, _/_, _%_, _≤_, _<_}
+use Prim.Native.Nat.{ℕ, _+_, _/_, _%_, _≤_, _<_}
 use native.Mathlib.Omega.{arith}
-use mathlib.Core.Path.{_≡_, refl, sym, ap, _∙_, subst}
-use mathlib.Core.Bool.{Bool, true, false, cond, _&&_, _||_, false≢true}
+use mathlib.Core.Path.{_≡_, refl, sym, ap, _∙_}
+use mathlib.Core.Bool.{Bool, true, false, cond, not, _&&_, _||_, false≢true}
 use mathlib.Core.Option.{Option, none, some}
 use mathlib.Core.List.{List, [], _∷_, _++_}
-use borrow.Author.Tests.{eq-eqb, ne-eqb, eqb-true}
+use borrow.Author.Tests.{eq-eqb, ne-eqb, eqb-true, eqb-false, leb-true, le-leb}
 use lib.Dec.{leb, eqb}
 use lib.ListN.{length, getD, take, drop, length-append, length-take, length-drop}
-use lib.Seq.{sets, take-all}
-use Rattle.lists.specs.Lists.{empty, all, unless}
-use Rattle.lists.proofs.Tests.{both, unless-zero}
+use lib.Seq.{take-all}
+use Rattle.lists.specs.Lists.{empty, all}
+use Rattle.lists.proofs.Tests.{both, unless-zero, same-true}
 use Rattle.digits.specs.Digits.{isDigit, number, spell}
-use Rattle.digits.specs.Short.{orThousand, shortValue}
+use Rattle.digits.specs.Short.{orThousand, shortValue, plainNumber}
 use Rattle.digits.proofs.Numbers.{number-length}
+use Rattle.digits.proofs.Spelling.{same-spell}
 use Rattle.calendar.specs.declared.DateRead.{DateRead}
 use Rattle.calendar.specs.declared.DateRead.the-variants.{Date, NotADate}
 use Rattle.calendar.specs.declared.Day.{Day}
 use Rattle.calendar.specs.Era.{readDay, writeDay}
-use Rattle.records.specs.Table.{Kind, N, U, X, A, F, C, P, R, W, Q, D, among, Item}
-use Rattle.records.specs.Items.{Value, text, num, day, writeValue, numberValue, dayValue, unhyphened, seven, postal, fault, value}
+use Rattle.records.specs.Table.{Kind, N, U, X, A, F, C, P, R, W, Q, D, among}
+use Rattle.records.specs.Items.{text, writeValue, numberFault, numberValue, dayFault, dayValue, unhyphened, seven, postal, fault, value}
 use Rattle.records.specs.Records.{itemValue}
-use Rattle.items.specs.Codes.{setOf, kindOf, itemOf}
+use Rattle.items.specs.Codes.{setOf, kindOf}
 use Rattle.buffers.specs.Buffers.{Room, Wrote}
 use Rattle.buffers.proofs.Runs.{then}
-use Rattle.canonical.specs.Writing.{postalBytes, numberBytes, dayBytes, itemBytes, Spellable}
+use Rattle.canonical.specs.Writing.{postalBytes, numberBytes, dayBytes, itemBytes, Spellable, OwnWhere, OwnUnless}
+use Rattle.canonical.proofs.DayLaws.{own-day}
 
 -- nothing is written
 pub wrote-none : (d : List ℕ) (at : ℕ) (w : List ℕ) → Room d at w → w ≡ [] → Wrote d d at at w
@@ -232,15 +234,58 @@ module _ (c : ℕ) (s : List ℕ) where
 
 pub ruleset item-laws = (postal-item-room, postal-item, number-item-room, number-item, day-item-room, day-item, kept-item-room, kept-item)
 
--- ---- a comma and an item
+-- ---- an item that is its own spelling
 
-pub comma-room : (d : List ℕ) (at : ℕ) (w : List ℕ) → Room d at (0x2c ∷ w) → Room d at (0x2c ∷ [])
-comma-room d at w r = omega (arith, r)
+plain-is : (s : List ℕ) (n : ℕ) → (getD s 0 0 ≡ 48 → ⊥) → number s ≡ some n → n ≤ 999 → plainNumber s ≡ n
+unfolding plainNumber shortValue
+plain-is s n h q b = rw (ne-eqb (getD s 0 0) 48 h, q, le-leb n 999 b)
 
-pub comma-next : {d d₁ : List ℕ} {at a : ℕ} (w : List ℕ) → Wrote d d₁ at a (0x2c ∷ []) → Room d at (0x2c ∷ w) → Room d₁ a w
-comma-next w x r = omega (arith, x .next, x .size, r)
+-- a number without a leading zero
+number-own : (s : List ℕ) → (empty s ≡ false → fault R s ≡ 0) → (getD s 0 0 ≡ 48 → ⊥) → numberBytes s ≡ s
+unfolding numberBytes fault
+number-own [] g h = number-blank [] refl
+number-own (x ∷ s) g h = go (number (x ∷ s)) refl (g refl)
+  where
+    go : (o : Option ℕ) → number (x ∷ s) ≡ o → numberFault o ≡ 0 → writeValue (numberValue o) ≡ x ∷ s
+    go none q f = absurd (omega arith)
+    go (some n) q f =
+        let b : n ≤ 999 = number-length (x ∷ s) n q .1 in
+        let l : 1 ≤ n = leb-true 1 n (unless-zero (leb 1 n) 10 f) in
+        sym (same-true (x ∷ s) (spell n) (same-spell (x ∷ s) n l b ∙ eq-eqb (plainNumber (x ∷ s)) n (plain-is (x ∷ s) n h q b)))
 
-pub comma-item : {d d₁ d₂ : List ℕ} {at a r : ℕ} (w : List ℕ) → Wrote d d₁ at a (0x2c ∷ []) → Wrote d₁ d₂ a r w → Wrote d d₂ at r (0x2c ∷ w)
-comma-item w x y = then x y
+-- a date with its era
+day-own : (s : List ℕ) → (empty s ≡ false → fault D s ≡ 0) → (length s ≡ 8 → ⊥) → dayBytes s ≡ s
+unfolding dayBytes fault
+day-own [] g h = day-blank [] refl
+day-own (x ∷ s) g h = go (readDay (x ∷ s)) refl (g refl)
+  where
+    go : (o : DateRead) → readDay (x ∷ s) ≡ o → dayFault o ≡ 0 → writeValue (dayValue o) ≡ x ∷ s
+    go NotADate q f = absurd (omega arith)
+    go (Date d) q f = own-day (x ∷ s) (d .ymd) h q
 
-pub ruleset comma-laws = (comma-room, comma-next, comma-item)
+module _ (c : ℕ) where
+  pub own-where : OwnWhere (not (eqb (c / 4 % 16) 6) && (not (eqb (c / 4 % 16) 7) && not (eqb (c / 4 % 16) 10))) c
+  own-where = record { own = λ f s. go s (eqb (c / 4 % 16) 6) refl (eqb (c / 4 % 16) 7) refl (eqb (c / 4 % 16) 10) refl f }
+    where
+      go : (s : List ℕ) (x : Bool) → eqb (c / 4 % 16) 6 ≡ x → (y : Bool) → eqb (c / 4 % 16) 7 ≡ y → (z : Bool) → eqb (c / 4 % 16) 10 ≡ z → not x && (not y && not z) ≡ true
+          → itemBytes c s ≡ s
+      go s true p y q z r f = absurd (false≢true f)
+      go s false p true q z r f = absurd (false≢true f)
+      go s false p false q true r f = absurd (false≢true f)
+      go s false p false q false r f = item-kept c s (eqb-false _ _ p) (eqb-false _ _ q) (eqb-false _ _ r)
+
+  module _ (s : List ℕ) (g : Spellable c s) where
+    pub own-number : {b : ℕ} → c / 4 % 16 ≡ 7 → b ≡ getD s 0 0 → OwnUnless (eqb b 48) c s
+    own-number e q = record { own = λ f. item-number c s e ∙ number-own s (λ h. (rw (kind-number (c / 4 % 16) (c / 64) e) at (g .good h))) (λ z. eqb-false _ _ f (q ∙ z)) }
+
+    pub own-other : (c / 4 % 16 ≡ 7 → ⊥) → OwnUnless (eqb (length s) 8) c s
+    own-other n = record { own = λ f. go (eqb (c / 4 % 16) 6) refl (eqb (c / 4 % 16) 10) refl (eqb-false _ _ f) }
+      where
+        go : (x : Bool) → eqb (c / 4 % 16) 6 ≡ x → (y : Bool) → eqb (c / 4 % 16) 10 ≡ y → (length s ≡ 8 → ⊥) → itemBytes c s ≡ s
+        go true p y q h = item-postal c s g (eqb-true _ _ p) ∙ without-hyphen s h
+        go false p true q h =
+            let e : c / 4 % 16 ≡ 10 = eqb-true _ _ q in
+            item-day c s e ∙ day-own s (λ i. (rw (kind-day (c / 4 % 16) (c / 64) e) at (g .good i))) h
+        go false p false q h = item-kept c s (eqb-false _ _ p) n (eqb-false _ _ q)
+
+pub ruleset own-laws = (own-where, own-number, own-other)

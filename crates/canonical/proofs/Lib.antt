@@ -1,3 +1,7 @@
+pub mod PartLaws
+pub mod RunLaws
+pub mod SpotLaws
+pub mod DayLaws
 pub mod ItemLaws
 pub mod LineLaws
 pub mod FileLaws

@@ -1,35 +1,36 @@
 -- A line in its one spelling: its items one after another, its number before them, its end behind them. Assumes nothing.
-use Prim.Native.Nat.{ℕ, suc, _+_, _-_, _/_, _%_, _≤_, _<_}
+use Prim.Native.Nat.{ℕ, _+_, _-_, _/_, _%_, _≤_, _<_}
 use native.Mathlib.Omega.{arith}
 use mathlib.Core.Path.{_≡_, refl, sym, ap, _∙_, subst}
-use mathlib.Core.Bool.{Bool, true, false, cond}
-use mathlib.Core.List.{List, [], _∷_, _++_, map, append-assoc, head-eq-of-cons-eq, append-nil}
+use mathlib.Core.Bool.{Bool, true}
+use mathlib.Core.List.{List, [], _∷_, _++_, map, append-assoc, append-nil}
 use lib.ListN.{length, getD, take, drop, length-append}
 use lib.Dec.{leb}
-use lib.Seq.{sets}
-use Rattle.lists.specs.Lists.{empty, part, findFrom}
+use lib.Seq.{sets, length-sets}
+use Rattle.lists.specs.Lists.{part}
 use Rattle.lists.proofs.Tests.{or-zero}
 use Rattle.lists.proofs.Cuts.{drop-step}
-use Rattle.digits.specs.Digits.{spell}
 use Rattle.digits.specs.Short.{plainNumber}
 use Rattle.characters.specs.Text.{commaCount, Stops, Sixteen}
 use Rattle.characters.specs.Rows.{lineEnd}
 use Rattle.records.specs.Table.{Item, table}
 use Rattle.records.specs.Split.{itemsOf, joined}
-use Rattle.records.specs.Items.{writeValue, fault}
-use Rattle.records.specs.Records.{Record, itemValue, itemFault, itemsFault, itemsValue, rowOf, recordFrom, recordOf, write}
+use Rattle.records.specs.Items.{writeValue}
+use Rattle.records.specs.Records.{itemValue, itemFault, itemsFault, itemsValue, rowOf, recordFrom, recordOf, write}
 use Rattle.records.proofs.LineLaws.{row-spelled, Good, line-good}
 use Rattle.items.specs.Codes.{itemOf}
-use Rattle.lines.specs.Codes.{codes, sliceOf, placeOf, Lent, Commas, InCodes, Spanned, SpanAt}
-use Rattle.lines.specs.declared.Span.{Span}
-use Rattle.lines.proofs.SplitLaws.{items-count, items-all, items-from}
+use Rattle.lines.specs.Codes.{codes, sliceOf, placeOf, Lent, Commas, InCodes}
+use Rattle.lines.proofs.SplitLaws.{items-count}
 use Rattle.lines.proofs.TableLaws.{RowAt, row-of, slice-length}
-use Rattle.lines.proofs.LineLaws.{first-inside}
 use Rattle.lines.proofs.WalkLaws.{left, left-all, left-first}
 use Rattle.buffers.specs.Buffers.{Room, Wrote}
-use Rattle.buffers.proofs.Runs.{carry, then}
+use Rattle.buffers.proofs.Runs.{carry}
 use Rattle.canonical.specs.Canonical.{recordRow}
-use Rattle.canonical.specs.Writing.{itemBytes, Spellable, tailOf, AllSpellable, Items, Sound}
+use Rattle.canonical.specs.declared.Run.{Run}
+use Rattle.canonical.specs.Writing.{itemBytes, Spellable, ahead, reach, Ready, Passed, spot, tailOf, AllSpellable, Items, Sound, LineIn, begins, ItemOf, Ended}
+use Rattle.canonical.proofs.PartLaws.{part-length, part-part}
+use Rattle.canonical.proofs.RunLaws.{passes, waits}
+use Rattle.canonical.proofs.SpotLaws.{spot-sum, spot-first, last-spot}
 
 -- ---- the items
 
@@ -51,7 +52,7 @@ pub record Writing (cs : List ℕ) (place n : ℕ) (s : List ℕ) (end k j : ℕ
   pub some : 1 ≤ j
   pub few : j + (end - k) ≡ n + 1
 
-pub writing-start : (cs : List ℕ) (place n : ℕ) (s d : List ℕ) (at : ℕ) → Lent cs → InCodes place → Items place n s → Room d at (whole place s)
+writing-start : (cs : List ℕ) (place n : ℕ) (s d : List ℕ) (at : ℕ) → Lent cs → InCodes place → Items place n s → Room d at (whole place s)
     → Writing cs place n s (place / 16 + place % 16) (place / 16) 1 d at d at
 writing-start cs place n s d at l p i r =
     let e : sliceOf place ≡ left cs (place / 16) (place / 16 + place % 16) = left-all cs place (l .is) in
@@ -69,7 +70,7 @@ writing-start cs place n s d at l p i r =
 
 module _ {cs : List ℕ} {place n : ℕ} {s : List ℕ} {end k j : ℕ} {d : List ℕ} {at : ℕ} {d′ : List ℕ} {next : ℕ}
     (w : Writing cs place n s end k j d at d′ next) where
-  pub writing-done : end ≤ k → Wrote d d′ at next (whole place s)
+  writing-done : end ≤ k → Wrote d d′ at next (whole place s)
   unfolding tailOf
   writing-done h =
       let z : end - k ≡ 0 = omega arith in
@@ -81,18 +82,16 @@ module _ {cs : List ℕ} {place n : ℕ} {s : List ℕ} {end k j : ℕ} {d : Lis
         high = omega (arith, w .count, w .hold, ap length e);
       }
 
-  pub writing-index : k < end → k < 83
+  writing-index : k < end → k < 83
   writing-index h = omega (arith, w .high)
 
-  module _ {stops : List ℕ} {r : Span} (v : Spanned s stops n) (h : k < end) (q : SpanAt s j r) where
+  module _ (m : commaCount s ≡ n) (h : k < end) where
     item : List ℕ
-    item = take (r .to - r .from) (drop (r .from) s)
+    item = getD (itemsOf s) j []
 
     split-items : drop j (itemsOf s) ≡ item ∷ drop (j + 1) (itemsOf s)
     unfolding item
-    split-items =
-        let m : j < length (itemsOf s) = omega (arith, items-count s, v .commas .is, w .few) in
-        drop-step (itemsOf s) j [] m ∙ ap (λ (x : List ℕ). x ∷ drop (j + 1) (itemsOf s)) (sym (q .says))
+    split-items = drop-step (itemsOf s) j [] (omega (arith, items-count s, m, w .few))
 
     first-item : left cs k end ≡ itemOf (getD cs k 0) ∷ left cs (k + 1) end
     first-item = left-first cs k end (w .lent) (w .high) h
@@ -110,15 +109,18 @@ module _ {cs : List ℕ} {place n : ℕ} {s : List ℕ} {end k j : ℕ} {d : Lis
     turn-length : length (rest cs s end k j) ≡ length own + length (rest cs s end (k + 1) (j + 1))
     turn-length = ap length turn ∙ length-append own (rest cs s end (k + 1) (j + 1))
 
-    pub writing-spellable : Spellable (getD cs k 0) (take (r .to - r .from) (drop (r .from) s))
+    writing-item : ItemOf j n
+    writing-item = record { low = w .some; high = omega (arith, w .few) }
+
+    writing-spellable : Spellable (getD cs k 0) (getD (itemsOf s) j [])
     unfolding item
     writing-spellable = record { good = goods .0 }
 
-    pub writing-room : Room d′ next (0x2c ∷ itemBytes (getD cs k 0) (take (r .to - r .from) (drop (r .from) s)))
+    writing-room : Room d′ next (0x2c ∷ itemBytes (getD cs k 0) (getD (itemsOf s) j []))
     unfolding own item
     writing-room = omega (arith, w .count, w .hold, w .size, turn-length)
 
-    pub writing-next : {d″ : List ℕ} {behind : ℕ} → Wrote d′ d″ next behind (0x2c ∷ itemBytes (getD cs k 0) (take (r .to - r .from) (drop (r .from) s)))
+    writing-next : {d″ : List ℕ} {behind : ℕ} → Wrote d′ d″ next behind (0x2c ∷ itemBytes (getD cs k 0) (getD (itemsOf s) j []))
         → Writing cs place n s end (k + 1) (j + 1) d at d″ behind
     unfolding own item
     writing-next x = record {
@@ -133,7 +135,55 @@ module _ {cs : List ℕ} {place n : ℕ} {s : List ℕ} {end k j : ℕ} {d : Lis
       few = omega (arith, w .few);
     }
 
-pub ruleset writing-laws = (writing-start, writing-done, writing-index, writing-spellable, writing-room, writing-next)
+-- ---- the same in a file, where the items wait or are written
+
+pub record Turning (cs : List ℕ) (place n : ℕ) (s : List ℕ) (at e end k j : ℕ) (start : Run) (d d′ : List ℕ) (run : Run) : Type 0 where
+  pub writing : Writing cs place n (part s at e) end k j (ahead s d start (begins s at e 1)) (reach start (begins s at e 1)) (ahead s d′ run (begins s at e j)) (reach run (begins s at e j))
+  pub low : run .from ≤ begins s at e j
+  pub size : length d′ ≡ length d
+
+pub turning-start : (cs : List ℕ) (place n : ℕ) (s : List ℕ) (at e : ℕ) (start : Run) (d : List ℕ) → Lent cs → InCodes place → Items place n (part s at e)
+    → Ready d start (at + spot (part s at e) 1) (tailOf (sliceOf place) (drop 1 (itemsOf (part s at e))))
+    → Turning cs place n s at e (place / 16 + place % 16) (place / 16) 1 start d d start
+turning-start cs place n s at e start d l p i r = record {
+  writing = writing-start cs place n (part s at e) (ahead s d start (begins s at e 1)) (reach start (begins s at e 1)) l p i
+      (omega (arith, r .room, length-sets d (start .at) (part s (start .from) (begins s at e 1))));
+  low = r .low;
+  size = refl;
+}
+
+module _ {cs : List ℕ} {place n : ℕ} {s : List ℕ} {at e end k j : ℕ} {start : Run} {d d′ : List ℕ} {run : Run} (t : Turning cs place n s at e end k j start d d′ run)
+    {stops : List ℕ} (v : LineIn s at e stops n) where
+  counted : commaCount (part s at e) ≡ n
+  counted = sym (v .spans .commas .is)
+
+  pub turning-index : k < end → k < 83
+  turning-index h = writing-index (t .writing) h
+
+  pub turning-item : k < end → ItemOf j n
+  turning-item h = writing-item (t .writing) counted h
+
+  pub turning-spellable : k < end → Spellable (getD cs k 0) (getD (itemsOf (take (e - at) (drop at s))) j [])
+  turning-spellable h = writing-spellable (t .writing) counted h
+
+  pub turning-ready : k < end → Ready d′ run (at + spot (take (e - at) (drop at s)) j) (0x2c ∷ itemBytes (getD cs k 0) (getD (itemsOf (take (e - at) (drop at s))) j []))
+  turning-ready h = record {
+    low = t .low;
+    room = omega (arith, writing-room (t .writing) counted h, length-sets d′ (run .at) (part s (run .from) (begins s at e j)));
+  }
+
+  pub turning-next : k < end → {d″ : List ℕ} {r : Run}
+      → Passed s d′ d″ run r (at + spot (take (e - at) (drop at s)) j) (at + spot (take (e - at) (drop at s)) (j + 1)) (0x2c ∷ itemBytes (getD cs k 0) (getD (itemsOf (take (e - at) (drop at s))) j []))
+      → Turning cs place n s at e end (k + 1) (j + 1) start d d″ r
+  turning-next h x = record { writing = writing-next (t .writing) counted h (x .wrote); low = x .low; size = x .size ∙ t .size }
+
+  pub turning-done : end ≤ k → Passed s d d′ start run (at + spot (take (e - at) (drop at s)) 1) e (tailOf (sliceOf place) (drop 1 (itemsOf (take (e - at) (drop at s)))))
+  turning-done h =
+      let y : j ≡ n + 1 = omega (arith, t .writing .few) in
+      let z : begins s at e j ≡ e = omega (arith, last-spot (v .spans) n (omega arith), ap (spot (part s at e)) y, part-length s at e (v .low) (v .high), v .low) in
+      record { wrote = subst (λ (x : ℕ). Wrote (ahead s d start (begins s at e 1)) (ahead s d′ run x) (reach start (begins s at e 1)) (reach run x) (whole place (part s at e))) z (writing-done (t .writing) h); low = omega (arith, t .low, z); size = t .size }
+
+pub ruleset turning-laws = (turning-start, turning-index, turning-item, turning-next, turning-done)
 
 -- ---- a line
 
@@ -184,55 +234,70 @@ parts number s {place} v p c =
           ∙ values-tail h ((rowOf h) .items) (g .rest) ∙ ap (λ (x : List Item). h ++ tailOf x (g .rest)) i;
     }
 
-module _ {number : ℕ} {s : List ℕ} {place first : ℕ} (v : Sound number s) (p : place ≡ placeOf number) (c : InCodes place) (f : first ≡ findFrom 0x2c s 0) where
-  own-parts : Parts number s place
-  own-parts = parts number s v p c
+module _ (s : List ℕ) (at e : ℕ) {number place : ℕ} (v : Sound number (take (e - at) (drop at s))) (p : place ≡ placeOf number) (c : InCodes place) where
+  line : List ℕ
+  line = part s at e
+
+  own-parts : Parts number line place
+  unfolding line
+  own-parts = parts number (part s at e) v p c
 
   front : List ℕ
-  front = take (first - 0) (drop 0 s)
+  front = own-parts .head
 
   items : List ℕ
-  items = tailOf (sliceOf place) (drop 1 (itemsOf s))
+  items = tailOf (sliceOf place) (drop 1 (itemsOf line))
 
-  front-is : front ≡ own-parts .head
-  unfolding front
-  front-is = ap (λ (x : ℕ). take (x - 0) s) f ∙ head-eq-of-cons-eq (sym (items-all s ∙ items-from s 0 (omega arith)) ∙ own-parts .cut)
-
-  written : recordRow (recordOf s) ≡ front ++ (items ++ lineEnd)
-  unfolding items
+  written : recordRow (recordOf line) ≡ front ++ (items ++ lineEnd)
+  unfolding items front
   written =
-      ap (λ (x : List ℕ). x ++ lineEnd) (own-parts .row ∙ ap (λ (x : List (List ℕ)). own-parts .head ++ tailOf (sliceOf place) (drop 1 x)) (sym (own-parts .cut)) ∙ ap (λ (x : List ℕ). x ++ items) (sym front-is))
+      ap (λ (x : List ℕ). x ++ lineEnd) (own-parts .row ∙ ap (λ (x : List (List ℕ)). own-parts .head ++ tailOf (sliceOf place) (drop 1 x)) (sym (own-parts .cut)))
       ∙ append-assoc front items lineEnd
 
-  sizes : length (recordRow (recordOf s)) ≡ length front + (length items + 2)
+  sizes : length (recordRow (recordOf line)) ≡ length front + (length items + 2)
   sizes = ap length written ∙ length-append front (items ++ lineEnd) ∙ ap (λ (x : ℕ). length front + x) (length-append items lineEnd)
 
-  pub record-front-room : (d : List ℕ) (at : ℕ) → Room d at (recordRow (recordOf s)) → Room d at (take (first - 0) (drop 0 s))
-  unfolding front
-  record-front-room d at r = omega (arith, sizes, r)
-
-  module _ {n : ℕ} (k : Commas s n) where
+  module _ {n : ℕ} (k : Commas (take (e - at) (drop at s)) n) where
     commas-are : n ≡ place % 16
-    commas-are = omega (arith, k .is, items-count s, ap length (own-parts .cut), own-parts .count)
+    unfolding line
+    commas-are = omega (arith, k .is, items-count line, ap length (own-parts .cut), own-parts .count)
 
-    pub record-items : Items place n s
+    pub record-items : Items place n (take (e - at) (drop at s))
+    unfolding line
     record-items = record { good = rw (own-parts .cut) (own-parts .items); count = commas-are }
 
-    pub record-spanned : {stops : List ℕ} → Stops s stops → Sixteen stops → Spanned s stops n
-    record-spanned t z = record { places = t; commas = k; few = omega (arith, commas-are); size = z }
+    pub record-line : {stops : List ℕ} → Stops (take (e - at) (drop at s)) stops → Sixteen stops → Ended s at e → LineIn s at e stops n
+    record-line t z i = record { spans = record { places = t; commas = k; few = omega (arith, commas-are); size = z }; low = i .low; high = omega (arith, i .high) }
 
-  module _ {d d₁ : List ℕ} {at a : ℕ} (w : Wrote d d₁ at a (take (first - 0) (drop 0 s))) where
-    pub record-items-room : Room d at (recordRow (recordOf s)) → Room d₁ a (tailOf (sliceOf place) (drop 1 (itemsOf s)))
-    unfolding front items
-    record-items-room r = omega (arith, sizes, r, w .next, w .size)
+  module _ {d : List ℕ} {run : Run} (i : Ended s at e) (r : Ready d run at (recordRow (recordOf (take (e - at) (drop at s))))) where
+    first-is : part s at (at + spot line 1) ≡ front
+    unfolding line front
+    first-is =
+        let z : at + 0 ≡ at = omega arith in
+        ap (λ (x : ℕ). part s x (at + spot line 1)) (sym z)
+        ∙ sym (part-part s at e 0 (spot line 1) (omega arith) (omega (arith, spot-sum line 1 (omega arith), part-length s at e (i .low) (omega (arith, i .high)), i .low)))
+        ∙ spot-first line (own-parts .head) (own-parts .rest) (own-parts .cut)
 
-    module _ {d₂ : List ℕ} {b : ℕ} (x : Wrote d₁ d₂ a b (tailOf (sliceOf place) (drop 1 (itemsOf s)))) where
-      pub record-end-room : Room d at (recordRow (recordOf s)) → Room d₂ b (0x0d ∷ 0x0a ∷ [])
-      unfolding front items
-      record-end-room r = omega (arith, sizes, r, w .next, w .size, x .next, x .size)
+    first-high : at + spot line 1 ≤ e
+    unfolding line
+    first-high = omega (arith, spot-sum line 1 (omega arith), part-length s at e (i .low) (omega (arith, i .high)), i .low)
 
-      pub record-written : {d₃ : List ℕ} {r : ℕ} → Wrote d₂ d₃ b r (0x0d ∷ 0x0a ∷ []) → Wrote d d₃ at r (recordRow (recordOf s))
-      unfolding front items
-      record-written y = rw written (then w (then x y))
+    first-length : length front ≡ spot line 1
+    first-length = sym (ap length first-is) ∙ part-length s at (at + spot line 1) (omega arith) (omega (arith, first-high, i .high)) ∙ omega arith
 
-pub ruleset record-laws = (first-inside, record-front-room, record-items, record-spanned, record-items-room, record-end-room, record-written)
+    first-passed : Passed s d d run run at (at + spot line 1) front
+    unfolding line
+    first-passed = waits s d run at (at + spot line 1) front (omega arith) (omega (arith, first-high, i .high)) first-is (record { low = r .low; room = omega (arith, r .room, sizes) })
+
+    pub record-ready : Ready d run (at + spot (take (e - at) (drop at s)) 1) (tailOf (sliceOf place) (drop 1 (itemsOf (take (e - at) (drop at s)))))
+    unfolding line items
+    record-ready = record { low = omega (arith, r .low); room = omega (arith, r .low, r .room, sizes, first-length) }
+
+    pub record-passed : {d₁ : List ℕ} {q : Run} → Passed s d d₁ run q (at + spot (take (e - at) (drop at s)) 1) e (tailOf (sliceOf place) (drop 1 (itemsOf (take (e - at) (drop at s)))))
+        → Passed s d d₁ run q at (e + 2) (recordRow (recordOf (take (e - at) (drop at s))))
+    unfolding line items
+    record-passed {d₁} {q} x =
+        rw written (passes first-passed (passes x
+        (waits s d₁ q e (e + 2) lineEnd (omega arith) (i .high) (i .end) (record { low = x .low; room = omega (arith, x .wrote .next, x .size, r .low, r .room, sizes, first-length) }))))
+
+pub ruleset record-laws = (record-items, record-line, record-ready, record-passed)

@@ -3,7 +3,7 @@ use Prim.Native.Nat.{ℕ, _+_, _-_, _≤_, _<_}
 use native.Mathlib.Omega.{arith}
 use mathlib.Core.Path.{_≡_, refl, sym, ap, _∙_, subst}
 use mathlib.Core.Bool.{Bool, true, false, cond}
-use mathlib.Core.List.{List, [], _∷_, _++_}
+use mathlib.Core.List.{List, _++_}
 use borrow.Author.Tests.{le-leb, lt-leb, eqb-true, eqb-false}
 use lib.Dec.{leb, eqb}
 use lib.ListN.{length, take, drop, length-append}
@@ -18,32 +18,14 @@ use Rattle.order.specs.State.{start}
 use Rattle.buffers.specs.Buffers.{Room, Wrote}
 use Rattle.buffers.proofs.Runs.{then, front, sets-all}
 use Rattle.notebook.specs.Notebook.{Notebook, recordsFrom, notebookOf, readFile}
-use Rattle.notebook.specs.Check.{directionOf, Behind}
+use Rattle.notebook.specs.Check.{directionOf}
 use Rattle.notebook.proofs.ReadLaws.{read-large, read-end, read-mark, read-broken, read-provider, read-patient, read-version, line-1-high, line-1-fits, line-1-behind}
 use Rattle.notebook.proofs.LineFacts.{line-size}
 use Rattle.notebook.proofs.CheckLaws.{zeros-size}
 use Rattle.canonical.specs.declared.Canonical.{Canonical}
 use Rattle.canonical.specs.declared.Canonical.the-variants.{Written, Refused}
 use Rattle.canonical.specs.Canonical.{headRow, recordRows, canonicalBytes, answered, canonicalOf, bytesOf, bufferAfter, canonicalBuffer}
-use Rattle.canonical.specs.Writing.{Output, poured, PouredMeans, Poured, fileBytes, MadeMeans, MadeOf}
-
--- ---- line 1
-
-module _ {s : List ℕ} {from : ℕ} (b : Behind s from) where
-  pub first-inside : from ≤ length s
-  first-inside = b .high
-
-  pub first-room : (d : List ℕ) → length d ≡ 65536 → Room d 0 (take (from - 0) (drop 0 s))
-  first-room d z = omega (arith, length-take-le (from - 0) s (omega (arith, b .high)), b .high, b .small, z)
-
-  pub first-size : {d d₁ : List ℕ} {r : ℕ} → length d ≡ 65536 → Wrote d d₁ 0 r (take (from - 0) (drop 0 s)) → length d₁ ≡ 65536
-  first-size z w = w .size ∙ z
-
-  pub first-poured : (x : Res (List Record)) {d d₁ d₂ : List ℕ} {r : ℕ} {c : Canonical} → Wrote d d₁ 0 r (take (from - 0) (drop 0 s)) → Poured (poured d₁ from x) d₂ c
-      → Poured (poured (sets d 0 (part s 0 from)) from x) d₂ c
-  first-poured x w v = rw (w .list) at v
-
-pub ruleset first-laws = (first-inside, first-room, first-size, first-poured)
+use Rattle.canonical.specs.Writing.{Output, poured, Poured, fileBytes, MadeMeans, MadeOf}
 
 -- ---- the array
 

@@ -1,31 +1,30 @@
--- The canonical file as the code writes it: item by item, and what is left of a file from a row on.
-use Prim.Native.Nat.{ℕ, _+_, _≤_, _%_}
+-- The canonical file as the code writes it: runs of kept bytes and the items between them that are spelled anew, and what is left of a
+-- file from a row on.
+use Prim.Native.Nat.{ℕ, _+_, _-_, _≤_, _<_, _%_}
 use mathlib.Core.Path.{_≡_}
-use mathlib.Core.Bool.{Bool, cond, false}
+use mathlib.Core.Bool.{Bool, cond, true, false}
 use mathlib.Core.List.{List, [], _∷_, _++_}
 use lib.Dec.{eqb}
-use lib.ListN.{length, take, drop}
+use lib.ListN.{length, getD, take, drop}
 use lib.Seq.{sets}
-use Rattle.lists.specs.Lists.{empty, Res, ok, refused}
+use Rattle.lists.specs.Lists.{empty, part, Res, ok, refused}
 use Rattle.digits.specs.Digits.{number}
-use Rattle.characters.specs.Rows.{flat}
+use Rattle.characters.specs.Rows.{flat, lineEnd}
 use Rattle.calendar.specs.Era.{readDay}
 use Rattle.records.specs.Table.{Item}
 use Rattle.records.specs.Split.{itemsOf}
 use Rattle.records.specs.Items.{writeValue, numberValue, dayValue, unhyphened, fault}
 use Rattle.records.specs.Records.{Record, itemValue, lineFault, recordOf}
 use Rattle.order.specs.declared.State.{State}
-use Rattle.order.specs.declared.Moved.the-variants.{Refused as StepRefused, On}
 use Rattle.order.specs.State.{finishOf}
 use Rattle.items.specs.Codes.{itemOf}
-use Rattle.lines.specs.Codes.{sliceOf}
+use Rattle.lines.specs.Codes.{sliceOf, Spanned}
 use Rattle.buffers.specs.Buffers.{Wrote}
-use Rattle.notebook.specs.Notebook.{Notebook, stepLine}
+use Rattle.notebook.specs.Notebook.{Notebook}
 use Rattle.canonical.specs.declared.Canonical.{Canonical}
 use Rattle.canonical.specs.declared.Canonical.the-variants.{Written, Refused}
-use Rattle.canonical.specs.declared.Taken.{Taken}
-use Rattle.canonical.specs.declared.Taken.the-variants.{Refused as TakenRefused, On as TakenOn}
-use Rattle.canonical.specs.Canonical.{recordRow, recordRows, canonicalBytes}
+use Rattle.canonical.specs.declared.Run.{Run}
+use Rattle.canonical.specs.Canonical.{recordRows, canonicalBytes}
 
 -- ---- one item
 
@@ -49,7 +48,52 @@ itemBytes c s = writeValue (itemValue (itemOf c) s)
 pub record Spellable (c : ℕ) (s : List ℕ) : Type 0 where
   pub good : empty s ≡ false → fault ((itemOf c) .kind) s ≡ 0
 
+-- all items are their own spelling, where r says so
+pub record OwnWhere (r : Bool) (c : ℕ) : Type 0 where
+  pub own : r ≡ true → (s : List ℕ) → itemBytes c s ≡ s
+
+-- an item is its own spelling, unless r says that it may not be
+pub record OwnUnless (r : Bool) (c : ℕ) (s : List ℕ) : Type 0 where
+  pub own : r ≡ false → itemBytes c s ≡ s
+
+-- ---- runs
+
+-- the output as it will be when the bytes of the file s that wait before p are copied behind what is written, and where they will end
+abbrev pub ahead : List ℕ → List ℕ → Run → ℕ → List ℕ
+ahead s d run p = sets d (run .at) (part s (run .from) p)
+
+abbrev pub reach : Run → ℕ → ℕ
+reach run p = run .at + (p - run .from)
+
+-- there is room for what waits before p, and for w behind it
+pub record Ready (d : List ℕ) (run : Run) (p : ℕ) (w : List ℕ) : Type 0 where
+  pub low : run .from ≤ p
+  pub room : reach run p + length w ≤ length d
+
+-- what was written or waited before p became what is written or waits before e: w stands behind it
+pub record Passed (s d d′ : List ℕ) (run r : Run) (p e : ℕ) (w : List ℕ) : Type 0 where
+  pub wrote : Wrote (ahead s d run p) (ahead s d′ r e) (reach run p) (reach r e) w
+  pub low : r .from ≤ e
+  pub size : length d′ ≡ length d
+
+-- an item stands behind its comma at p, up to e
+pub record Stands (s : List ℕ) (p e : ℕ) : Type 0 where
+  pub comma : part s p (p + 1) ≡ 0x2c ∷ []
+  pub low : p < e
+  pub high : e ≤ length s
+
 -- ---- the items of a line behind its number, each with its comma
+
+-- as they are spelled
+unfoldable pub spelledTail : List (List ℕ) → List ℕ
+spelledTail [] = []
+spelledTail (s ∷ ss) = 0x2c ∷ (s ++ spelledTail ss)
+
+-- where the comma before item number j of a line stands; the line's end, where there is none
+unfoldable pub spot : List ℕ → ℕ → ℕ
+spot l j = length l - length (spelledTail (drop j (itemsOf l)))
+
+-- each in its one spelling
 
 unfoldable pub tailOf : List Item → List (List ℕ) → List ℕ
 tailOf [] ss = []
@@ -75,24 +119,33 @@ pub record Sound (n : ℕ) (s : List ℕ) : Type 0 where
   pub good : lineFault provider s ≡ 0
   pub number : n ≡ (recordOf s) .number
 
--- what is written of a line is no longer than the line with its end
-pub record LineRoom (d : List ℕ) (at : ℕ) (l : List ℕ) : Type 0 where
-  pub room : at + (length l + 2) ≤ length d
+-- a line from at to e of a file, its commas and their places
+pub record LineIn (s : List ℕ) (at e : ℕ) (stops : List ℕ) (n : ℕ) : Type 0 where
+  pub spans : Spanned (part s at e) stops n
+  pub low : at ≤ e
+  pub high : e ≤ length s
 
--- the next state, and the record written behind at
-pub record Put (st : State) (l d d′ : List ℕ) (at : ℕ) (after : State) (next : ℕ) : Type 0 where
-  pub rp : ℕ
-  pub doctor : ℕ
-  pub step : stepLine st l ≡ On after rp doctor
-  pub wrote : Wrote d d′ at next (recordRow (recordOf l))
+-- where its item number j begins, with its comma; and the item
+abbrev pub begins : List ℕ → ℕ → ℕ → ℕ → ℕ
+begins s at e j = at + spot (part s at e) j
 
-abbrev pub TakenMeans : State → List ℕ → List ℕ → List ℕ → ℕ → Taken → Type 0
-TakenMeans st l d d′ at (TakenRefused n) = (stepLine st l ≡ StepRefused n) × (d′ ≡ d)
-TakenMeans st l d d′ at (TakenOn after next) = Put st l d d′ at after next
+abbrev pub itemAt : List ℕ → ℕ → ℕ → ℕ → List ℕ
+itemAt s at e j = getD (itemsOf (part s at e)) j []
 
-pub record TakenOf (st : State) (l d d′ : List ℕ) (at : ℕ) (r : Taken) : Type 0 where
-  pub means : TakenMeans st l d d′ at r
-  pub size : length d′ ≡ length d
+-- its items behind the number, each in its one spelling
+abbrev pub tailAt : ℕ → List ℕ → ℕ → ℕ → List ℕ
+tailAt place s at e = tailOf (sliceOf place) (drop 1 (itemsOf (part s at e)))
+
+-- j is the number of an item behind the record's number
+pub record ItemOf (j n : ℕ) : Type 0 where
+  pub low : 1 ≤ j
+  pub high : j ≤ n
+
+-- a line from at to e of a file, and its line end
+pub record Ended (s : List ℕ) (at e : ℕ) : Type 0 where
+  pub low : at ≤ e
+  pub high : e + 2 ≤ length s
+  pub end : part s e (e + 2) ≡ lineEnd
 
 -- ---- the file: what stands in the buffer behind the records that are left, and where it ends
 
@@ -115,6 +168,12 @@ pub record Poured (x : Res Output) (d : List ℕ) (r : Canonical) : Type 0 where
 -- the end: what is missing there, or the bytes
 unfoldable pub closing : State → ℕ → Canonical
 closing st at = cond (eqb (finishOf st) 0) (Written at) (Refused (finishOf st) (st .line + 1))
+
+-- the last run is copied
+pub record Finished (st : State) (s : List ℕ) (at : ℕ) (d d′ : List ℕ) (run : Run) (r : Canonical) : Type 0 where
+  pub answer : r ≡ closing st (reach run at)
+  pub buffer : d′ ≡ ahead s d run at
+  pub size : length d′ ≡ length d
 
 -- ---- the canonical file in an array of 65,536 bytes
 

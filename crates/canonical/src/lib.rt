@@ -1,8 +1,9 @@
 // The canonical file: one pass that checks and writes, into an array of the call's own; then a copy, where the output can hold it.
+// All bytes but a few are kept, so the pass copies runs of them: an item that has another spelling ends a run, and so does the file's end.
 // Definitions: specs/Canonical.antt; the same as the code writes it: specs/Writing.antt.
 ghost use mathlib.Core.Path.{_≡_};
-ghost use mathlib.Core.List.{_∷_};
-ghost use Prim.Native.Nat.{_≤_};
+ghost use mathlib.Core.List.{[], _∷_};
+ghost use Prim.Native.Nat.{_+_, _≤_};
 ghost use lib.ListN.{length, drop};
 ghost use lib.Seq.{sets};
 ghost use Rattle.lists.specs.Lists.{part};
@@ -10,14 +11,14 @@ ghost use Rattle.characters.specs.Classes.{Classes};
 ghost use Rattle.characters.specs.Rows.{rows};
 ghost use Rattle.characters.specs.Text.{Stops, Sixteen};
 ghost use Rattle.records.specs.Records.{recordOf};
-ghost use Rattle.records.specs.Split.{itemsOf};
-ghost use Rattle.order.specs.State.{start, Room as Countable};
-ghost use Rattle.lines.specs.Codes.{Lent, Commas, InCodes, Spanned, sliceOf};
+ghost use Rattle.order.specs.State.{start};
+ghost use Rattle.lines.specs.Codes.{Lent, Commas, InCodes, Spanned};
 ghost use Rattle.buffers.specs.Buffers.{Room, Wrote};
 ghost use Rattle.notebook.specs.Notebook.{recordsFrom, readFile};
-ghost use Rattle.notebook.specs.Check.{Judged, Behind, Closing};
+ghost use Rattle.notebook.specs.Check.{Behind, Closing};
 ghost use Rattle.canonical.specs.Canonical.{recordRow, canonicalOf, canonicalBuffer};
-ghost use Rattle.canonical.specs.Writing.{postalBytes, numberBytes, dayBytes, itemBytes, Spellable, tailOf, Items, Sound, LineRoom, TakenOf, poured, Poured, closing, fileBytes, MadeOf};
+ghost use Rattle.canonical.specs.Writing.{postalBytes, numberBytes, dayBytes, itemBytes, Spellable, OwnWhere, OwnUnless, Items, Sound};
+ghost use Rattle.canonical.specs.Writing.{spot, Stands, Ready, Passed, LineIn, begins, itemAt, tailAt, ItemOf, Ended, Finished, poured, Poured, closing, fileBytes, MadeOf};
 
 // How many bytes of the output's front the canonical file takes; or a refusal's number and line, and the output as it was.
 pub enum Canonical {
@@ -80,16 +81,96 @@ fn put_item(out: &mut [u8], at: usize, c: usize, s: &[u8]) -> usize
     }
 }
 
+// Whether all items of a kind are their own spelling: all kinds but P, R and D.
+fn one_spelling(c: usize) -> bool
+    ensures { λ r. ⌜ OwnWhere r c ⌝ }
+{
+    let kind = c / 4 % 16;
+    (kind != 6) & ((kind != 7) & (kind != 10))
+}
+
+// Whether an item without a fault may have another spelling than its own bytes: a number with a leading zero, or eight bytes, as a postal code
+// with its hyphen and a date without an era have.
+fn respelled(c: usize, s: &[u8]) -> bool
+    requires { ⌜ Spellable c (now s) ⌝ }
+    ensures { λ r. ⌜ OwnUnless r c (now (s .entry)) ⌝ }
+{
+    if c / 4 % 16 == 7 {
+        let first = lists::byte_at(s, 0);
+        return first == 0x30;
+    }
+    s.len() == 8
+}
+
+// ---- runs
+
+// What is written of a file: all bytes before `from`, in their one spelling, before `at` of the output. The bytes from `from` on wait: they
+// are copied where a run ends.
+pub struct Run {
+    pub from: usize,
+    pub at: usize,
+}
+
+// An item behind its comma at p, up to e: its spelling behind the run before it; or nothing, where its bytes are its spelling.
+fn respell(c: usize, s: &[u8], p: usize, e: usize, out: &mut [u8], run: Run) -> Run
+    requires { ⌜ Stands (now s) p e ⌝ }
+    requires { ⌜ Spellable c (part (now s) (p + 1) e) ⌝ }
+    requires { ⌜ Ready (now out) run p (0x2c ∷ itemBytes c (part (now s) (p + 1) e)) ⌝ }
+    ensures { λ r. ⌜ Passed (now (s .entry)) (now (out .entry)) (now (out .exit)) run r p e (0x2c ∷ itemBytes c (part (now (s .entry)) (p + 1) e)) ⌝ }
+{
+    let a = p + 1;
+    if respelled(c, &s[a..e]) {
+        let from = run.from;
+        let at = run.at;
+        let next = buffers::put_all(out, at, &s[from..a]);
+        let behind = put_item(out, next, c, &s[a..e]);
+        return Run {
+            from: e,
+            at: behind,
+        };
+    }
+    run
+}
+
 // ---- one line
 
-// A comma and an item.
-fn put_next(out: &mut [u8], at: usize, c: usize, s: &[u8]) -> usize
-    requires { ⌜ Spellable c (now s) ⌝ }
-    requires { ⌜ Room (now out) at (0x2c ∷ itemBytes c (now s)) ⌝ }
-    ensures { λ r. ⌜ Wrote (now (out .entry)) (now (out .exit)) at r (0x2c ∷ itemBytes c (now (s .entry))) ⌝ }
+// Where comma number i of a line stands, from 0; the line's end where there is none.
+fn comma_at(stops: &[usize; 16], n: usize, line: &[u8], i: usize) -> usize
+    requires { ⌜ Spanned (now line) (now stops) n ⌝ }
+    requires { ⌜ i ≤ n ⌝ }
+    ensures { λ r. ⌜ r ≡ spot (now (line .entry)) (i + 1) ⌝ }
 {
-    let next = buffers::put_byte(out, at, 0x2c);
-    put_item(out, next, c, s)
+    if i < n {
+        return stops[i];
+    }
+    line.len()
+}
+
+// Item number j of the line from at to end, behind the items before it; c: the item of the table, as one number.
+fn pass_item(
+    c: usize,
+    stops: &[usize; 16],
+    n: usize,
+    j: usize,
+    s: &[u8],
+    at: usize,
+    end: usize,
+    out: &mut [u8],
+    run: Run,
+) -> Run
+    requires { ⌜ LineIn (now s) at end (now stops) n ⌝ }
+    requires { ⌜ ItemOf j n ⌝ }
+    requires { ⌜ Spellable c (itemAt (now s) at end j) ⌝ }
+    requires { ⌜ Ready (now out) run (begins (now s) at end j) (0x2c ∷ itemBytes c (itemAt (now s) at end j)) ⌝ }
+    ensures { λ r. ⌜ Passed (now (s .entry)) (now (out .entry)) (now (out .exit)) run r (begins (now (s .entry)) at end j) (begins (now (s .entry)) at end (j + 1)) (0x2c ∷ itemBytes c (itemAt (now (s .entry)) at end j)) ⌝ }
+{
+    if one_spelling(c) {
+        return run;
+    }
+    let before = j - 1;
+    let p = at + comma_at(stops, n, &s[at..end], before);
+    let e = at + comma_at(stops, n, &s[at..end], j);
+    respell(c, s, p, e, out, run)
 }
 
 // The items of a line behind its number; place: the row of its record in the codes.
@@ -99,93 +180,54 @@ fn put_items(
     stops: &[usize; 16],
     n: usize,
     s: &[u8],
-    out: &mut [u8],
     at: usize,
-) -> usize
+    end: usize,
+    out: &mut [u8],
+    start: Run,
+) -> Run
     requires { ⌜ Lent (now codes) ⌝ }
     requires { ⌜ InCodes place ⌝ }
-    requires { ⌜ Spanned (now s) (now stops) n ⌝ }
-    requires { ⌜ Items place n (now s) ⌝ }
-    requires { ⌜ Room (now out) at (tailOf (sliceOf place) (drop 1 (itemsOf (now s)))) ⌝ }
-    ensures { λ r. ⌜ Wrote (now (out .entry)) (now (out .exit)) at r (tailOf (sliceOf place) (drop 1 (itemsOf (now (s .entry))))) ⌝ }
+    requires { ⌜ LineIn (now s) at end (now stops) n ⌝ }
+    requires { ⌜ Items place n (part (now s) at end) ⌝ }
+    requires { ⌜ Ready (now out) start (begins (now s) at end 1) (tailAt place (now s) at end) ⌝ }
+    ensures { λ r. ⌜ Passed (now (s .entry)) (now (out .entry)) (now (out .exit)) start r (begins (now (s .entry)) at end 1) end (tailAt place (now (s .entry)) at end) ⌝ }
 {
     let mut k = place / 16;
-    let end = k + place % 16;
+    let last = k + place % 16;
     let mut j = 1;
-    let mut next = at;
-    while k < end {
-        let span = lines::item_span(stops, n, s, j);
-        let a = span.from;
-        let e = span.to;
+    let mut run = start;
+    while k < last {
         let c = codes[k];
-        next = put_next(out, next, c, &s[a..e]);
+        run = pass_item(c, stops, n, j, s, at, end, out, run);
         j += 1;
         k += 1;
     }
-    next
+    run
 }
 
-// A record and its line end; number: the record's; n: the line's commas; stops: their places.
+// The record of the line from at to end, and its line end; number: the record's; n: the line's commas; stops: their places.
 fn put_record(
     codes: &[usize; 83],
     number: u32,
     stops: &[usize; 16],
     n: usize,
     s: &[u8],
-    out: &mut [u8],
     at: usize,
-) -> usize
+    end: usize,
+    out: &mut [u8],
+    run: Run,
+) -> Run
     requires { ⌜ Lent (now codes) ⌝ }
-    requires { ⌜ Commas (now s) n ⌝ }
-    requires { ⌜ Stops (now s) (now stops) ⌝ }
+    requires { ⌜ Ended (now s) at end ⌝ }
+    requires { ⌜ Commas (part (now s) at end) n ⌝ }
+    requires { ⌜ Stops (part (now s) at end) (now stops) ⌝ }
     requires { ⌜ Sixteen (now stops) ⌝ }
-    requires { ⌜ Sound number (now s) ⌝ }
-    requires { ⌜ Room (now out) at (recordRow (recordOf (now s))) ⌝ }
-    ensures { λ r. ⌜ Wrote (now (out .entry)) (now (out .exit)) at r (recordRow (recordOf (now (s .entry)))) ⌝ }
+    requires { ⌜ Sound number (part (now s) at end) ⌝ }
+    requires { ⌜ Ready (now out) run at (recordRow (recordOf (part (now s) at end))) ⌝ }
+    ensures { λ r. ⌜ Passed (now (s .entry)) (now (out .entry)) (now (out .exit)) run r at (end + 2) (recordRow (recordOf (part (now (s .entry)) at end))) ⌝ }
 {
     let place = lines::place_of(number);
-    let start = 0;
-    let first = lists::find_byte(s, start, 0x2c);
-    let a = buffers::put_all(out, at, &s[start..first]);
-    let b = put_items(codes, place, stops, n, s, out, a);
-    let end = [0x0du8, 0x0a];
-    buffers::put_all(out, b, &end)
-}
-
-// What became of a record line: a refusal's number; or the next state, and the end of what is written.
-pub enum Taken {
-    Refused(u32),
-    On(order::State, usize),
-}
-
-// Reads a record line, puts its record in its place, and writes it.
-fn write_line(
-    codes: &[usize; 83],
-    st: order::State,
-    good: bool,
-    commas: usize,
-    stops: &[usize; 16],
-    line: &[u8],
-    out: &mut [u8],
-    at: usize,
-) -> Taken
-    requires { ⌜ Lent (now codes) ⌝ }
-    requires { ⌜ Commas (now line) commas ⌝ }
-    requires { ⌜ Stops (now line) (now stops) ⌝ }
-    requires { ⌜ Sixteen (now stops) ⌝ }
-    requires { ⌜ Countable st ⌝ }
-    requires { ⌜ Judged good (now line) ⌝ }
-    requires { ⌜ LineRoom (now out) at (now line) ⌝ }
-    ensures { λ r. ⌜ TakenOf st (now (line .entry)) (now (out .entry)) (now (out .exit)) at r ⌝ }
-{
-    match notebook::step_line(codes, st, good, commas, stops, line) {
-        order::Moved::Refused(n) => Taken::Refused(n),
-        order::Moved::On(after, _, _) => {
-            let number = after.place;
-            let next = put_record(codes, number, stops, commas, line, out, at);
-            Taken::On(after, next)
-        }
-    }
+    put_items(codes, place, stops, n, s, at, end, out, run)
 }
 
 // ---- the file
@@ -203,47 +245,22 @@ fn close(st: order::State, at: usize) -> Canonical
     Canonical::Refused(missing, st.line + 1)
 }
 
-// The records of a file from behind line 1 on, which is written already.
-fn write_records(
-    classes: &[u8; 512],
-    codes: &[usize; 83],
-    stops: &mut [usize; 16],
-    provider: bool,
-    s: &[u8],
-    from: usize,
-    out: &mut [u8],
-) -> Canonical
-    requires { ⌜ Classes (now classes) ⌝ }
-    requires { ⌜ Lent (now codes) ⌝ }
-    requires { ⌜ Sixteen (now stops) ⌝ }
-    requires { ⌜ Behind (now s) from ⌝ }
+// The end of a file at a position: the last run, then as `close`.
+fn finish(st: order::State, s: &[u8], at: usize, out: &mut [u8], run: Run) -> Canonical
+    requires { ⌜ Closing st ⌝ }
+    requires { ⌜ at ≤ length (now s) ⌝ }
+    requires { ⌜ Ready (now out) run at [] ⌝ }
     requires { ⌜ length (now out) ≡ 65536 ⌝ }
-    ensures { λ r. ⌜ Poured (poured (now (out .entry)) from (recordsFrom (start provider) (rows (drop from (now (s .entry)))))) (now (out .exit)) r ⌝ }
+    ensures { λ r. ⌜ Finished st (now (s .entry)) at (now (out .entry)) (now (out .exit)) run r ⌝ }
 {
-    let mut st = order::State::new(provider);
-    let mut at = from;
-    let mut next = from;
-    loop {
-        match characters::line_at(classes, stops, s, at) {
-            characters::Line::End => return close(st, next),
-            characters::Line::Mark => return close(st, next),
-            characters::Line::Broken => return Canonical::Refused(2, st.line + 1),
-            characters::Line::Whole(end, good, commas) => {
-                match write_line(codes, st, good, commas, stops, &s[at..end], out, next) {
-                    Taken::Refused(n) => return Canonical::Refused(n, st.line + 1),
-                    Taken::On(after, behind) => {
-                        next = behind;
-                        st = after;
-                        at = end + 2;
-                    }
-                }
-            }
-        }
-    }
+    let from = run.from;
+    let next = run.at;
+    let end = buffers::put_all(out, next, &s[from..at]);
+    close(st, end)
 }
 
-// Line 1, which is kept, and the records behind it.
-fn write_file(
+// Line 1, which is kept, and the records from behind it on.
+fn write_records(
     classes: &[u8; 512],
     codes: &[usize; 83],
     stops: &mut [usize; 16],
@@ -259,9 +276,33 @@ fn write_file(
     requires { ⌜ length (now out) ≡ 65536 ⌝ }
     ensures { λ r. ⌜ Poured (poured (sets (now (out .entry)) 0 (part (now (s .entry)) 0 from)) from (recordsFrom (start provider) (rows (drop from (now (s .entry)))))) (now (out .exit)) r ⌝ }
 {
-    let start = 0;
-    buffers::put_all(out, start, &s[start..from]);
-    write_records(classes, codes, stops, provider, s, from, out)
+    let mut st = order::State::new(provider);
+    let mut at = from;
+    let mut run = Run { from: 0, at: 0 };
+    loop {
+        match characters::line_at(classes, stops, s, at) {
+            characters::Line::End => return finish(st, s, at, out, run),
+            characters::Line::Mark => return finish(st, s, at, out, run),
+            characters::Line::Broken => {
+                let line = st.line + 1;
+                return Canonical::Refused(2, line);
+            }
+            characters::Line::Whole(end, good, commas) => {
+                match notebook::step_line(codes, st, good, commas, stops, &s[at..end]) {
+                    order::Moved::Refused(n) => {
+                        let line = st.line + 1;
+                        return Canonical::Refused(n, line);
+                    }
+                    order::Moved::On(after, _, _) => {
+                        let number = after.place;
+                        run = put_record(codes, number, stops, commas, s, at, end, out, run);
+                        st = after;
+                        at = end + 2;
+                    }
+                }
+            }
+        }
+    }
 }
 
 // The canonical file of an accepted file at the front of an array that holds any; or the one refusal.
@@ -287,7 +328,7 @@ pub fn canonical_into(s: &[u8], out: &mut [u8]) -> Canonical
                 return Canonical::Refused(3, 1);
             }
             let from = end + 2;
-            write_file(&classes, &codes, &mut stops, direction == 1, s, from, out)
+            write_records(&classes, &codes, &mut stops, direction == 1, s, from, out)
         }
     }
 }

@@ -18,6 +18,7 @@ use Rattle.characters.specs.Text.{isStop, text}
 use Rattle.characters.specs.Rows.{rows, flat, lineEnd, isLine, endMark}
 use Rattle.records.specs.Records.{isMark}
 use Rattle.canonical.specs.Canonical.{headRow}
+use Rattle.canonical.proofs.PartLaws.{part-length, part-none, part-join, part-part}
 use Rattle.pieces.specs.declared.Row.{Row}
 use Rattle.pieces.specs.declared.Row.the-variants.{Head, EndHead, Body, End, Broken}
 use Rattle.pieces.specs.declared.Numbers.{Numbers}
@@ -31,35 +32,6 @@ use Rattle.join.specs.declared.Member.the-variants.{Of, Foreign}
 use Rattle.join.specs.Join.{unmarked, Part, before, lastMark, partOf, with, agree}
 use Rattle.join.specs.Spans.{isBody, goesOn, LineAt, partBy, identAt, MarkedLines, LastMeans, LastIs, LinesMean, LinesAre, agreed, Within, MemberIs}
 use Rattle.join.proofs.WalkLaws.{row-bounds, goes-over, goes-head, goes-end-head, goes-end, goes-broken}
-
--- ---- parts of a list
-
-pub part-length : (s : List ℕ) (a e : ℕ) → a ≤ e → e ≤ length s → length (part s a e) ≡ e - a
-part-length s a e h g = simp (length-take, length-drop) (omega arith)
-
-pub part-none : (s : List ℕ) (a : ℕ) → part s a a ≡ []
-part-none s a = let z : a - a ≡ 0 = omega arith in rw z
-
--- one part behind another
-pub part-join : (s : List ℕ) (a b e : ℕ) → a ≤ b → b ≤ e → part s a b ++ part s b e ≡ part s a e
-part-join s a b e h g =
-    let n : e - a ≡ (b - a) + (e - b) = omega arith in
-    let m : a + (b - a) ≡ b = omega arith in
-    ap (λ (x : List ℕ). part s a b ++ take (e - b) x) (sym (drop-drop (b - a) a s ∙ ap (λ (j : ℕ). drop j s) m))
-    ∙ (sym (take-add (b - a) (e - b) (drop a s)) ∙ ap (λ (j : ℕ). take j (drop a s)) (sym n))
-
-drop-take : (i n : ℕ) (l : List ℕ) → drop i (take n l) ≡ take (n - i) (drop i l)
-drop-take zero n l = let z : n - 0 ≡ n = omega arith in rw z
-drop-take (suc i) zero l = let z : 0 - suc i ≡ 0 = omega arith in rw z
-drop-take (suc i) (suc n) [] = sym (take-nil (suc n - suc i))
-drop-take (suc i) (suc n) (a ∷ l) = let z : suc n - suc i ≡ n - i = omega arith in rw z (drop-take i n l)
-
--- a part of a part
-pub part-part : (s : List ℕ) (a e i j : ℕ) → i ≤ j → a + j ≤ e → part (part s a e) i j ≡ part s (a + i) (a + j)
-part-part s a e i j h g =
-    let n : a + j - (a + i) ≡ j - i = omega arith in
-    ap (take (j - i)) (drop-take i (e - a) (drop a s) ∙ ap (take (e - a - i)) (drop-drop i a s))
-    ∙ (take-take (j - i) (e - a - i) (drop (a + i) s) (omega arith) ∙ ap (λ (k : ℕ). take k (drop (a + i) s)) (sym n))
 
 -- ---- a row of kind body is a line; its text is all but two bytes
 

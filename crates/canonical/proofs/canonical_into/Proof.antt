@@ -14,7 +14,7 @@ use Rattle.canonical.proofs.canonical_into.Statement.{statement}
 use Rattle.canonical.proofs.canonical_into.Tie as tie
 use Rattle.canonical.proofs.canonical_into.Reads as reads
 use Rattle.canonical.proofs.canonical_into.Lts as lts
-use Rattle.canonical.proofs.write_file.Reads as write-file-reads
+use Rattle.canonical.proofs.write_records.Reads as write-records-reads
 use Rattle.characters.proofs.line_at.Reads as line-at-reads
 use Rattle.notebook.proofs.direction.Reads as direction-reads
 
@@ -55,9 +55,9 @@ returns-2 c = search (needs, into-laws)
 add-from : tie.Need-add-from
 add-from c = search (needs, into-laws)
 
-write-file-requires : tie.Need-write-file-requires
+write-records-requires : tie.Need-write-records-requires
 unfolding codes classOf leadOf trailOf isPair allowed fullRow partRow
-write-file-requires c κs = (search (needs, classes-lent), (search (needs, lent), (search (needs, line-size), (search (needs, line-1-behind), search needs))))
+write-records-requires c κs = (search (needs, classes-lent), (search (needs, lent), (search (needs, line-size), (search (needs, line-1-behind), search needs))))
 
 returns-3 : tie.Need-returns-3
 returns-3 c = search (needs, into-laws)
@@ -90,7 +90,7 @@ canonical-into-spec =
     direction-requires
     returns-2
     add-from
-    write-file-requires
+    write-records-requires
     returns-3
     returns-4
     returns-5
