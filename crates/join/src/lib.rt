@@ -31,8 +31,10 @@ fn broken_line(s: &[u8]) -> u32
     let mut n: u32 = 1;
     let mut at: usize = 0;
     while at < s.len() {
-        let e = pieces::row_end(s, at);
-        match pieces::row_kind(&s[at..e]) {
+        let row = pieces::row_at(s, at);
+        let e = row.end;
+        let kind = row.kind;
+        match kind {
             pieces::Row::Body => {
                 at = e;
                 n += 1;
@@ -71,9 +73,9 @@ fn starts_well(s: &[u8]) -> bool
     if s.len() == 0 {
         return false;
     }
-    let at = 0;
-    let e = pieces::row_end(s, at);
-    match pieces::row_kind(&s[at..e]) {
+    let row = pieces::row_at(s, 0);
+    let kind = row.kind;
+    match kind {
         pieces::Row::Body => false,
         pieces::Row::Head(_) => true,
         pieces::Row::EndHead(_) => true,
@@ -94,8 +96,10 @@ fn next_piece(s: &[u8], from: usize) -> Next
 {
     let mut at = from;
     while at < s.len() {
-        let e = pieces::row_end(s, at);
-        match pieces::row_kind(&s[at..e]) {
+        let row = pieces::row_at(s, at);
+        let e = row.end;
+        let kind = row.kind;
+        match kind {
             pieces::Row::Body => {
                 at = e;
             }
@@ -124,8 +128,9 @@ fn goes_on(s: &[u8], at: usize) -> bool
     if s.len() <= at {
         return false;
     }
-    let e = pieces::row_end(s, at);
-    match pieces::row_kind(&s[at..e]) {
+    let row = pieces::row_at(s, at);
+    let kind = row.kind;
+    match kind {
         pieces::Row::Body => true,
         pieces::Row::Head(_) => false,
         pieces::Row::EndHead(_) => false,
@@ -168,8 +173,10 @@ fn read_lines(s: &[u8], from: usize) -> Lines
 {
     let mut at = from;
     while at < s.len() {
-        let e = pieces::row_end(s, at);
-        match pieces::row_kind(&s[at..e]) {
+        let row = pieces::row_at(s, at);
+        let e = row.end;
+        let kind = row.kind;
+        match kind {
             pieces::Row::Body => {
                 let t = e - 2;
                 if pieces::is_mark(&s[at..t]) {

@@ -3,3 +3,4 @@ pub mod MarkLaws
 pub mod Bodies
 pub mod MarkReading
 pub mod RowLaws
+pub mod ScanLaws

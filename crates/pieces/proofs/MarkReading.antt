@@ -1,13 +1,14 @@
 -- The ways through the tests of an ID and the reading of a record 911, by its items. Assumes nothing.
-use Prim.Native.Nat.{ℕ, _+_, _-_, _≤_, _<_}
+use Prim.Native.Nat.{ℕ, zero, suc, _+_, _-_, _≤_, _<_}
 use mathlib.Core.Path.{_≡_, refl, sym, ap, ap₂, _∙_}
 use mathlib.Core.Bool.{Bool, true, false, cond, not, _&&_}
 use mathlib.Core.Option.{Option, none, some}
-use mathlib.Core.List.{List, [], _∷_}
+use mathlib.Core.List.{List, [], _∷_, nil≢cons, head-eq-of-cons-eq}
 use native.Mathlib.Omega.{arith}
 use borrow.Author.Tests.{eq-eqb, ne-eqb, eqb-true, lt-leb, not-true, not-false}
 use lib.Dec.{eqb}
-use lib.ListN.{length, take, drop, length-take, length-drop}
+use lib.ListN.{length, take, drop, getD, length-take, length-drop}
+use lib.Seq.{take-nil}
 use Rattle.lists.specs.Lists.{all, same, part, findFrom}
 use Rattle.lists.proofs.Tests.{both, same-true}
 use Rattle.lists.proofs.Loops.{find-low, find-high}
@@ -44,6 +45,22 @@ items-out : (l : List ℕ) (at : ℕ) → length l < at → itemsFrom l at ≡ [
 unfolding itemsFrom
 items-out l at h = rw (lt-leb at (length l) h)
 
+-- a first item that is 911 begins with a 9
+pub mark-first : (l : List ℕ) {b : ℕ} → b ≡ getD l 0 0 → (b ≡ 0x39 → ⊥) → false ≡ isMark l
+unfolding isMark t911
+mark-first l q n = sym (go (same (firstOf (itemsOf l)) (57 ∷ 49 ∷ 49 ∷ [])) refl)
+  where
+    front : (l : List ℕ) (n : ℕ) {x : List ℕ} → take n l ≡ 57 ∷ x → getD l 0 0 ≡ 57
+    front [] n p = absurd (nil≢cons (sym (take-nil n) ∙ p))
+    front (a ∷ l) zero p = absurd (nil≢cons p)
+    front (a ∷ l) (suc n) p = head-eq-of-cons-eq p
+
+    go : (b : Bool) → same (firstOf (itemsOf l)) (57 ∷ 49 ∷ 49 ∷ []) ≡ b → b ≡ false
+    go false e = refl
+    go true e =
+        let i : firstOf (itemsOf l) ≡ part l 0 (findFrom 0x2c l 0) = ap firstOf (items-all l ∙ item-cut l 0 (omega arith) refl) in
+        absurd (n (q ∙ front l (findFrom 0x2c l 0 - 0) (sym i ∙ same-true (firstOf (itemsOf l)) (57 ∷ 49 ∷ 49 ∷ []) e)))
+
 module _ (l : List ℕ) {e : ℕ} (p : e ≡ findFrom 0x2c l 0) where
   pub mark-item : e ≤ length l
   mark-item = omega (arith, p, find-high 0x2c l 0 (omega arith))
@@ -52,7 +69,7 @@ module _ (l : List ℕ) {e : ℕ} (p : e ≡ findFrom 0x2c l 0) where
   unfolding isMark t911
   mark-is q = q ∙ sym (ap (λ (x : List (List ℕ)). same (firstOf x) (57 ∷ 49 ∷ 49 ∷ [])) (items-all l ∙ item-cut l 0 (omega arith) p))
 
-pub ruleset mark-laws = (mark-item, mark-is)
+pub ruleset mark-laws = (mark-first, mark-item, mark-is)
 
 -- ---- n and k
 

@@ -83,52 +83,23 @@ module _ (s : List ℕ) {at i : ℕ} (h : at < length s) (p : i ≡ findFrom 0x0
 
 pub ruleset row-laws = (row-feed, row-rest)
 
--- ---- the text of a row
-
-pub record Scanned (r : List ℕ) (i : ℕ) : Type 0 where
-  pub left : length (text r) ≡ i + length (text (drop i r))
-
-pub scan-start : (r : List ℕ) → Scanned r 0
-scan-start r = record { left = omega arith }
-
-module _ {r : List ℕ} {i : ℕ} (v : Scanned r i) where
-  stops : i < length r → isStop (getD r i 0) ≡ true → i ≡ length (text r)
-  stops h t = omega (arith, v .left, ap length (upTo-hit isStop r i h t))
-
-  pub scan-return : i < length r → getD r i 0 ≡ 0x0d → i ≡ length (text r)
-  scan-return h e = stops h (rw e)
-
-  pub scan-feed : i < length r → getD r i 0 ≡ 0x0a → i ≡ length (text r)
-  scan-feed h e = stops h (rw e)
-
-  pub scan-mark : i < length r → getD r i 0 ≡ 0x1a → i ≡ length (text r)
-  scan-mark h e = stops h (rw e)
-
-  pub scan-go : i < length r → (getD r i 0 ≡ 0x0d → ⊥) → (getD r i 0 ≡ 0x0a → ⊥) → (getD r i 0 ≡ 0x1a → ⊥) → Scanned r (i + 1)
-  scan-go h a b c =
-      let t : isStop (getD r i 0) ≡ false = rw (ne-eqb (getD r i 0) 0x0d a, ne-eqb (getD r i 0) 0x0a b, ne-eqb (getD r i 0) 0x1a c) in
-      record { left = omega (arith, v .left, ap length (upTo-go isStop r i h t)) }
-
-  pub scan-out : length r ≤ i → i ≡ length (text r)
-  scan-out h = omega (arith, v .left, ap length (upTo-out isStop r i h))
-
-pub ruleset scan-laws = (scan-start, scan-return, scan-feed, scan-mark, scan-go, scan-out)
-
 -- ---- a line: its text, and 0Dh 0Ah
 
 same-behind : (t x y : List ℕ) → same (t ++ x) (t ++ y) ≡ same x y
 same-behind [] x y = refl
 same-behind (a ∷ t) x y = rw (eq-eqb a a refl) (same-behind t x y)
 
-pub line-start : (r : List ℕ) {e : ℕ} → e ≡ length (text r) → e ≤ length r
-line-start r p = omega (arith, p, upTo-le isStop r)
+module _ (r : List ℕ) {e : ℕ} (p : e ≡ 0 + length (text (drop 0 r))) where
+  pub line-start : e ≤ length r
+  line-start = omega (arith, p, upTo-le isStop r)
 
-pub line-end : (r : List ℕ) {e : ℕ} {x : Bool} → e ≡ length (text r) → x ≡ same (take (length r - e) (drop e r)) (0x0d ∷ 0x0a ∷ []) → x ≡ isLine r
-unfolding isLine
-line-end r {e} p q =
-    let d : text r ++ drop e r ≡ r = ap (λ (j : ℕ). text r ++ drop j r) p ∙ upTo-split isStop r in
-    let s : same r (text r ++ lineEnd) ≡ same (drop e r) lineEnd = ap (λ (z : List ℕ). same z (text r ++ lineEnd)) (sym d) ∙ same-behind (text r) (drop e r) lineEnd in
-    q ∙ ap (λ (z : List ℕ). same z lineEnd) (rest-all e r) ∙ sym s
+  pub line-end : {x : Bool} → x ≡ same (take (length r - e) (drop e r)) (0x0d ∷ 0x0a ∷ []) → x ≡ isLine r
+  unfolding isLine
+  line-end q =
+      let n : e ≡ length (text r) = omega (arith, p) in
+      let d : text r ++ drop e r ≡ r = ap (λ (j : ℕ). text r ++ drop j r) n ∙ upTo-split isStop r in
+      let s : same r (text r ++ lineEnd) ≡ same (drop e r) lineEnd = ap (λ (z : List ℕ). same z (text r ++ lineEnd)) (sym d) ∙ same-behind (text r) (drop e r) lineEnd in
+      q ∙ ap (λ (z : List ℕ). same z lineEnd) (rest-all e r) ∙ sym s
 
 pub ruleset line-laws = (line-start, line-end)
 

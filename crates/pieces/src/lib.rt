@@ -2,13 +2,13 @@
 // between two pieces stands at the front of the next piece's line 1. Definitions: specs/Marks.antt, specs/Pieces.antt; what the code
 // answers, in their words: specs/Answers.antt.
 ghost use mathlib.Core.Path.{_≡_};
-ghost use Prim.Native.Nat.{_≤_, _<_};
-ghost use lib.ListN.{length};
+ghost use Prim.Native.Nat.{_+_, _≤_, _<_};
+ghost use lib.ListN.{length, drop};
 ghost use Rattle.characters.specs.Text.{text};
 ghost use Rattle.characters.specs.Rows.{isLine};
 ghost use Rattle.records.specs.Records.{isMark};
 ghost use Rattle.pieces.specs.Marks.{validID};
-ghost use Rattle.pieces.specs.Answers.{RowAt, KindIs, NumbersIs, MarkIs};
+ghost use Rattle.pieces.specs.Answers.{RowAt, KindIs, RowIs, PlainWhere, Skipped, NumbersIs, MarkIs};
 
 // "A valid ID is 14 digits and nothing else."
 pub fn valid_id(id: &[u8]) -> bool
@@ -24,6 +24,9 @@ pub fn valid_id(id: &[u8]) -> bool
 pub fn is_mark(line: &[u8]) -> bool
     ensures { λ r. ⌜ r ≡ isMark (now (line .entry)) ⌝ }
 {
+    if lists::byte_at(line, 0) != 0x39 {
+        return false;
+    }
     let e = lists::find_byte(line, 0, 0x2c);
     let number = b"911";
     lists::same_bytes(&line[0..e], number)
@@ -84,25 +87,58 @@ pub fn read_mark(line: &[u8]) -> Numbers
     read_numbers(line, j)
 }
 
+// Whether eight bytes are all above 1Ah, so that no line end stands among them. Without a way out of its loop they are compared at once.
+fn eight_plain(s: &[u8], at: usize) -> bool
+    requires { ⌜ at + 8 ≤ length (now s) ⌝ }
+    ensures { λ r. ⌜ PlainWhere (now (s .entry)) at 8 r ⌝ }
+{
+    let mut plain = true;
+    let mut j = 0;
+    while j < 8 {
+        if s[at + j] <= 0x1a {
+            plain = false;
+        }
+        j += 1;
+    }
+    plain
+}
+
+// Behind as many eights of such bytes as follow a position.
+fn skip_plain(s: &[u8], at: usize) -> usize
+    requires { ⌜ at ≤ length (now s) ⌝ }
+    ensures { λ r. ⌜ Skipped (now (s .entry)) at r ⌝ }
+{
+    let mut i = at;
+    while 8 <= s.len() - i {
+        if !eight_plain(s, i) {
+            return i;
+        }
+        i += 8;
+    }
+    i
+}
+
 // Where the row that begins at a position ends: behind a 0Ah, or at the end.
 pub fn row_end(s: &[u8], at: usize) -> usize
     requires { ⌜ at < length (now s) ⌝ }
     ensures { λ e. ⌜ RowAt (now (s .entry)) at e ⌝ }
 {
-    let i = lists::find_byte(s, at, 0x0a);
+    let p = skip_plain(s, at);
+    let i = lists::find_byte(s, p, 0x0a);
     if i < s.len() {
         return i + 1;
     }
     i
 }
 
-// How many bytes stand before the first 0Dh, 0Ah or 1Ah.
-pub fn text_length(r: &[u8]) -> usize
-    ensures { λ n. ⌜ n ≡ length (text (now (r .entry))) ⌝ }
+// Where the text from a position on ends: at the first 0Dh, 0Ah or 1Ah, or at the end.
+fn text_end(s: &[u8], at: usize) -> usize
+    requires { ⌜ at ≤ length (now s) ⌝ }
+    ensures { λ r. ⌜ r ≡ at + length (text (drop at (now (s .entry)))) ⌝ }
 {
-    let mut i = 0;
-    while i < r.len() {
-        let b = r[i];
+    let mut i = skip_plain(s, at);
+    while i < s.len() {
+        let b = s[i];
         if b == 0x0d {
             return i;
         }
@@ -121,7 +157,7 @@ pub fn text_length(r: &[u8]) -> usize
 pub fn is_line(r: &[u8]) -> bool
     ensures { λ x. ⌜ x ≡ isLine (now (r .entry)) ⌝ }
 {
-    let e = text_length(r);
+    let e = text_end(r, 0);
     let end = b"\r\n";
     lists::same_bytes(&r[e..], end)
 }
@@ -165,4 +201,53 @@ pub fn row_kind(r: &[u8]) -> Row
         return Row::EndHead(false);
     }
     Row::Broken
+}
+
+// A row: where it ends, and its kind.
+pub struct RowRead {
+    pub end: usize,
+    pub kind: Row,
+}
+
+// The row that begins at a position, of whatever kind.
+fn any_row(s: &[u8], at: usize) -> RowRead
+    requires { ⌜ at < length (now s) ⌝ }
+    ensures { λ r. ⌜ RowIs (now (s .entry)) at r ⌝ }
+{
+    let e = row_end(s, at);
+    RowRead {
+        end: e,
+        kind: row_kind(&s[at..e]),
+    }
+}
+
+// The same: a text with its line end that cannot be a line 1, by its length or its first byte, is looked at once.
+pub fn row_at(s: &[u8], at: usize) -> RowRead
+    requires { ⌜ at < length (now s) ⌝ }
+    ensures { λ r. ⌜ RowIs (now (s .entry)) at r ⌝ }
+{
+    let i = text_end(s, at);
+    if s.len() - i < 2 {
+        return any_row(s, at);
+    }
+    let j = i + 1;
+    if s[i] != 0x0d {
+        return any_row(s, at);
+    }
+    if s[j] != 0x0a {
+        return any_row(s, at);
+    }
+    let e = i + 2;
+    if e - at == 13 {
+        if s[at] == 0x4a {
+            return RowRead {
+                end: e,
+                kind: row_kind(&s[at..e]),
+            };
+        }
+    }
+    RowRead {
+        end: e,
+        kind: Row::Body,
+    }
 }

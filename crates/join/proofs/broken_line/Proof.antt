@@ -6,8 +6,7 @@ use Rattle.join.proofs.broken_line.Statement.{statement}
 use Rattle.join.proofs.broken_line.Tie as tie
 use Rattle.join.proofs.broken_line.Reads as reads
 use Rattle.join.proofs.broken_line.Lts as lts
-use Rattle.pieces.proofs.row_end.Reads as row-end-reads
-use Rattle.pieces.proofs.row_kind.Reads as row-kind-reads
+use Rattle.pieces.proofs.row_at.Reads as row-at-reads
 
 abbrev Inv-loop : tie.InvT-loop
 Inv-loop s begun₀ n₀ at₀ begun n at = Walk s begun n at
@@ -21,20 +20,8 @@ returns c = search (needs, walk-laws)
 loop-holds : tie.Need-loop-holds Inv-loop μ-loop
 loop-holds c = search (needs, walk-laws)
 
-row-end-requires : tie.Need-row-end-requires Inv-loop μ-loop
-row-end-requires c κs = search (needs, walk-laws)
-
-sub-row-kind : tie.Need-sub-row-kind Inv-loop μ-loop
-sub-row-kind c = search (needs, walk-laws)
-
-part-row-kind-start : tie.Need-part-row-kind-start Inv-loop μ-loop
-part-row-kind-start c = search (needs, walk-laws)
-
-part-row-kind-end : tie.Need-part-row-kind-end Inv-loop μ-loop
-part-row-kind-end c = search (needs, walk-laws)
-
-row-kind-requires : tie.Need-row-kind-requires Inv-loop μ-loop
-row-kind-requires c κs = search (needs, walk-laws)
+row-at-requires : tie.Need-row-at-requires Inv-loop μ-loop
+row-at-requires c κs = search (needs, walk-laws)
 
 enum-told : tie.Need-enum-told Inv-loop μ-loop
 enum-told c = search (needs, walk-laws)
@@ -107,11 +94,7 @@ broken-line-spec =
     μ-loop
     returns
     loop-holds
-    row-end-requires
-    sub-row-kind
-    part-row-kind-start
-    part-row-kind-end
-    row-kind-requires
+    row-at-requires
     enum-told
     add-n
     loop-less

@@ -6,8 +6,7 @@ use Rattle.join.proofs.next_piece.Statement.{statement}
 use Rattle.join.proofs.next_piece.Tie as tie
 use Rattle.join.proofs.next_piece.Reads as reads
 use Rattle.join.proofs.next_piece.Lts as lts
-use Rattle.pieces.proofs.row_end.Reads as row-end-reads
-use Rattle.pieces.proofs.row_kind.Reads as row-kind-reads
+use Rattle.pieces.proofs.row_at.Reads as row-at-reads
 
 abbrev Inv-loop : tie.InvT-loop
 Inv-loop s from at₀ at = Looking s from at
@@ -18,20 +17,8 @@ abbrev μ-loop : tie.MeasureT-loop
 loop-holds : tie.Need-loop-holds Inv-loop μ-loop
 loop-holds c = search (needs, look-laws)
 
-row-end-requires : tie.Need-row-end-requires Inv-loop μ-loop
-row-end-requires c κs = search (needs, look-laws)
-
-sub-row-kind : tie.Need-sub-row-kind Inv-loop μ-loop
-sub-row-kind c = search (needs, look-laws)
-
-part-row-kind-start : tie.Need-part-row-kind-start Inv-loop μ-loop
-part-row-kind-start c = search (needs, look-laws)
-
-part-row-kind-end : tie.Need-part-row-kind-end Inv-loop μ-loop
-part-row-kind-end c = search (needs, look-laws)
-
-row-kind-requires : tie.Need-row-kind-requires Inv-loop μ-loop
-row-kind-requires c κs = search (needs, look-laws)
+row-at-requires : tie.Need-row-at-requires Inv-loop μ-loop
+row-at-requires c κs = search (needs, look-laws)
 
 enum-told : tie.Need-enum-told Inv-loop μ-loop
 enum-told c = search (needs, look-laws)
@@ -42,14 +29,14 @@ loop-less c = search (needs, look-laws)
 loop-again : tie.Need-loop-again Inv-loop μ-loop
 loop-again c = search (needs, look-laws)
 
-enum-known-d : tie.Need-enum-known-d Inv-loop μ-loop
-enum-known-d c = search (needs, look-laws)
+enum-known-kind : tie.Need-enum-known-kind Inv-loop μ-loop
+enum-known-kind c = search (needs, look-laws)
 
 returns : tie.Need-returns Inv-loop μ-loop
 returns c = search (needs, look-laws)
 
-enum-known-d-2 : tie.Need-enum-known-d-2 Inv-loop μ-loop
-enum-known-d-2 c = search (needs, look-laws)
+enum-known-kind-2 : tie.Need-enum-known-kind-2 Inv-loop μ-loop
+enum-known-kind-2 c = search (needs, look-laws)
 
 returns-2 : tie.Need-returns-2 Inv-loop μ-loop
 returns-2 c = search (needs, look-laws)
@@ -82,17 +69,13 @@ next-piece-spec =
     Inv-loop
     μ-loop
     loop-holds
-    row-end-requires
-    sub-row-kind
-    part-row-kind-start
-    part-row-kind-end
-    row-kind-requires
+    row-at-requires
     enum-told
     loop-less
     loop-again
-    enum-known-d
+    enum-known-kind
     returns
-    enum-known-d-2
+    enum-known-kind-2
     returns-2
     enum-told-2
     loop-less-2

@@ -8,8 +8,7 @@ use Rattle.join.proofs.read_lines.Reads as reads
 use Rattle.join.proofs.read_lines.Lts as lts
 use Rattle.join.proofs.last_mark.Reads as last-mark-reads
 use Rattle.pieces.proofs.is_mark.Reads as is-mark-reads
-use Rattle.pieces.proofs.row_end.Reads as row-end-reads
-use Rattle.pieces.proofs.row_kind.Reads as row-kind-reads
+use Rattle.pieces.proofs.row_at.Reads as row-at-reads
 
 abbrev Inv-loop : tie.InvT-loop
 Inv-loop s from at₀ at = Before s from at
@@ -20,20 +19,8 @@ abbrev μ-loop : tie.MeasureT-loop
 loop-holds : tie.Need-loop-holds Inv-loop μ-loop
 loop-holds c = search (needs, lines-laws)
 
-row-end-requires : tie.Need-row-end-requires Inv-loop μ-loop
-row-end-requires c κs = search (needs, lines-laws)
-
-sub-row-kind : tie.Need-sub-row-kind Inv-loop μ-loop
-sub-row-kind c = search (needs, lines-laws)
-
-part-row-kind-start : tie.Need-part-row-kind-start Inv-loop μ-loop
-part-row-kind-start c = search (needs, lines-laws)
-
-part-row-kind-end : tie.Need-part-row-kind-end Inv-loop μ-loop
-part-row-kind-end c = search (needs, lines-laws)
-
-row-kind-requires : tie.Need-row-kind-requires Inv-loop μ-loop
-row-kind-requires c κs = search (needs, lines-laws)
+row-at-requires : tie.Need-row-at-requires Inv-loop μ-loop
+row-at-requires c κs = search (needs, lines-laws)
 
 enum-told : tie.Need-enum-told Inv-loop μ-loop
 enum-told c = search (needs, lines-laws)
@@ -99,11 +86,7 @@ read-lines-spec =
     Inv-loop
     μ-loop
     loop-holds
-    row-end-requires
-    sub-row-kind
-    part-row-kind-start
-    part-row-kind-end
-    row-kind-requires
+    row-at-requires
     enum-told
     sub-t
     sub-is-mark

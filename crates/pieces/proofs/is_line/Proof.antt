@@ -7,10 +7,10 @@ use Rattle.pieces.proofs.is_line.Tie as tie
 use Rattle.pieces.proofs.is_line.Reads as reads
 use Rattle.pieces.proofs.is_line.Lts as lts
 use Rattle.lists.proofs.same_bytes.Reads as same-bytes-reads
-use Rattle.pieces.proofs.text_length.Reads as text-length-reads
+use Rattle.pieces.proofs.text_end.Reads as text-end-reads
 
-text-length-requires : tie.Need-text-length-requires
-text-length-requires c κs = search needs
+text-end-requires : tie.Need-text-end-requires
+text-end-requires c κs = search needs
 
 sub-same-bytes : tie.Need-sub-same-bytes
 sub-same-bytes c = search (needs, line-laws)
@@ -31,7 +31,7 @@ pub is-line-spec : {M : Type 1} → statement M
 is-line-spec =
     tie.close
     (tie.spec
-    text-length-requires
+    text-end-requires
     sub-same-bytes
     part-same-bytes-start
     part-same-bytes-end

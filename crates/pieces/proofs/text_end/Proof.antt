@@ -1,17 +1,21 @@
 use borrow.Author.Needs.{needs}
 use Prim.Native.Nat.{_-_}
 use lib.ListN.{length}
-use Rattle.pieces.proofs.RowLaws.{Scanned, scan-laws}
-use Rattle.pieces.proofs.text_length.Statement.{statement}
-use Rattle.pieces.proofs.text_length.Tie as tie
-use Rattle.pieces.proofs.text_length.Reads as reads
-use Rattle.pieces.proofs.text_length.Lts as lts
+use Rattle.pieces.proofs.ScanLaws.{Scanned, scan-laws}
+use Rattle.pieces.proofs.text_end.Statement.{statement}
+use Rattle.pieces.proofs.text_end.Tie as tie
+use Rattle.pieces.proofs.text_end.Reads as reads
+use Rattle.pieces.proofs.text_end.Lts as lts
+use Rattle.pieces.proofs.skip_plain.Reads as skip-plain-reads
 
 abbrev Inv-loop : tie.InvT-loop
-Inv-loop r i₀ i = Scanned r i
+Inv-loop s at i₀ i = Scanned s at i
 
 abbrev μ-loop : tie.MeasureT-loop
-μ-loop r i₀ i = length r - i
+μ-loop s at i₀ i = length s - i
+
+skip-plain-requires : tie.Need-skip-plain-requires Inv-loop μ-loop
+skip-plain-requires c κs = search (needs, scan-laws)
 
 loop-holds : tie.Need-loop-holds Inv-loop μ-loop
 loop-holds c = search (needs, scan-laws)
@@ -40,12 +44,13 @@ loop-again c = search (needs, scan-laws)
 returns-4 : tie.Need-returns-4 Inv-loop μ-loop
 returns-4 c = search (needs, scan-laws)
 
-pub text-length-spec : {M : Type 1} → statement M
-text-length-spec =
+pub text-end-spec : {M : Type 1} → statement M
+text-end-spec =
     tie.close
     (tie.spec
     Inv-loop
     μ-loop
+    skip-plain-requires
     loop-holds
     shared-slice-read-b
     returns
