@@ -30,8 +30,8 @@ use Rattle.join.specs.declared.Lines.{Lines}
 use Rattle.join.specs.declared.Lines.the-variants.{Plain, Marked, Wrong}
 use Rattle.join.specs.declared.Member.the-variants.{Of, Foreign}
 use Rattle.join.specs.Join.{unmarked, Part, before, lastMark, partOf, with, agree}
-use Rattle.join.specs.Spans.{isBody, goesOn, LineAt, partBy, identAt, MarkedLines, LastMeans, LastIs, LinesMean, LinesAre, agreed, Within, MemberIs}
-use Rattle.join.proofs.WalkLaws.{row-bounds, goes-over, goes-head, goes-end-head, goes-end, goes-broken}
+use Rattle.join.specs.Spans.{isWhole, unbroken, isBody, goesOn, LineAt, partBy, identAt, MarkedLines, LastMeans, LastIs, LinesMean, LinesAre, agreed, Within, MemberIs}
+use Rattle.join.proofs.WalkLaws.{row-bounds, goes-over, goes-head, goes-end-head, goes-end, goes-broken, unbroken-step}
 
 -- ---- a row of kind body is a line; its text is all but two bytes
 
@@ -175,6 +175,20 @@ pieces-front (r ∷ rs) xs e =
     go end e i = absurd (false≢true e)
     go broken e i = absurd (false≢true e)
 
+unbroken-front : (rs xs : List (List ℕ)) → allBody rs ≡ true → unbroken (rs ++ xs) ≡ unbroken xs
+unfolding allBody unbroken
+unbroken-front [] xs e = refl
+unbroken-front (r ∷ rs) xs e =
+    let p : (isBody (kindOf r) ≡ true) × (allBody rs ≡ true) = both (isBody (kindOf r)) (allBody rs) e in
+    go (kindOf r) (p .0) (unbroken-front rs xs (p .1))
+  where
+    go : (k : Kind) → isBody k ≡ true → unbroken (rs ++ xs) ≡ unbroken xs → (isWhole k && unbroken (rs ++ xs)) ≡ unbroken xs
+    go (head x) e i = absurd (false≢true e)
+    go (endHead x) e i = absurd (false≢true e)
+    go body e i = i
+    go end e i = absurd (false≢true e)
+    go broken e i = absurd (false≢true e)
+
 body-snoc : (rs : List (List ℕ)) (r : List ℕ) → allBody rs ≡ true → isBody (kindOf r) ≡ true → allBody (rs ++ r ∷ []) ≡ true
 unfolding allBody
 body-snoc [] r e h = rw h
@@ -236,6 +250,9 @@ module _ {s : List ℕ} {from at : ℕ} (v : Before s from at) where
   whole-pieces : piecesIn (rows (drop from s)) ≡ piecesIn (rows (drop at s))
   whole-pieces = ap piecesIn (v .cut) ∙ pieces-front (v .front) (rows (drop at s)) (v .bodies)
 
+  whole-unbroken : unbroken (rows (drop from s)) ≡ unbroken (rows (drop at s))
+  whole-unbroken = ap unbroken (v .cut) ∙ unbroken-front (v .front) (rows (drop at s)) (v .bodies)
+
   -- nothing of the piece is left
   over : goesOn (rows (drop at s)) ≡ false → LinesAre s from (Plain at)
   unfolding partOf
@@ -250,6 +267,8 @@ module _ {s : List ℕ} {from at : ℕ} (v : Before s from at) where
           none = λ d. ap (partOf d) b ∙ (part-front d (v .front) [] (v .plain) ∙ front-none (v .front));
           bytes = ap flat f ∙ v .bytes;
           next = whole-pieces;
+          over = e;
+          whole = whole-unbroken;
         };
       }
 
@@ -341,6 +360,8 @@ module _ {s : List ℕ} {from at : ℕ} (v : Before s from at) where
                     ∙ ap (λ (w : List (List ℕ)). some (partBy d (identAt s at) n j w)) (append-nil (v .front))));
                 bytes = v .bytes;
                 next = next-pieces;
+                over = m .last;
+                whole = whole-unbroken ∙ unbroken-step s x p q;
               }))
 
           pub lines-last : {r : Lines} → LastIs s at e r → LinesAre s from r
@@ -438,6 +459,8 @@ module _ {s : List ℕ} {e : ℕ} {side d : Bool} {i : List ℕ} {n : ℕ} {r : 
                 is = (lines v q) .is side ∙ same-part g f u;
                 bytes = (lines v q) .bytes;
                 next = (lines v q) .next;
+                over = (lines v q) .over;
+                whole = (lines v q) .whole;
               };
             }
           where

@@ -24,7 +24,7 @@ use Rattle.notebook.specs.Check.{checked, checkOf}
 use Rattle.pieces.specs.Pieces.{brokenLine, Piece, bodyOf, piecesIn, startsWell, splitRows, split, fileOf}
 use Rattle.pieces.proofs.RowLaws.{head-true, head-false}
 use Rattle.join.specs.declared.Next.{Next}
-use Rattle.join.specs.declared.Next.the-variants.{Opens, Over}
+use Rattle.join.specs.declared.Next.the-variants.{Opens, Over, Stray}
 use Rattle.join.specs.declared.Lines.{Lines}
 use Rattle.join.specs.declared.Lines.the-variants.{Plain, Marked, Wrong}
 use Rattle.join.specs.declared.Filled.{Filled}
@@ -34,8 +34,9 @@ use Rattle.join.specs.declared.Made.the-variants.{Bytes, No}
 use Rattle.join.specs.declared.Joining.{Joining}
 use Rattle.join.specs.declared.Joining.the-variants.{Joined, Refused}
 use Rattle.join.specs.Join.{unmarked, Part, partOf, with, partsOf, agree, gather, whole, joinParts, joinPieces, orSet, joinSplit, joinedFile, checkedFile, thenChecked, joinFile, held, joinOf, bytesOf, bufferAfter, joinBuffer}
-use Rattle.join.specs.Spans.{Opened, NextMeans, NextIs, PlainLines, partBy, identAt, MarkedLines, WrongLines, LinesMean, LinesAre, like, isSet, Blank, Collected, CollectMeans, CollectIs, taken, spans, FillMeans, FillIs, MadeMeans, MadeIs, Given, GivenSet, First, Input}
-use Rattle.canonical.proofs.PartLaws.{part-length}
+use Rattle.join.specs.Spans.{unbroken, sound, Opened, Ended, NextMeans, NextIs, OpenedFirst, FirstMeans, FirstIs, PlainLines, partBy, identAt, MarkedLines, WrongLines, LinesMean, LinesAre, like, isSet, Blank, Collected, CollectMeans, CollectIs, taken, spans, FillMeans, FillIs, MadeMeans, MadeIs, SoundMeans, SoundIs, Given, GivenSet, First, Input}
+use Rattle.join.proofs.WalkLaws.{sound-line, line-sound}
+use Rattle.join.proofs.BodyLaws.{part-length}
 use Rattle.join.proofs.SetLaws.{agree-self, Gathers, gathers}
 
 -- ---- line 1
@@ -94,6 +95,14 @@ module _ {D D₁ D₂ s a b : List ℕ} {o n : ℕ} (d : Bool) (g : GivenSet D s
 
 pub ruleset spans-laws = (spans-large, spans-done)
 
+-- of a sound input
+settled : {s d : List ℕ} {x : Res (List ℕ)} {r : Made} → sound (rows s) ≡ true → MadeIs x d r → SoundIs s x d r
+settled {s} {d} {x} {r} e m = record { means = go r (m .means); size = m .size }
+  where
+    go : (r : Made) → MadeMeans x d r → SoundMeans s x d r
+    go (Bytes t) w = (e, w .0, w .1)
+    go (No n line) w = λ _. w
+
 -- ---- a set like its first piece
 
 -- a part is compared by its direction, ID and count alone
@@ -118,10 +127,10 @@ module _ {D s : List ℕ} {d : Bool} {last n : ℕ} (g : First D s d last n) whe
       (like-same (firstOf g) ps)
 
   lost : {D₁ : List ℕ} → length D₁ ≡ 65536 → joinParts (partsOf (piecesIn (rows s))) ≡ none
-      → MadeIs (orSet (joinParts (partsOf (piecesIn (rows s))))) D₁ (No 19 0)
-  lost z e = record { means = ap (λ (x : Option Piece). thenChecked (orSet x)) e; size = z }
+      → SoundIs s (orSet (joinParts (partsOf (piecesIn (rows s))))) D₁ (No 19 0)
+  lost z e = record { means = λ _. ap (λ (x : Option Piece). thenChecked (orSet x)) e; size = z }
 
-  pub set-few : n ≤ 1 → MadeIs (orSet (joinParts (partsOf (piecesIn (rows s))))) D (No 19 0)
+  pub set-few : n ≤ 1 → SoundIs s (orSet (joinParts (partsOf (piecesIn (rows s))))) D (No 19 0)
   set-few h = lost (g .size) (ap joinParts (g .is) ∙ go (g .others) refl)
     where
       go : (o : Option (List Part)) → g .others ≡ o → joinParts (with (some (firstOf g)) o) ≡ none
@@ -135,6 +144,7 @@ module _ {D s : List ℕ} {d : Bool} {last n : ℕ} (g : First D s d last n) whe
   pub set-blank : Blank s (replicate 1000 0) (replicate 1000 0)
   set-blank = record {
     small = g .small;
+    over = g .over;
     sizes = record { starts = length-replicate {A = ℕ} 1000 0; ends = length-replicate {A = ℕ} 1000 0 };
     starts = λ k h. getD-replicate {A = ℕ} 1000 k 0 0 h;
     ends = λ k h. getD-replicate {A = ℕ} 1000 k 0 0 h;
@@ -142,10 +152,15 @@ module _ {D s : List ℕ} {d : Bool} {last n : ℕ} (g : First D s d last n) whe
 
   module _ {a b : List ℕ} {x : Bool} (v : CollectIs s d (take (last + 18 - (last + 4)) (drop (last + 4) s)) n a b x) where
     -- no set: isSet says so of the same parts
-    pub set-lost : 1 < n → not x ≡ true → MadeIs (orSet (joinParts (partsOf (piecesIn (rows s))))) D (No 19 0)
+    pub set-lost : 1 < n → not x ≡ true → SoundIs s (orSet (joinParts (partsOf (piecesIn (rows s))))) D (No 19 0)
     set-lost h q =
-        let e : isSet d (identAt s last) n (partsOf (piecesIn (rows s))) ≡ false = subst (CollectMeans s d (identAt s last) n a b) (not-true x q) (v .means) in
-        lost (g .size) (ap joinParts (g .is) ∙ go (g .others) (ap (isSet d (identAt s last) n) (sym (g .is)) ∙ e))
+        let f : unbroken (rows s) ≡ true → isSet d (identAt s last) n (partsOf (piecesIn (rows s))) ≡ false =
+        subst (CollectMeans s d (identAt s last) n a b) (not-true x q) (v .means) in
+        record {
+          means = λ w. ap (λ (o : Option (List Part)). thenChecked (orSet (joinParts o))) (g .is)
+              ∙ ap (λ (o : Option Piece). thenChecked (orSet o)) (go (g .others) (ap (isSet d (identAt s last) n) (sym (g .is)) ∙ f (sym (g .sound) ∙ w)));
+          size = g .size;
+        }
       where
         go : (o : Option (List Part)) → isSet d (identAt s last) n (with (some (firstOf g)) o) ≡ false
             → joinParts (with (some (firstOf g)) o) ≡ none
@@ -183,7 +198,7 @@ module _ {D s : List ℕ} {d : Bool} {last n : ℕ} (g : First D s d last n) whe
       gathered = gathers (collected .slots) n 1 (omega (arith, g .count))
 
       module _ {y : Bool} (w : y ≡ taken a n 1) where
-        pub set-missing : not y ≡ true → MadeIs (orSet (joinParts (partsOf (piecesIn (rows s))))) D (No 19 0)
+        pub set-missing : not y ≡ true → SoundIs s (orSet (joinParts (partsOf (piecesIn (rows s))))) D (No 19 0)
         set-missing z = lost (g .size) (joins ∙ go (gather (collected .seen) n 1) gathered)
           where
             go : (o : Option (List (List ℕ))) → Gathers s a b n 1 o → whole d o ≡ none
@@ -191,9 +206,11 @@ module _ {D s : List ℕ} {d : Bool} {last n : ℕ} (g : First D s d last n) whe
             go (some rs) i = absurd (false≢true (sym (not-true y z) ∙ (w ∙ i .0)))
 
         pub set-done : {D₁ : List ℕ} {r : Made} → not y ≡ false → MadeIs (ok (headRow d ++ spans s a b n 1)) D₁ r
-            → MadeIs (orSet (joinParts (partsOf (piecesIn (rows s))))) D₁ r
+            → SoundIs s (orSet (joinParts (partsOf (piecesIn (rows s))))) D₁ r
         unfolding fileOf
-        set-done {D₁} {r} z m = subst (λ (k : Res (List ℕ)). MadeIs k D₁ r) (sym (ap orSet joins ∙ go (gather (collected .seen) n 1) gathered)) m
+        set-done {D₁} {r} z m =
+            settled (g .sound ∙ collected .whole)
+            (subst (λ (k : Res (List ℕ)). MadeIs k D₁ r) (sym (ap orSet joins ∙ go (gather (collected .seen) n 1) gathered)) m)
           where
             go : (o : Option (List (List ℕ))) → Gathers s a b n 1 o → orSet (whole d o) ≡ ok (headRow d ++ spans s a b n 1)
             go none i = absurd (false≢true (sym i ∙ (sym w ∙ not-false y z)))
@@ -208,17 +225,25 @@ unfolding joinPieces
 several x [] e = rw e
 several x (y ∷ xs) e = refl
 
-module _ {D s : List ℕ} (g : Input D s) {r : Next} (x : NextIs s 0 r) where
-  nineteen : joinPieces (piecesIn (rows s)) ≡ none → MadeIs (orSet (joinPieces (piecesIn (rows s)))) D (No 19 0)
-  nineteen e = record { means = ap (λ (o : Option Piece). thenChecked (orSet o)) e; size = g .size }
+module _ {D s : List ℕ} (g : Input D s) {r : Next} (x : FirstIs s r) where
+  nineteen : joinPieces (piecesIn (rows s)) ≡ none → SoundIs s (orSet (joinPieces (piecesIn (rows s)))) D (No 19 0)
+  nineteen e = record { means = λ _. ap (λ (o : Option Piece). thenChecked (orSet o)) e; size = g .size }
 
-  pub pieces-over : r ≡ Over → MadeIs (orSet (joinPieces (piecesIn (rows s)))) D (No 19 0)
-  unfolding joinPieces
-  pieces-over q = nineteen (ap joinPieces (subst (NextMeans s 0) q (x .means)))
+  unsound : sound (rows s) ≡ false → SoundIs s (orSet (joinPieces (piecesIn (rows s)))) D (No 19 0)
+  unsound e = record { means = λ w. absurd (false≢true (sym e ∙ w)); size = g .size }
+
+  pub pieces-over : r ≡ Over → SoundIs s (orSet (joinPieces (piecesIn (rows s)))) D (No 19 0)
+  pieces-over q = unsound (subst (FirstMeans s) q (x .means))
+
+  pub pieces-stray : r ≡ Stray → SoundIs s (orSet (joinPieces (piecesIn (rows s)))) D (No 19 0)
+  pieces-stray q = unsound (subst (FirstMeans s) q (x .means))
 
   module _ {e : ℕ} {d : Bool} (q : r ≡ Opens e d) where
+    foremost : OpenedFirst s e d
+    foremost = subst (FirstMeans s) q (x .means)
+
     opening : Opened s 0 e d
-    opening = subst (NextMeans s 0) q (x .means)
+    opening = foremost .opened
 
     pub pieces-from : e ≤ length s
     pieces-from = opening .high
@@ -231,7 +256,7 @@ module _ {D s : List ℕ} (g : Input D s) {r : Next} (x : NextIs s 0 r) where
       mean : {j : Lines} → l ≡ j → LinesMean s e j
       mean t = subst (LinesMean s e) t (v .mean)
 
-      pub pieces-wrong : l ≡ Wrong → MadeIs (orSet (joinPieces (piecesIn (rows s)))) D (No 19 0)
+      pub pieces-wrong : l ≡ Wrong → SoundIs s (orSet (joinPieces (piecesIn (rows s)))) D (No 19 0)
       unfolding partsOf
       pieces-wrong t =
           let w : WrongLines s e = mean t in
@@ -253,15 +278,17 @@ module _ {D s : List ℕ} (g : Input D s) {r : Next} (x : NextIs s 0 r) where
           lines = marked .lines;
           others = partsOf (piecesIn (rows (drop e s)));
           is = by-parts ∙ ap (λ (o : Option Part). with o (partsOf (piecesIn (rows (drop e s))))) (marked .is d);
+          over = foremost .over;
+          sound = foremost .sound ∙ sym (opening .whole);
         }
 
-        pub pieces-set : {D₁ : List ℕ} {m : Made} → MadeIs (orSet (joinParts (partsOf (piecesIn (rows s))))) D₁ m
-            → MadeIs (orSet (joinPieces (piecesIn (rows s)))) D₁ m
+        pub pieces-set : {D₁ : List ℕ} {m : Made} → SoundIs s (orSet (joinParts (partsOf (piecesIn (rows s))))) D₁ m
+            → SoundIs s (orSet (joinPieces (piecesIn (rows s)))) D₁ m
         pieces-set {D₁} {m} y =
             let z : joinPieces (piecesIn (rows s)) ≡ joinParts (partsOf (piecesIn (rows s))) =
             ap joinPieces (opening .is) ∙ (several (record { provider = d; rows = bodyOf (rows (drop e s)) }) (piecesIn (rows (drop e s))) (marked .marked)
             ∙ ap (λ (ps : List Piece). joinParts (partsOf ps)) (sym (opening .is))) in
-            subst (λ (o : Option Piece). MadeIs (orSet o) D₁ m) (sym z) y
+            subst (λ (o : Option Piece). SoundIs s (orSet o) D₁ m) (sym z) y
 
       module _ {stop : ℕ} (t : l ≡ Plain stop) where
         plain : PlainLines s e stop
@@ -274,7 +301,10 @@ module _ {D s : List ℕ} (g : Input D s) {r : Next} (x : NextIs s 0 r) where
         pieces-given = record { size = g .size; low = plain .low; high = plain .high }
 
         module _ {r₂ : Next} (y : NextIs s stop r₂) where
-          pub pieces-more : {e₂ : ℕ} {d₂ : Bool} → r₂ ≡ Opens e₂ d₂ → MadeIs (orSet (joinPieces (piecesIn (rows s)))) D (No 19 0)
+          pub pieces-broken : r₂ ≡ Stray → SoundIs s (orSet (joinPieces (piecesIn (rows s)))) D (No 19 0)
+          pieces-broken u = unsound (foremost .sound ∙ (plain .whole ∙ subst (NextMeans s stop) u (y .means) (plain .over)))
+
+          pub pieces-more : {e₂ : ℕ} {d₂ : Bool} → r₂ ≡ Opens e₂ d₂ → SoundIs s (orSet (joinPieces (piecesIn (rows s)))) D (No 19 0)
           unfolding joinPieces partsOf
           pieces-more {e₂} {d₂} u =
               let z : Opened s stop e₂ d₂ = subst (NextMeans s stop) u (y .means) in
@@ -285,16 +315,17 @@ module _ {D s : List ℕ} (g : Input D s) {r : Next} (x : NextIs s 0 r) where
               nineteen (ap joinPieces w ∙ ap (λ (o : Option Part). joinParts (with o (partsOf (p ∷ xs)))) (plain .none d))
 
           pub pieces-one : {D₁ : List ℕ} {m : Made} → r₂ ≡ Over → MadeIs (ok (headRow d ++ part s e stop)) D₁ m
-              → MadeIs (orSet (joinPieces (piecesIn (rows s)))) D₁ m
+              → SoundIs s (orSet (joinPieces (piecesIn (rows s)))) D₁ m
           unfolding joinPieces fileOf
           pieces-one {D₁} {m} u z =
+              let l : Ended s stop = subst (NextMeans s stop) u (y .means) in
               let w : piecesIn (rows s) ≡ record { provider = d; rows = bodyOf (rows (drop e s)) } ∷ [] =
-              opening .is ∙ ap (λ (ps : List Piece). record { provider = d; rows = bodyOf (rows (drop e s)) } ∷ ps) (plain .next ∙ subst (NextMeans s stop) u (y .means)) in
+              opening .is ∙ ap (λ (ps : List Piece). record { provider = d; rows = bodyOf (rows (drop e s)) } ∷ ps) (plain .next ∙ l .is) in
               let f : orSet (joinPieces (piecesIn (rows s))) ≡ ok (headRow d ++ part s e stop) =
               ap (λ (ps : List Piece). orSet (joinPieces ps)) w ∙ rw (plain .plain) (ap (λ (b : List ℕ). ok (headRow d ++ b)) (plain .bytes)) in
-              subst (λ (k : Res (List ℕ)). MadeIs k D₁ m) (sym f) z
+              settled (foremost .sound ∙ (plain .whole ∙ l .whole)) (subst (λ (k : Res (List ℕ)). MadeIs k D₁ m) (sym f) z)
 
-pub ruleset pieces-laws = (pieces-over, pieces-from, pieces-wrong, pieces-first, pieces-set, pieces-stop, pieces-given, pieces-more, pieces-one)
+pub ruleset pieces-laws = (pieces-over, pieces-stray, pieces-broken, pieces-from, pieces-wrong, pieces-first, pieces-set, pieces-stop, pieces-given, pieces-more, pieces-one)
 
 -- ---- the input
 
@@ -323,14 +354,28 @@ module _ (D s : List ℕ) (size : length D ≡ 65536) where
           let f : joinedFile s ≡ refused 19 0 = by-rows s h ∙ rw (eq-eqb (brokenLine (rows s)) 0 (sym p ∙ q), sym t ∙ not-true y w) in
           record { means = ap thenChecked f; size = size }
 
-pub into-done : (s : List ℕ) {line : ℕ} {y : Bool} {D₁ : List ℕ} {m : Made} → length s ≤ 131072 → line ≡ brokenLine (rows s) → line ≡ 0
-    → y ≡ startsWell (rows s) → not y ≡ false
-    → MadeIs (orSet (joinPieces (piecesIn (rows s)))) D₁ m → MadeIs (joinedFile s) D₁ m
-into-done s {line} {y} {D₁} {m} h p q t w z =
-    let f : joinedFile s ≡ orSet (joinPieces (piecesIn (rows s))) = by-rows s h ∙ rw (eq-eqb (brokenLine (rows s)) 0 (sym p ∙ q), sym t ∙ not-false y w) in
-    subst (λ (k : Res (List ℕ)). MadeIs k D₁ m) (sym f) z
+module _ (s : List ℕ) {D₁ : List ℕ} {m : Made} (h : length s ≤ 131072) (z : SoundIs s (orSet (joinPieces (piecesIn (rows s)))) D₁ m) where
+  by-pieces : brokenLine (rows s) ≡ 0 → startsWell (rows s) ≡ true → joinedFile s ≡ orSet (joinPieces (piecesIn (rows s)))
+  by-pieces p q = by-rows s h ∙ rw (eq-eqb (brokenLine (rows s)) 0 p, q)
 
-pub ruleset into-laws = (into-large, into-ends, into-before, into-done, into-input)
+  pub into-size : length D₁ ≡ 65536
+  into-size = z .size
+
+  pub into-done : {t : ℕ} → m ≡ Bytes t → MadeIs (joinedFile s) D₁ (Bytes t)
+  into-done {t} q =
+      let w : SoundMeans s (orSet (joinPieces (piecesIn (rows s)))) D₁ (Bytes t) = subst (SoundMeans s (orSet (joinPieces (piecesIn (rows s)))) D₁) q (z .means) in
+      let l : (brokenLine (rows s) ≡ 0) × (startsWell (rows s) ≡ true) = sound-line (rows s) (w .0) in
+      record { means = (by-pieces (l .0) (l .1) ∙ w .1, w .2); size = z .size }
+
+  pub into-no : {n l line : ℕ} {y : Bool} → m ≡ No n l → line ≡ brokenLine (rows s) → line ≡ 0 → y ≡ startsWell (rows s) → not y ≡ false
+      → MadeIs (joinedFile s) D₁ (No n l)
+  into-no {n} {l} {line} {y} q p e t w =
+      let a : brokenLine (rows s) ≡ 0 = sym p ∙ e in
+      let b : startsWell (rows s) ≡ true = sym t ∙ not-false y w in
+      let f : SoundMeans s (orSet (joinPieces (piecesIn (rows s)))) D₁ (No n l) = subst (SoundMeans s (orSet (joinPieces (piecesIn (rows s)))) D₁) q (z .means) in
+      record { means = ap thenChecked (by-pieces a b) ∙ f (line-sound (rows s) a b); size = z .size }
+
+pub ruleset into-laws = (into-large, into-ends, into-before, into-input, into-size, into-done, into-no)
 
 -- ---- the check, and the output
 

@@ -1,7 +1,7 @@
 -- The parts of a set as spans in two tables by place. Assumes nothing.
 use Prim.Native.Nat.{ℕ, zero, suc, _+_, _-_, _≤_, _<_}
 use mathlib.Core.Path.{_≡_, refl, sym, ap, ap₂, _∙_, subst}
-use mathlib.Core.Bool.{Bool, true, false, cond, _&&_, Bool·beq, and-false}
+use mathlib.Core.Bool.{Bool, true, false, cond, _&&_, Bool·beq, false≢true, and-false}
 use mathlib.Core.Option.{Option, none, some}
 use mathlib.Core.List.{List, [], _∷_, _++_, append-assoc, append-nil}
 use native.Mathlib.Omega.{arith}
@@ -17,14 +17,13 @@ use Rattle.buffers.specs.Buffers.{Room, Wrote}
 use Rattle.buffers.proofs.Runs.{carry}
 use Rattle.pieces.specs.Pieces.{Piece, bodyOf, piecesIn}
 use Rattle.join.specs.declared.Next.{Next}
-use Rattle.join.specs.declared.Next.the-variants.{Opens, Over}
+use Rattle.join.specs.declared.Next.the-variants.{Opens, Over, Stray}
 use Rattle.join.specs.declared.Member.{Member}
 use Rattle.join.specs.declared.Member.the-variants.{Of, Foreign}
 use Rattle.join.specs.declared.Filled.the-variants.{Full, Large}
 use Rattle.join.specs.Join.{Part, partOf, with, partsOf, agree, find, behind, gather}
-use Rattle.join.specs.Spans.{partBy, Opened, NextMeans, NextIs, like, agreed, isSet, Within, MemberAt, MemberMeans, MemberIs, Sizes, Bounds, Slot, Slots, Blank, Stored, CollectMeans, CollectIs, taken, spans, FillIs, FillRoom}
-use Rattle.canonical.proofs.PartLaws.{part-length}
-use Rattle.join.proofs.BodyLaws.{flat-append}
+use Rattle.join.specs.Spans.{unbroken, goesOn, partBy, Opened, Ended, NextMeans, NextIs, like, agreed, isSet, Within, MemberAt, MemberMeans, MemberIs, Sizes, Bounds, Slot, Slots, Blank, Stored, CollectMeans, CollectIs, taken, spans, FillIs, FillRoom}
+use Rattle.join.proofs.BodyLaws.{part-length, flat-append}
 
 -- ---- storing
 
@@ -195,6 +194,8 @@ pub record Collecting (s : List ℕ) (d : Bool) (i : List ℕ) (n : ℕ) (a b : 
   pub agrees : agree (like d i n) seen ≡ true
   pub count : m ≡ length seen
   pub tables : Tables s a b seen
+  pub over : goesOn (rows (drop at s)) ≡ false
+  pub whole : unbroken (rows s) ≡ unbroken (rows (drop at s))
 
 pub collect-start : (s : List ℕ) (d : Bool) (i : List ℕ) (n : ℕ) (a b : List ℕ) → Blank s a b → Collecting s d i n a b 0 0
 unfolding agree find
@@ -210,6 +211,8 @@ collect-start s d i n a b z = record {
     bounds = record { low = λ k h. omega (arith, z .starts k h); high = λ k h. omega (arith, z .ends k h) };
     slots = record { at = λ k h. z .starts k h };
   };
+  over = z .over;
+  whole = refl;
 }
 
 module _ {s : List ℕ} {d : Bool} {i : List ℕ} {n : ℕ} {a b : List ℕ} {m at : ℕ} (v : Collecting s d i n a b m at) where
@@ -223,12 +226,12 @@ module _ {s : List ℕ} {d : Bool} {i : List ℕ} {n : ℕ} {a b : List ℕ} {m 
     pub collect-over : r ≡ Over → CollectIs s d i n a b (eqb m n)
     unfolding partsOf
     collect-over q =
-        let e : piecesIn (rows (drop at s)) ≡ [] = subst (NextMeans s at) q (x .means) in
-        let w : partsOf (piecesIn (rows s)) ≡ some (v .seen) = v .parts ∙ (ap (λ (t : List Piece). after (v .seen) (partsOf t)) e ∙ ap some (append-nil (v .seen))) in
-        record { means = go (eqb m n) refl w }
+        let f : Ended s at = subst (NextMeans s at) q (x .means) in
+        let w : partsOf (piecesIn (rows s)) ≡ some (v .seen) = v .parts ∙ (ap (λ (t : List Piece). after (v .seen) (partsOf t)) (f .is) ∙ ap some (append-nil (v .seen))) in
+        record { means = go (eqb m n) refl w (v .whole ∙ f .whole) }
       where
-        go : (t : Bool) → eqb m n ≡ t → partsOf (piecesIn (rows s)) ≡ some (v .seen) → CollectMeans s d i n a b t
-        go true e w = record {
+        go : (t : Bool) → eqb m n ≡ t → partsOf (piecesIn (rows s)) ≡ some (v .seen) → unbroken (rows s) ≡ true → CollectMeans s d i n a b t
+        go true e w u = record {
           seen = v .seen;
           parts = w;
           agrees = v .agrees;
@@ -236,10 +239,16 @@ module _ {s : List ℕ} {d : Bool} {i : List ℕ} {n : ℕ} {a b : List ℕ} {m 
           sizes = v .tables .sizes;
           bounds = v .tables .bounds;
           slots = v .tables .slots;
+          whole = u;
         }
-        go false e w =
+        go false e w u =
             let z : length (v .seen) ≡ n → ⊥ = λ y. eqb-false m n e (v .count ∙ y) in
-            ap (isSet d i n) w ∙ (ap (λ (t : Bool). agree (like d i n) (v .seen) && t) (ne-eqb (length (v .seen)) n z) ∙ and-false (agree (like d i n) (v .seen)))
+            λ _. ap (isSet d i n) w
+            ∙ (ap (λ (t : Bool). agree (like d i n) (v .seen) && t) (ne-eqb (length (v .seen)) n z) ∙ and-false (agree (like d i n) (v .seen)))
+
+    -- only a broken row goes on with no piece and opens none
+    pub collect-stray : r ≡ Stray → CollectIs s d i n a b false
+    collect-stray q = record { means = λ u. absurd (false≢true (sym (subst (NextMeans s at) q (x .means) (v .over)) ∙ (sym (v .whole) ∙ u))) }
 
     module _ {e : ℕ} {side : Bool} (q : r ≡ Opens e side) where
       opening : Opened s at e side
@@ -257,7 +266,7 @@ module _ {s : List ℕ} {d : Bool} {i : List ℕ} {n : ℕ} {a b : List ℕ} {m 
         collect-foreign t =
             let f = subst (MemberMeans s e side d i n) t (z .means) in
             record {
-              means = not-agreed d i n (partsOf (piecesIn (rows s))) (ap (agreed d i n) (v .parts)
+              means = λ _. not-agreed d i n (partsOf (piecesIn (rows s))) (ap (agreed d i n) (v .parts)
                   ∙ (agreed-after d i n (v .seen) (partsOf (piecesIn (rows (drop at s)))) (v .agrees)
                   ∙ (ap (agreed d i n) left-is ∙ f .none (partsOf (piecesIn (rows (drop e s)))))));
             }
@@ -281,7 +290,7 @@ module _ {s : List ℕ} {d : Bool} {i : List ℕ} {n : ℕ} {a b : List ℕ} {m 
 
           pub collect-many : n ≤ m → CollectIs s d i n a b false
           collect-many h = record {
-            means = ap (isSet d i n) one-more
+            means = λ _. ap (isSet d i n) one-more
                 ∙ too-many d i n (v .seen ++ partBy d i n k (member .lines) ∷ []) (partsOf (piecesIn (rows (drop stop s)))) (omega (arith, longer));
           }
 
@@ -297,10 +306,12 @@ module _ {s : List ℕ} {d : Bool} {i : List ℕ} {n : ℕ} {a b : List ℕ} {m 
             count = sym longer;
             tables = tables-store (partBy d i n k (member .lines)) e last (v .tables) (member .place)
                 (omega (arith, opening .low)) (member .low) (omega (arith, member .mid, member .high)) (member .bytes) st;
+            over = member .over;
+            whole = v .whole ∙ (opening .whole ∙ member .whole);
           }
 
 pub ruleset collect-laws =
-    (collect-start, collect-at, collect-sizes, collect-over, collect-within, collect-foreign, collect-place, collect-less, collect-many, collect-go)
+    (collect-start, collect-at, collect-sizes, collect-over, collect-stray, collect-within, collect-foreign, collect-place, collect-less, collect-many, collect-go)
 
 -- ---- every place is taken
 

@@ -1,22 +1,24 @@
 -- Row by row through the input: the rule of line ends, the first row, the next piece. Assumes nothing.
 use Prim.Native.Nat.{ℕ, _+_, _-_, _≤_, _<_}
 use mathlib.Core.Path.{_≡_, refl, sym, ap, _∙_}
-use mathlib.Core.Bool.{Bool, true, false, not}
-use mathlib.Core.List.{List, [], _∷_}
+use mathlib.Core.Bool.{Bool, true, false, not, _&&_, false≢true}
+use mathlib.Core.List.{List, [], _∷_, nil≢cons, head-eq-of-cons-eq, tail-eq-of-cons-eq}
 use native.Mathlib.Omega.{arith}
 use borrow.Author.Tests.{not-true, not-false}
 use mir.Val.{Fits}
 use mir.Syntax.{w32}
 use lib.ListN.{length, take, drop}
 use Rattle.lists.proofs.Cuts.{drop-end}
-use Rattle.characters.specs.Rows.{rows, flat}
-use Rattle.characters.proofs.RowLaws.{flat-rows}
+use Rattle.lists.specs.Lists.{part}
+use Rattle.characters.specs.Rows.{consRow, rows, flat, endMark}
+use Rattle.characters.proofs.RowLaws.{flat-rows, first-row}
 use Rattle.pieces.specs.declared.Row.{Row}
 use Rattle.pieces.specs.declared.Row.the-variants.{Head, EndHead, Body, End, Broken}
-use Rattle.pieces.specs.Pieces.{judged, brokenFrom, brokenLine, bodyOf, opened, piecesIn, opens, startsWell}
+use Rattle.pieces.specs.Pieces.{Kind, head, endHead, body, end, broken, judged, brokenFrom, brokenLine, kindOf, bodyOf, opened, piecesIn, opens, startsWell}
 use Rattle.pieces.specs.Answers.{RowAt, asKind, KindIs}
-use Rattle.join.specs.declared.Next.the-variants.{Opens, Over}
-use Rattle.join.specs.Spans.{isBody, goesOn, NextIs}
+use Rattle.pieces.proofs.Chunks.{end-is}
+use Rattle.join.specs.declared.Next.the-variants.{Opens, Over, Stray}
+use Rattle.join.specs.Spans.{isWhole, unbroken, isHead, sound, isBody, goesOn, NextIs, FirstIs}
 
 pub rows-over : (s : List ℕ) (at : ℕ) → length s ≤ at → rows (drop at s) ≡ []
 rows-over s at h = ap rows (drop-end s at h)
@@ -154,40 +156,132 @@ pub ruleset goes-laws = (row-bounds, goes-over, goes-head, goes-end-head, goes-b
 
 -- ---- the next piece
 
-pub record Looking (s : List ℕ) (from at : ℕ) : Type 0 where
-  pub low : from ≤ at
-  pub high : at ≤ length s
-  pub left : piecesIn (rows (drop from s)) ≡ piecesIn (rows (drop at s))
+-- a row that is a 1Ah alone is the last
+end-last : (l : List ℕ) (rs : List (List ℕ)) → rows (0x1a ∷ l) ≡ endMark ∷ rs → l ≡ []
+end-last [] rs e = refl
+end-last (a ∷ l) rs e =
+    let f = first-row a l in
+    let d : (0x1a ∷ f .byte ∷ f .more) ∷ f .others ≡ endMark ∷ rs = sym (ap (consRow 0x1a) (f .cut)) ∙ e in
+    absurd (nil≢cons (sym (tail-eq-of-cons-eq (head-eq-of-cons-eq d))))
 
-pub look-start : (s : List ℕ) (from : ℕ) → from ≤ length s → Looking s from from
-look-start s from h = record { low = omega arith; high = h; left = refl }
-
-module _ {s : List ℕ} {from at : ℕ} (v : Looking s from at) where
-  pub look-out : length s ≤ at → NextIs s from Over
-  unfolding piecesIn
-  look-out h = record { means = v .left ∙ rw (rows-over s at h) }
+module _ (s : List ℕ) {at : ℕ} where
+  pub next-over : length s ≤ at → NextIs s at Over
+  unfolding piecesIn unbroken
+  next-over h = record { means = record { is = rw (rows-over s at h); whole = rw (rows-over s at h) } }
 
   module _ {e : ℕ} {k : Row} (x : RowAt s at e) (p : KindIs (take (e - at) (drop at s)) k) where
-    pieces-step : {j : Row} → k ≡ j → piecesIn (rows (drop from s)) ≡ opened (bodyOf (rows (drop e s))) (piecesIn (rows (drop e s))) (asKind j)
+    pieces-step : {j : Row} → k ≡ j → piecesIn (rows (drop at s)) ≡ opened (bodyOf (rows (drop e s))) (piecesIn (rows (drop e s))) (asKind j)
     unfolding piecesIn
-    pieces-step {j} q = v .left ∙ ap piecesIn (x .cut) ∙ ap (opened (bodyOf (rows (drop e s))) (piecesIn (rows (drop e s)))) (p .is ∙ ap asKind q)
+    pieces-step q = ap piecesIn (x .cut) ∙ ap (opened (bodyOf (rows (drop e s))) (piecesIn (rows (drop e s)))) (p .is ∙ ap asKind q)
 
-    further : piecesIn (rows (drop from s)) ≡ piecesIn (rows (drop e s)) → Looking s from e
-    further q = record { low = omega (arith, v .low, x .more); high = x .inside; left = q }
+    pub unbroken-step : {j : Row} → k ≡ j → unbroken (rows (drop at s)) ≡ (isWhole (asKind j) && unbroken (rows (drop e s)))
+    unfolding unbroken
+    unbroken-step q = ap unbroken (x .cut) ∙ ap (λ (i : Kind). isWhole i && unbroken (rows (drop e s))) (p .is ∙ ap asKind q)
 
-    pub look-body : k ≡ Body → Looking s from e
-    look-body q = further (pieces-step q)
+    pub next-head : {d : Bool} → k ≡ Head d → NextIs s at (Opens e d)
+    next-head q = record { means = record { low = x .more; high = x .inside; is = pieces-step q; whole = unbroken-step q } }
 
-    pub look-end : k ≡ End → Looking s from e
-    look-end q = further (pieces-step q)
+    pub next-end-head : {d : Bool} → k ≡ EndHead d → NextIs s at (Opens e d)
+    next-end-head q = record { means = record { low = x .more; high = x .inside; is = pieces-step q; whole = unbroken-step q } }
 
-    pub look-broken : k ≡ Broken → Looking s from e
-    look-broken q = further (pieces-step q)
+    pub next-end : k ≡ End → NextIs s at Over
+    unfolding piecesIn unbroken
+    next-end q =
+        let r : part s at e ≡ endMark = end-is (part s at e) (p .is ∙ ap asKind q) in
+        let c : rows (drop at s) ≡ endMark ∷ rows (drop e s) = x .cut ∙ ap (λ (y : List ℕ). y ∷ rows (drop e s)) r in
+        let l : drop at s ≡ 0x1a ∷ drop e s = sym (flat-rows (drop at s)) ∙ (ap flat c ∙ ap (λ (y : List ℕ). 0x1a ∷ y) (flat-rows (drop e s))) in
+        let z : rows (drop e s) ≡ [] = ap rows (end-last (drop e s) (rows (drop e s)) (ap rows (sym l) ∙ c)) in
+        record { means = record { is = pieces-step q ∙ ap piecesIn z; whole = unbroken-step q ∙ ap unbroken z } }
 
-    pub look-head : {d : Bool} → k ≡ Head d → NextIs s from (Opens e d)
-    look-head q = record { means = record { low = omega (arith, v .low, x .more); high = x .inside; is = pieces-step q } }
+    pub next-body : k ≡ Body → NextIs s at Stray
+    next-body q = record { means = λ o. absurd (false≢true (sym o ∙ sym (goes-body s x p q))) }
 
-    pub look-end-head : {d : Bool} → k ≡ EndHead d → NextIs s from (Opens e d)
-    look-end-head q = record { means = record { low = omega (arith, v .low, x .more); high = x .inside; is = pieces-step q } }
+    pub next-broken : k ≡ Broken → NextIs s at Stray
+    next-broken q = record { means = λ o. unbroken-step q }
 
-pub ruleset look-laws = (row-bounds, look-start, look-out, look-body, look-end, look-broken, look-head, look-end-head)
+pub ruleset next-laws = (next-over, next-head, next-end-head, next-end, next-body, next-broken)
+
+-- ---- the first piece
+
+pub first-none : (s : List ℕ) → length s ≡ 0 → FirstIs s Stray
+first-none [] h = record { means = refl }
+first-none (a ∷ s) h = absurd (omega arith)
+
+module _ (s : List ℕ) {e : ℕ} {k : Row} (x : RowAt s 0 e) (p : KindIs (take (e - 0) (drop 0 s)) k) where
+  sound-step : {j : Row} → k ≡ j → sound (rows s) ≡ (isHead (asKind j) && unbroken (rows (drop e s)))
+  sound-step q = ap sound (x .cut) ∙ ap (λ (i : Kind). isHead i && unbroken (rows (drop e s))) (p .is ∙ ap asKind q)
+
+  pub first-head : {d : Bool} → k ≡ Head d → FirstIs s (Opens e d)
+  first-head q = record {
+    means = record {
+      opened = record { low = x .more; high = x .inside; is = pieces-step s x p q; whole = unbroken-step s x p q };
+      over = sym (goes-head s x p q);
+      sound = sound-step q;
+    };
+  }
+
+  pub first-end-head : {d : Bool} → k ≡ EndHead d → FirstIs s Stray
+  first-end-head q = record { means = sound-step q }
+
+  pub first-body : k ≡ Body → FirstIs s Stray
+  first-body q = record { means = sound-step q }
+
+  pub first-end : k ≡ End → FirstIs s Stray
+  first-end q = record { means = sound-step q }
+
+  pub first-broken : k ≡ Broken → FirstIs s Stray
+  first-broken q = record { means = sound-step q }
+
+pub ruleset first-laws = (first-none, first-head, first-end-head, first-body, first-end, first-broken)
+
+-- ---- sound rows are those with no broken line, and a line 1 first
+
+from-unbroken : (rs : List (List ℕ)) (n : ℕ) → unbroken rs ≡ true → brokenFrom true n rs ≡ 0
+unfolding brokenFrom unbroken
+from-unbroken [] n e = refl
+from-unbroken (r ∷ rs) n e = go (kindOf r) (from-unbroken rs (n + 1)) e
+  where
+    go : (k : Kind) → (unbroken rs ≡ true → brokenFrom true (n + 1) rs ≡ 0) → (isWhole k && unbroken rs) ≡ true
+        → judged true n (λ b. brokenFrom b (n + 1) rs) k ≡ 0
+    go (head d) i e = i e
+    go (endHead d) i e = i e
+    go body i e = i e
+    go end i e = i e
+    go broken i e = absurd (false≢true e)
+
+unbroken-from : (rs : List (List ℕ)) (n : ℕ) → 1 ≤ n → brokenFrom true n rs ≡ 0 → unbroken rs ≡ true
+unfolding brokenFrom unbroken
+unbroken-from [] n h e = refl
+unbroken-from (r ∷ rs) n h e = go (kindOf r) (unbroken-from rs (n + 1) (omega arith)) e
+  where
+    go : (k : Kind) → (brokenFrom true (n + 1) rs ≡ 0 → unbroken rs ≡ true) → judged true n (λ b. brokenFrom b (n + 1) rs) k ≡ 0
+        → (isWhole k && unbroken rs) ≡ true
+    go (head d) i e = i e
+    go (endHead d) i e = i e
+    go body i e = i e
+    go end i e = i e
+    go broken i e = absurd (omega arith)
+
+pub sound-line : (rs : List (List ℕ)) → sound rs ≡ true → (brokenLine rs ≡ 0) × (startsWell rs ≡ true)
+unfolding brokenLine brokenFrom
+sound-line [] e = absurd (false≢true e)
+sound-line (r ∷ rs) e = go (kindOf r) e
+  where
+    go : (k : Kind) → (isHead k && unbroken rs) ≡ true → (judged false 1 (λ b. brokenFrom b 2 rs) k ≡ 0) × (opens k ≡ true)
+    go (head d) e = (from-unbroken rs 2 e, refl)
+    go (endHead d) e = absurd (false≢true e)
+    go body e = absurd (false≢true e)
+    go end e = absurd (false≢true e)
+    go broken e = absurd (false≢true e)
+
+pub line-sound : (rs : List (List ℕ)) → brokenLine rs ≡ 0 → startsWell rs ≡ true → sound rs ≡ true
+unfolding brokenLine brokenFrom
+line-sound [] e w = absurd (false≢true w)
+line-sound (r ∷ rs) e w = go (kindOf r) e w
+  where
+    go : (k : Kind) → judged false 1 (λ b. brokenFrom b 2 rs) k ≡ 0 → opens k ≡ true → (isHead k && unbroken rs) ≡ true
+    go (head d) e w = unbroken-from rs 2 (omega arith) e
+    go (endHead d) e w = absurd (omega arith)
+    go body e w = absurd (false≢true w)
+    go end e w = absurd (false≢true w)
+    go broken e w = absurd (false≢true w)

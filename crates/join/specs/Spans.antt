@@ -16,7 +16,7 @@ use Rattle.pieces.specs.Marks.{readMark}
 use Rattle.pieces.specs.Pieces.{Kind, head, endHead, body, end, broken, kindOf, bodyOf, piecesIn}
 use Rattle.pieces.specs.Answers.{RowAt}
 use Rattle.join.specs.declared.Next.{Next}
-use Rattle.join.specs.declared.Next.the-variants.{Opens, Over}
+use Rattle.join.specs.declared.Next.the-variants.{Opens, Over, Stray}
 use Rattle.join.specs.declared.Lines.{Lines}
 use Rattle.join.specs.declared.Lines.the-variants.{Plain, Marked, Wrong}
 use Rattle.join.specs.declared.Member.{Member}
@@ -27,21 +27,31 @@ use Rattle.join.specs.declared.Made.{Made}
 use Rattle.join.specs.declared.Made.the-variants.{Bytes, No}
 use Rattle.join.specs.Join.{unmarked, Part, lastMark, partOf, with, partsOf, agree, find, thenChecked}
 
--- ---- the next piece from a position on: its line 1 ends at e
+-- ---- rows that break no rule of line ends, so that the pieces are read before it is known where one does
 
-pub record Opened (s : List ℕ) (from e : ℕ) (d : Bool) : Type 0 where
-  pub low : from < e
-  pub high : e ≤ length s
-  pub is : piecesIn (rows (drop from s)) ≡ record { provider = d; rows = bodyOf (rows (drop e s)) } ∷ piecesIn (rows (drop e s))
+abbrev pub isWhole : Kind → Bool
+isWhole (head d) = true
+isWhole (endHead d) = true
+isWhole body = true
+isWhole end = true
+isWhole broken = false
 
-abbrev pub NextMeans : List ℕ → ℕ → Next → Type 0
-NextMeans s from (Opens e d) = Opened s from e d
-NextMeans s from Over = piecesIn (rows (drop from s)) ≡ []
+-- behind a line 1, where a 1Ah is in place
+unfoldable pub unbroken : List (List ℕ) → Bool
+unbroken [] = true
+unbroken (r ∷ rs) = isWhole (kindOf r) && unbroken rs
 
-pub record NextIs (s : List ℕ) (from : ℕ) (r : Next) : Type 0 where
-  pub means : NextMeans s from r
+abbrev pub isHead : Kind → Bool
+isHead (head d) = true
+isHead (endHead d) = false
+isHead body = false
+isHead end = false
+isHead broken = false
 
--- ---- the rows of a piece, from behind its line 1 on
+-- of the whole input: neither 2 nor "a line stands before the first"
+abbrev pub sound : List (List ℕ) → Bool
+sound [] = false
+sound (r ∷ rs) = isHead (kindOf r) && unbroken rs
 
 -- whether the first row is one of a piece's
 abbrev pub isBody : Kind → Bool
@@ -54,6 +64,44 @@ isBody broken = false
 abbrev pub goesOn : List (List ℕ) → Bool
 goesOn [] = false
 goesOn (r ∷ rs) = isBody (kindOf r)
+
+-- ---- the next piece at a position: its line 1 ends at e
+
+pub record Opened (s : List ℕ) (at e : ℕ) (d : Bool) : Type 0 where
+  pub low : at < e
+  pub high : e ≤ length s
+  pub is : piecesIn (rows (drop at s)) ≡ record { provider = d; rows = bodyOf (rows (drop e s)) } ∷ piecesIn (rows (drop e s))
+  pub whole : unbroken (rows (drop at s)) ≡ unbroken (rows (drop e s))
+
+-- no more pieces
+pub record Ended (s : List ℕ) (at : ℕ) : Type 0 where
+  pub is : piecesIn (rows (drop at s)) ≡ []
+  pub whole : unbroken (rows (drop at s)) ≡ true
+
+-- a row that does not go on with a piece is broken
+abbrev pub NextMeans : List ℕ → ℕ → Next → Type 0
+NextMeans s at (Opens e d) = Opened s at e d
+NextMeans s at Over = Ended s at
+NextMeans s at Stray = goesOn (rows (drop at s)) ≡ false → unbroken (rows (drop at s)) ≡ false
+
+pub record NextIs (s : List ℕ) (at : ℕ) (r : Next) : Type 0 where
+  pub means : NextMeans s at r
+
+-- the first piece: no 1Ah stands before its line 1
+pub record OpenedFirst (s : List ℕ) (e : ℕ) (d : Bool) : Type 0 where
+  pub opened : Opened s 0 e d
+  pub over : goesOn (rows s) ≡ false
+  pub sound : sound (rows s) ≡ unbroken (rows (drop e s))
+
+abbrev pub FirstMeans : List ℕ → Next → Type 0
+FirstMeans s (Opens e d) = OpenedFirst s e d
+FirstMeans s Over = sound (rows s) ≡ false
+FirstMeans s Stray = sound (rows s) ≡ false
+
+pub record FirstIs (s : List ℕ) (r : Next) : Type 0 where
+  pub means : FirstMeans s r
+
+-- ---- the rows of a piece, from behind its line 1 on
 
 -- a row that is a line
 pub record LineAt (s : List ℕ) (at e : ℕ) : Type 0 where
@@ -68,6 +116,8 @@ pub record PlainLines (s : List ℕ) (from stop : ℕ) : Type 0 where
   pub none : (d : Bool) → partOf d (bodyOf (rows (drop from s))) ≡ none
   pub bytes : flat (bodyOf (rows (drop from s))) ≡ part s from stop
   pub next : piecesIn (rows (drop from s)) ≡ piecesIn (rows (drop stop s))
+  pub over : goesOn (rows (drop stop s)) ≡ false
+  pub whole : unbroken (rows (drop from s)) ≡ unbroken (rows (drop stop s))
 
 -- a part by its direction, ID, count, place and rows
 abbrev pub partBy : Bool → List ℕ → ℕ → ℕ → List (List ℕ) → Part
@@ -90,6 +140,8 @@ pub record MarkedLines (s : List ℕ) (from last stop n k : ℕ) : Type 0 where
   pub is : (d : Bool) → partOf d (bodyOf (rows (drop from s))) ≡ some (partBy d (identAt s last) n k lines)
   pub bytes : flat lines ≡ part s from last
   pub next : piecesIn (rows (drop from s)) ≡ piecesIn (rows (drop stop s))
+  pub over : goesOn (rows (drop stop s)) ≡ false
+  pub whole : unbroken (rows (drop from s)) ≡ unbroken (rows (drop stop s))
 
 pub record WrongLines (s : List ℕ) (from : ℕ) : Type 0 where
   pub marked : unmarked (bodyOf (rows (drop from s))) ≡ false
@@ -148,6 +200,8 @@ pub record MemberAt (s : List ℕ) (e : ℕ) (side d : Bool) (i : List ℕ) (n l
   pub is : partOf side (bodyOf (rows (drop e s))) ≡ some (partBy d i n k lines)
   pub bytes : flat lines ≡ part s e last
   pub next : piecesIn (rows (drop e s)) ≡ piecesIn (rows (drop stop s))
+  pub over : goesOn (rows (drop stop s)) ≡ false
+  pub whole : unbroken (rows (drop e s)) ≡ unbroken (rows (drop stop s))
 
 pub record ForeignAt (s : List ℕ) (e : ℕ) (side d : Bool) (i : List ℕ) (n : ℕ) : Type 0 where
   pub none : (ps : Option (List Part)) → agreed d i n (with (partOf side (bodyOf (rows (drop e s)))) ps) ≡ false
@@ -177,9 +231,10 @@ Slot s from to (some p) = (1 ≤ from) × (flat (p .rows) ≡ part s from to)
 pub record Slots (s a b : List ℕ) (ps : List Part) : Type 0 where
   pub at : (k : ℕ) → k < 1000 → Slot s (getD a k 0) (getD b k 0) (find k ps)
 
--- tables that are free at every place
+-- tables that are free at every place, and an input that does not begin in the middle of a piece
 pub record Blank (s a b : List ℕ) : Type 0 where
   pub small : length s ≤ 131072
+  pub over : goesOn (rows s) ≡ false
   pub sizes : Sizes a b
   pub starts : (k : ℕ) → k < 1000 → getD a k 0 ≡ 0
   pub ends : (k : ℕ) → k < 1000 → getD b k 0 ≡ 0
@@ -197,10 +252,12 @@ pub record Collected (s : List ℕ) (d : Bool) (i : List ℕ) (n : ℕ) (a b : L
   pub sizes : Sizes a b
   pub bounds : Bounds s a b
   pub slots : Slots s a b seen
+  pub whole : unbroken (rows s) ≡ true
 
+-- of rows that are broken, false says nothing
 abbrev pub CollectMeans : List ℕ → Bool → List ℕ → ℕ → List ℕ → List ℕ → Bool → Type 0
 CollectMeans s d i n a b true = Collected s d i n a b
-CollectMeans s d i n a b false = isSet d i n (partsOf (piecesIn (rows s))) ≡ false
+CollectMeans s d i n a b false = unbroken (rows s) ≡ true → isSet d i n (partsOf (piecesIn (rows s))) ≡ false
 
 pub record CollectIs (s : List ℕ) (d : Bool) (i : List ℕ) (n : ℕ) (a b : List ℕ) (r : Bool) : Type 0 where
   pub means : CollectMeans s d i n a b r
@@ -242,6 +299,15 @@ pub record MadeIs (x : Res (List ℕ)) (d : List ℕ) (r : Made) : Type 0 where
   pub means : MadeMeans x d r
   pub size : length d ≡ 65536
 
+-- the same, of a sound input
+abbrev pub SoundMeans : List ℕ → Res (List ℕ) → List ℕ → Made → Type 0
+SoundMeans s x d (Bytes t) = (sound (rows s) ≡ true) × (x ≡ ok (take t d)) × (t ≤ length d)
+SoundMeans s x d (No n line) = sound (rows s) ≡ true → thenChecked x ≡ refused n line
+
+pub record SoundIs (s : List ℕ) (x : Res (List ℕ)) (d : List ℕ) (r : Made) : Type 0 where
+  pub means : SoundMeans s x d r
+  pub size : length d ≡ 65536
+
 -- the buffer, and a span of the input
 pub record Given (d s : List ℕ) (from stop : ℕ) : Type 0 where
   pub size : length d ≡ 65536
@@ -265,6 +331,8 @@ pub record First (d s : List ℕ) (side : Bool) (last n : ℕ) : Type 0 where
   pub lines : List (List ℕ)
   pub others : Option (List Part)
   pub is : partsOf (piecesIn (rows s)) ≡ with (some (partBy side (identAt s last) n place lines)) others
+  pub over : goesOn (rows s) ≡ false
+  pub sound : sound (rows s) ≡ unbroken (rows s)
 
 -- the buffer, and an input within the limit
 pub record Input (d s : List ℕ) : Type 0 where

@@ -11,7 +11,7 @@ ghost use Rattle.canonical.specs.Canonical.{headRow};
 ghost use Rattle.buffers.specs.Buffers.{Wrote};
 ghost use Rattle.pieces.specs.Pieces.{brokenLine, startsWell, piecesIn};
 ghost use Rattle.join.specs.Join.{partsOf, joinParts, joinPieces, orSet, joinedFile, joinOf, joinBuffer};
-ghost use Rattle.join.specs.Spans.{NextIs, goesOn, LineAt, LastIs, LinesAre, Within, MemberIs, Sizes, Blank, Stored, CollectIs, taken, spans, FillIs, FillRoom, MadeIs, Given, GivenSet, First, Input};
+ghost use Rattle.join.specs.Spans.{NextIs, FirstIs, goesOn, LineAt, LastIs, LinesAre, Within, MemberIs, Sizes, Blank, Stored, CollectIs, taken, spans, FillIs, FillRoom, MadeIs, SoundIs, Given, GivenSet, First, Input};
 
 // How many bytes the joined file has; or a refusal's number and line, and the output as it was.
 pub enum Joining {
@@ -88,36 +88,47 @@ fn starts_well(s: &[u8]) -> bool
 pub enum Next {
     Opens(usize, bool),
     Over,
+    // A row that is no line 1.
+    Stray,
 }
 
-fn next_piece(s: &[u8], from: usize) -> Next
-    requires { ⌜ from ≤ length (now s) ⌝ }
-    ensures { λ r. ⌜ NextIs (now (s .entry)) from r ⌝ }
+// The first piece, whose line 1 has no 1Ah before it.
+fn first_piece(s: &[u8]) -> Next
+    ensures { λ r. ⌜ FirstIs (now (s .entry)) r ⌝ }
 {
-    let mut at = from;
-    while at < s.len() {
-        let row = pieces::row_at(s, at);
-        let e = row.end;
-        let kind = row.kind;
-        match kind {
-            pieces::Row::Body => {
-                at = e;
-            }
-            pieces::Row::Head(d) => {
-                return Next::Opens(e, d);
-            }
-            pieces::Row::EndHead(d) => {
-                return Next::Opens(e, d);
-            }
-            pieces::Row::End => {
-                at = e;
-            }
-            pieces::Row::Broken => {
-                at = e;
-            }
-        }
+    if s.len() == 0 {
+        return Next::Stray;
     }
-    Next::Over
+    let row = pieces::row_at(s, 0);
+    let e = row.end;
+    let kind = row.kind;
+    match kind {
+        pieces::Row::Body => Next::Stray,
+        pieces::Row::Head(d) => Next::Opens(e, d),
+        pieces::Row::EndHead(_) => Next::Stray,
+        pieces::Row::End => Next::Stray,
+        pieces::Row::Broken => Next::Stray,
+    }
+}
+
+// The piece behind another, which ends at a position.
+fn next_piece(s: &[u8], at: usize) -> Next
+    requires { ⌜ at ≤ length (now s) ⌝ }
+    ensures { λ r. ⌜ NextIs (now (s .entry)) at r ⌝ }
+{
+    if s.len() <= at {
+        return Next::Over;
+    }
+    let row = pieces::row_at(s, at);
+    let e = row.end;
+    let kind = row.kind;
+    match kind {
+        pieces::Row::Body => Next::Stray,
+        pieces::Row::Head(d) => Next::Opens(e, d),
+        pieces::Row::EndHead(d) => Next::Opens(e, d),
+        pieces::Row::End => Next::Over,
+        pieces::Row::Broken => Next::Stray,
+    }
 }
 
 // Whether a row of the same piece begins at a position.
@@ -256,6 +267,9 @@ fn collect(s: &[u8], d: bool, id: &[u8], n: usize, starts: &mut [usize], ends: &
             Next::Over => {
                 return m == n;
             }
+            Next::Stray => {
+                return false;
+            }
             Next::Opens(e, side) => {
                 match read_member(s, e, side, d, id, n) {
                     Member::Foreign => {
@@ -362,7 +376,7 @@ fn join_spans(s: &[u8], d: bool, starts: &[usize], ends: &[usize], n: usize, buf
 // The pieces as a set like its first, whose record 911 begins at last.
 fn join_set(s: &[u8], d: bool, last: usize, n: usize, buf: &mut [u8]) -> Made
     requires { ⌜ First (now buf) (now s) d last n ⌝ }
-    ensures { λ r. ⌜ MadeIs (orSet (joinParts (partsOf (piecesIn (rows (now (s .entry))))))) (now (buf .exit)) r ⌝ }
+    ensures { λ r. ⌜ SoundIs (now (s .entry)) (orSet (joinParts (partsOf (piecesIn (rows (now (s .entry))))))) (now (buf .exit)) r ⌝ }
 {
     if n <= 1 {
         return Made::No(19, 0);
@@ -383,22 +397,25 @@ fn join_set(s: &[u8], d: bool, last: usize, n: usize, buf: &mut [u8]) -> Made
 // The pieces: one without a record 911, or a set.
 fn join_pieces(s: &[u8], buf: &mut [u8]) -> Made
     requires { ⌜ Input (now buf) (now s) ⌝ }
-    ensures { λ r. ⌜ MadeIs (orSet (joinPieces (piecesIn (rows (now (s .entry)))))) (now (buf .exit)) r ⌝ }
+    ensures { λ r. ⌜ SoundIs (now (s .entry)) (orSet (joinPieces (piecesIn (rows (now (s .entry)))))) (now (buf .exit)) r ⌝ }
 {
-    match next_piece(s, 0) {
+    match first_piece(s) {
         Next::Over => Made::No(19, 0),
+        Next::Stray => Made::No(19, 0),
         Next::Opens(e, d) => match read_lines(s, e) {
             Lines::Wrong => Made::No(19, 0),
             Lines::Marked(last, _, n, _) => join_set(s, d, last, n, buf),
             Lines::Plain(stop) => match next_piece(s, stop) {
                 Next::Opens(_, _) => Made::No(19, 0),
+                Next::Stray => Made::No(19, 0),
                 Next::Over => join_one(s, d, e, stop, buf),
             },
         },
     }
 }
 
-// The joined file before it is checked: 1 and 2 on the input, then 19.
+// The joined file before it is checked: 1 and 2 on the input, then 19. Pieces that can be joined have no broken line, so that one is
+// looked for only where they cannot.
 fn join_into(s: &[u8], buf: &mut [u8]) -> Made
     requires { ⌜ length (now buf) ≡ 65536 ⌝ }
     ensures { λ r. ⌜ MadeIs (joinedFile (now (s .entry))) (now (buf .exit)) r ⌝ }
@@ -406,14 +423,19 @@ fn join_into(s: &[u8], buf: &mut [u8]) -> Made
     if 131072 < s.len() {
         return Made::No(1, 0);
     }
-    let line = broken_line(s);
-    if line != 0 {
-        return Made::No(2, line);
+    match join_pieces(s, buf) {
+        Made::Bytes(t) => Made::Bytes(t),
+        Made::No(number, place) => {
+            let line = broken_line(s);
+            if line != 0 {
+                return Made::No(2, line);
+            }
+            if !starts_well(s) {
+                return Made::No(19, 0);
+            }
+            Made::No(number, place)
+        }
     }
-    if !starts_well(s) {
-        return Made::No(19, 0);
-    }
-    join_pieces(s, buf)
 }
 
 // Pieces in any order to one file. The output is written where the joined file is accepted and fits, and is as it was otherwise.

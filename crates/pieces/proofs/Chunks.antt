@@ -87,6 +87,9 @@ spelled r =
 pub body-line : (r : List ℕ) → Body r → IsLine r
 body-line r e = subst (Spelled r) e (spelled r)
 
+pub end-is : (r : List ℕ) → kindOf r ≡ end → r ≡ endMark
+end-is r e = subst (Spelled r) e (spelled r)
+
 pub bodies-lines : (rs : List (List ℕ)) → All Body rs → All IsLine rs
 bodies-lines [] h = tt
 bodies-lines (r ∷ rs) (h, t) = (body-line r h, bodies-lines rs t)

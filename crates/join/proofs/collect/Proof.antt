@@ -34,12 +34,6 @@ same-length-2 c = search (needs, collect-laws)
 returns : tie.Need-returns Inv-loop μ-loop
 returns c = search (needs, collect-laws)
 
-enum-known-e : tie.Need-enum-known-e Inv-loop μ-loop
-enum-known-e c = search (needs, collect-laws)
-
-read-member-requires : tie.Need-read-member-requires Inv-loop μ-loop
-read-member-requires c κs = search (needs, collect-laws)
-
 enum-told-2 : tie.Need-enum-told-2 Inv-loop μ-loop
 enum-told-2 c = search (needs, collect-laws)
 
@@ -52,8 +46,14 @@ same-length-4 c = search (needs, collect-laws)
 returns-2 : tie.Need-returns-2 Inv-loop μ-loop
 returns-2 c = search (needs, collect-laws)
 
-enum-known-last : tie.Need-enum-known-last Inv-loop μ-loop
-enum-known-last c = search (needs, collect-laws)
+enum-known-e : tie.Need-enum-known-e Inv-loop μ-loop
+enum-known-e c = search (needs, collect-laws)
+
+read-member-requires : tie.Need-read-member-requires Inv-loop μ-loop
+read-member-requires c κs = search (needs, collect-laws)
+
+enum-told-3 : tie.Need-enum-told-3 Inv-loop μ-loop
+enum-told-3 c = search (needs, collect-laws)
 
 same-length-5 : tie.Need-same-length-5 Inv-loop μ-loop
 same-length-5 c = search (needs, collect-laws)
@@ -63,6 +63,18 @@ same-length-6 c = search (needs, collect-laws)
 
 returns-3 : tie.Need-returns-3 Inv-loop μ-loop
 returns-3 c = search (needs, collect-laws)
+
+enum-known-last : tie.Need-enum-known-last Inv-loop μ-loop
+enum-known-last c = search (needs, collect-laws)
+
+same-length-7 : tie.Need-same-length-7 Inv-loop μ-loop
+same-length-7 c = search (needs, collect-laws)
+
+same-length-8 : tie.Need-same-length-8 Inv-loop μ-loop
+same-length-8 c = search (needs, collect-laws)
+
+returns-4 : tie.Need-returns-4 Inv-loop μ-loop
+returns-4 c = search (needs, collect-laws)
 
 store-requires : tie.Need-store-requires Inv-loop μ-loop
 store-requires c κs = search (needs, collect-laws)
@@ -88,16 +100,20 @@ collect-spec =
     same-length
     same-length-2
     returns
-    enum-known-e
-    read-member-requires
     enum-told-2
     same-length-3
     same-length-4
     returns-2
-    enum-known-last
+    enum-known-e
+    read-member-requires
+    enum-told-3
     same-length-5
     same-length-6
     returns-3
+    enum-known-last
+    same-length-7
+    same-length-8
+    returns-4
     store-requires
     add-m
     loop-less
