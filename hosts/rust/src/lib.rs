@@ -1,6 +1,6 @@
 //! The gateway's ordinary-Rust side: `ordinary` has the five calls by document 01 without any proof, `sample` makes files,
 //! `damage` spoils them, `division` has inputs for cutting and joining, `library` has the replies of the proved static
-//! library, `comparison` compares the two. The programs `bench` and `compare` use all of them.
+//! library, `comparison` compares the two, `timing` measures. The programs `bench` and `compare` use all of them.
 
 #![forbid(unsafe_code)]
 // Days are written YYYY_MM_DD.
@@ -14,4 +14,5 @@ pub mod library;
 pub mod ordinary;
 pub mod random;
 pub mod sample;
+pub mod timing;
 pub mod trial;

@@ -1,15 +1,21 @@
 //! Measures the calls of the gateway library against the ordinary implementation on the same inputs, in turn, and prints a
 //! table: minimum and median time of a call, nanoseconds per byte of its input at the median, and the ratios library /
 //! ordinary. `bench CALL..` measures the named calls alone.
+//!
+//! `bench --report DOCUMENT PLOT MACHINE ROWS..` measures nothing: it reads such tables from files and writes them into the
+//! document between its two marks, with the date and machine given, and a plot of them as SVG beside it.
+
+mod plot;
+mod report;
 
 use notebook_hosts::division::MOST_PIECES_BYTES;
 use notebook_hosts::library::{replies, Reply, Told};
+use notebook_hosts::timing::{measure, Row, TARGETS};
 use notebook_hosts::{ordinary, sample};
-use std::hint::black_box;
-use std::time::Instant;
-
-const ROUNDS: usize = 1_001;
-const WARM_UP_ROUNDS: usize = 100;
+use report::{CALLS, MOST_PIECES};
+use std::fs;
+use std::path::Path;
+use std::process::ExitCode;
 
 /// Bytes of a piece: some 130 pieces for the largest sample.
 const CAPACITY: u64 = 500;
@@ -18,11 +24,48 @@ const ID: &[u8] = b"20161115000001";
 /// A piece of this capacity holds one record of `fine`, so that the file makes 999 pieces.
 const FINE_CAPACITY: u64 = 101;
 
-fn main() {
-    let wanted: Vec<String> = std::env::args().skip(1).collect();
-    let measured = |call: &str| wanted.is_empty() || wanted.iter().any(|name| name == call);
-    println!("call       bytes  code      minimum us  median us  ns/byte  ratio of minima  ratio of medians");
-    for call in ["cut-999", "join-999"].into_iter().filter(|call| measured(call)) {
+const USAGE: &str = "usage: bench [CALL..] | bench --report DOCUMENT PLOT MACHINE ROWS..";
+
+fn main() -> ExitCode {
+    let arguments: Vec<String> = std::env::args().skip(1).collect();
+    let arguments: Vec<&str> = arguments.iter().map(String::as_str).collect();
+    let result = match arguments[..] {
+        ["--report", document, plot, machine, ref rows @ ..] => report(document, plot, machine, rows),
+        _ if arguments.iter().all(|call| CALLS.contains(call) || MOST_PIECES.contains(call)) => {
+            measure_calls(&arguments);
+            Ok(())
+        }
+        _ => Err(USAGE.to_string()),
+    };
+    result.map_or_else(
+        |message| {
+            eprintln!("bench: {message}");
+            ExitCode::from(2)
+        },
+        |()| ExitCode::SUCCESS,
+    )
+}
+
+fn report(document: &str, plot: &str, machine: &str, files: &[&str]) -> Result<(), String> {
+    let read = |file: &str| fs::read_to_string(file).map_err(|error| format!("{file}: {error}"));
+    let write = |file: &str, text: String| fs::write(file, text).map_err(|error| format!("{file}: {error}"));
+    let mut rows = Vec::new();
+    for file in files {
+        rows.extend(read(file)?.lines().filter_map(Row::parse));
+    }
+    if rows.is_empty() {
+        return Err("no rows".to_string());
+    }
+    let name = Path::new(plot).file_name().map_or(plot.into(), |name| name.to_string_lossy());
+    let renewed = report::renewed(&read(document)?, machine, &name, &rows);
+    write(document, renewed.map_err(|message| format!("{document}: {message}"))?)?;
+    write(plot, plot::svg(machine, &rows))
+}
+
+fn measure_calls(wanted: &[&str]) {
+    let measured = |call: &&str| wanted.is_empty() || wanted.contains(call);
+    println!("{}  ratio of minima  ratio of medians", Row::HEAD);
+    for call in MOST_PIECES.into_iter().filter(measured) {
         match call {
             "cut-999" => compare(
                 call,
@@ -40,8 +83,8 @@ fn main() {
             ),
         }
     }
-    for call in ["check", "index", "canonical", "cut", "join"].into_iter().filter(|call| measured(call)) {
-        for target in [1_000, 4_000, 16_000, 60_000] {
+    for call in CALLS.into_iter().filter(measured) {
+        for target in TARGETS {
             let file = sample::sized(target);
             match call {
                 "check" => compare(
@@ -121,51 +164,21 @@ fn shuffled(pieces: Vec<Vec<u8>>) -> Vec<u8> {
 type Call<T> = fn(&[u8], &mut [T]) -> Reply;
 
 /// Measures one call on one input and prints its rows.
-fn compare<T: Copy + Default + PartialEq>(call: &str, input: &[u8], length: usize, ordinary: Call<T>, library: Call<T>) {
+fn compare<T: Copy + Default + PartialEq>(
+    call: &str,
+    input: &[u8],
+    length: usize,
+    mut ordinary: Call<T>,
+    mut library: Call<T>,
+) {
     let mut buffer = vec![T::default(); length];
     let reply = ordinary(input, &mut buffer);
     assert_eq!(reply.refusal, 0, "the sample is accepted");
     let mut library_buffer = vec![T::default(); length];
     assert_eq!(reply, library(input, &mut library_buffer), "both answer alike");
     assert!(buffer == library_buffer, "both write alike");
-    let [ours, theirs] = measure(input, &mut buffer, [ordinary, library]);
-    row(call, input.len(), "ordinary", &ours, "");
+    let [ours, theirs] = measure(input, &mut buffer, [&mut ordinary, &mut library]);
+    println!("{}", Row::new(call, input.len(), "ordinary", ours).line());
     let ratios = format!("{:>15.2}  {:>16.2}", theirs.minimum / ours.minimum, theirs.median / ours.median);
-    row(call, input.len(), "library", &theirs, &ratios);
-}
-
-/// Microseconds of one call.
-struct Times {
-    minimum: f64,
-    median: f64,
-}
-
-/// Times each call in turn, round after round. A round repeats the call on a small input, so that the clock's own time
-/// stays small beside it.
-fn measure<T, const N: usize>(input: &[u8], out: &mut [T], calls: [Call<T>; N]) -> [Times; N] {
-    let repeats = 60_000_usize.div_ceil(input.len());
-    let mut times = calls.map(|_| Vec::with_capacity(ROUNDS));
-    for round in 0..WARM_UP_ROUNDS + ROUNDS {
-        for (call, times) in calls.iter().zip(&mut times) {
-            let start = Instant::now();
-            for _ in 0..repeats {
-                black_box(call(black_box(input), black_box(&mut *out)));
-            }
-            let time = start.elapsed().as_secs_f64() * 1e6 / repeats as f64;
-            if round >= WARM_UP_ROUNDS {
-                times.push(time);
-            }
-        }
-    }
-    times.map(|mut times| {
-        times.sort_by(f64::total_cmp);
-        Times { minimum: times[0], median: times[times.len() / 2] }
-    })
-}
-
-fn row(call: &str, bytes: usize, code: &str, times: &Times, ratios: &str) {
-    let per_byte = 1_000.0 * times.median / bytes as f64;
-    let (minimum, median) = (times.minimum, times.median);
-    let line = format!("{call:<9}  {bytes:>5}  {code:<8}  {minimum:>10.2}  {median:>9.2}  {per_byte:>7.2}  {ratios}");
-    println!("{}", line.trim_end());
+    println!("{}  {ratios}", Row::new(call, input.len(), "library", theirs).line());
 }
