@@ -80,6 +80,15 @@ impl Comparison {
         self.compare(&file, &cut, &pieces);
     }
 
+    /// Compares every call on these bytes, as a file and as pieces. All that is chosen follows from the bytes, so that an
+    /// input found by a fuzzer gives the same again.
+    pub fn compare_bytes(&mut self, bytes: &[u8]) {
+        let cut = CutInput::of_bytes(bytes);
+        self.seed = cut.capacity;
+        self.inputs = 0;
+        self.compare(bytes, &cut, bytes);
+    }
+
     /// Compares every call: check, index and canonical on `file`.
     pub fn compare(&mut self, file: &[u8], cut: &CutInput, pieces: &[u8]) {
         let mut random = Random::of(self.seed ^ 0xBFF, self.inputs);
@@ -135,7 +144,7 @@ impl Comparison {
         theirs: impl Fn(&mut [T]) -> Reply,
     ) {
         for length in trial::lengths(random, needed) {
-            let result = trial::compare(length, self.inputs, &ours, &theirs);
+            let result = trial::compare(length, self.seed.wrapping_add(self.inputs), &ours, &theirs);
             let reply = result.as_ref().map_or_else(|difference| difference.ours, |reply| *reply);
             self.tallies[call].counts[reply.refusal as usize] += 1;
             if let Err(difference) = result {

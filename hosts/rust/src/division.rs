@@ -28,6 +28,17 @@ impl CutInput {
         let id = if random.once_in(8) { bad_id(&mut random) } else { good_id(&mut random) };
         CutInput { file, capacity, id }
     }
+
+    /// An input whose bytes decide the capacity: often one near the canonical file's length, else any up to a little more.
+    pub fn of_bytes(bytes: &[u8]) -> Self {
+        let sum = bytes.iter().fold(7_u64, |sum, &byte| sum.wrapping_mul(31).wrapping_add(u64::from(byte)));
+        let length = ordinary::canonical(bytes, &mut vec![0; bytes.len()]).unwrap_or(bytes.len() as u64);
+        let capacity = match sum % 8 {
+            near @ 0..3 => (length + near).saturating_sub(1),
+            _ => (sum >> 3) % (length + 40),
+        };
+        CutInput { file: bytes.to_vec(), capacity, id: b"12345678901234".to_vec() }
+    }
 }
 
 /// Direction 2: record 1 and records 4 of few bytes, most of them short; once in eight near the limit of 65,536 bytes.

@@ -148,7 +148,8 @@ pub fn index_into(file: &[u8], out: &mut [Entry]) -> Result<usize, Refusal> {
     written(raw::index(file, raw::numbers(out)))
 }
 
-/// The canonical file: days in the era form, postal codes without hyphen, RP numbers without leading zeros, no 1Ah.
+/// The canonical file: days in the era form, postal codes without hyphen, RP numbers and quantities
+/// without leading zeros, no 1Ah.
 pub fn canonical(file: &[u8]) -> Result<Vec<u8>, Refusal> {
     // No canonical spelling is longer than another.
     let mut out = vec![0; file.len().min(MOST_FILE_BYTES)];

@@ -1,0 +1,41 @@
+//! `visit FILE`: checks a file, lists its drugs, makes it canonical, cuts it into pieces of 160 bytes and joins them from the
+//! last to the first.
+
+use std::error::Error;
+use std::process::ExitCode;
+
+fn main() -> ExitCode {
+    visit().map_or_else(
+        |error| {
+            // A refusal shows itself as `no 11 10: form`.
+            println!("{error}");
+            ExitCode::FAILURE
+        },
+        |()| ExitCode::SUCCESS,
+    )
+}
+
+fn visit() -> Result<(), Box<dyn Error>> {
+    let path = std::env::args().nth(1).ok_or("usage: visit FILE")?;
+    let file = std::fs::read(&path)?;
+
+    let checked = notebook::check(&file)?;
+    println!("check: {} records, {} groups, {} drugs", checked.records, checked.groups, checked.drugs);
+
+    // Record i stands in line i + 2: line 1 is the version.
+    for (line, entry) in (2..).zip(notebook::index(&file)?).filter(|(_, entry)| entry.record == 201) {
+        println!("index: a drug in line {line}, group {}, doctor's line {}", entry.group, entry.doctor);
+    }
+
+    let canonical = notebook::canonical(&file)?;
+    println!("canonical: {} bytes, from {}", canonical.len(), file.len());
+
+    let cut = notebook::cut(&file, 160, "20261115000001")?;
+    println!("cut: {} pieces, {} bytes in all", cut.len(), cut.as_bytes().len());
+
+    let mut pieces: Vec<&[u8]> = cut.pieces().collect();
+    pieces.reverse();
+    let joined = notebook::join(&pieces.concat())?;
+    println!("join: {} bytes, {}", joined.len(), if joined == canonical { "the canonical file" } else { "ANOTHER FILE" });
+    Ok(())
+}
