@@ -2,6 +2,7 @@
 # make test           the C test and example over the library; C as C99, the header as C++11 too
 # make stack          the stack that each call takes
 # make memcheck       the C test under valgrind
+# make memcheck-rust  the Rust host's tests under valgrind (many minutes)
 # make install        library, header, notebook.pc and the programs that are built, under PREFIX (and DESTDIR)
 # make test-install   installs under target/prefix, and builds and runs the example over that in another folder
 # make uninstall      removes what install puts there
@@ -20,6 +21,7 @@ CXX ?= c++
 INSTALL ?= install
 PKG_CONFIG ?= pkg-config
 VALGRIND ?= valgrind
+CARGO ?= cargo
 CFLAGS ?= -O2
 WARNINGS = -std=c99 -Wall -Wextra -Wpedantic -Werror
 
@@ -30,7 +32,7 @@ CODE = $(wildcard crates/*/src/lib.rt)
 NAMES = notecheck noteindex notecanon notecut notejoin
 PROGRAMS = $(filter $(NAMES),$(shell sed -n 's/^\([a-z_]*\):.*/\1/p' crates.txt))
 
-.PHONY: all library programs test stack memcheck install uninstall test-install clean
+.PHONY: all library programs test stack memcheck memcheck-rust install uninstall test-install clean
 # rt keeps its records under target/: one rt at a time.
 .NOTPARALLEL:
 
@@ -62,6 +64,9 @@ stack: target/c/stack
 
 memcheck: target/c/test
 	$(VALGRIND) --leak-check=full --error-exitcode=1 target/c/test
+
+memcheck-rust: $(LIBRARY)
+	cd hosts/rust && CARGO_TARGET_X86_64_UNKNOWN_LINUX_GNU_RUNNER='$(VALGRIND) --quiet --error-exitcode=1' $(CARGO) test --offline
 
 # The library is installed as libnotebook.a, after its header and its calls.
 install: all
