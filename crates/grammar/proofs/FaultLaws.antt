@@ -1,10 +1,10 @@
--- The claims of specs/Faults.antt: a refusal at a line depends on the lines up to it alone, its number is the lowest that the line has, and of the
--- items the leftmost faulty one tells. Assumes nothing.
+-- The claims of specs/Faults.antt: a refusal at a line depends on the lines up to it alone, its number is the lowest that the line has, of the
+-- items the leftmost faulty one tells, and an item of most kinds has 8 or 11 only. Assumes nothing.
 use Prim.Native.Nat.{ℕ, zero, suc, _+_, _≤_, _<_}
 use native.Mathlib.Omega.{arith}
 use mathlib.Core.Path.{_≡_, refl, ap, ap₂, sym, _∙_, subst}
 use mathlib.Core.Logic.{_⊎_, inl, inr}
-use mathlib.Core.Bool.{Bool, true, false, cond, not, _||_}
+use mathlib.Core.Bool.{Bool, true, false, cond, not, _||_, false≢true}
 use mathlib.Core.Option.{Option, none, some}
 use mathlib.Core.List.{List, [], _∷_, _++_}
 use lib.Dec.{eqb, leb, eqb·suc-zero}
@@ -34,7 +34,7 @@ use Rattle.lines.specs.Facts.{factsOf}
 use Rattle.notebook.specs.Notebook.{stepLine, prepend, closed, onward, recordsFrom, notebookOf, readRows, readFile}
 use Rattle.notebook.proofs.StepLaws.{placed}
 use Rattle.grammar.specs.Faults.{FirstFault, when, itemFaults, ownFaults, orderFaults, faultsOf, Given, here, there, Lowest, LowestNumber}
-use Rattle.grammar.specs.Faults.{eachFault, Leftmost, ItemByItem}
+use Rattle.grammar.specs.Faults.{eachFault, Leftmost, ItemByItem, measured, OnlyForm}
 use Rattle.grammar.proofs.RowsOf.{rows-append, no-mark}
 
 -- ---- the first faulty line
@@ -260,6 +260,44 @@ item-by-item provider (i ∷ is) (s ∷ ss) n h e = by (itemFault provider i s) 
           (q ∙ e);
       none = tt;
     }
+
+-- ---- most kinds have 8 and 11 only
+
+unless-form : (b : Bool) → 0 < unless b 11 → unless b 11 ≡ 11
+unless-form true h = absurd (omega arith)
+unless-form false h = refl
+
+fault-form : (k : Kind) (s : List ℕ) → measured k ≡ false → 0 < fault k s → fault k s ≡ 11
+unfolding fault
+fault-form (N m) s e h = absurd (false≢true (sym e))
+fault-form (U m) s e h = absurd (false≢true (sym e))
+fault-form (X m) s e h = absurd (false≢true (sym e))
+fault-form A s e h = unless-form (oneOf (1 ∷ 2 ∷ 8 ∷ 9 ∷ []) s) h
+fault-form F s e h = unless-form (prefecture s) h
+fault-form C s e h = unless-form (seven s) h
+fault-form P s e h = unless-form (postal s) h
+fault-form R s e h = go (number s) h
+  where
+    go : (o : Option ℕ) → 0 < numberFault o → numberFault o ≡ 11
+    go none h = refl
+    go (some n) h = unless-form (leb 1 n) h
+fault-form W s e h = unless-form (decimal 3 3 s) h
+fault-form Q s e h = unless-form (decimal 6 5 s) h
+fault-form D s e h = go (readDay s) h
+  where
+    go : (r : DateRead) → 0 < dayFault r → dayFault r ≡ 11
+    go (Date d) h = absurd (omega arith)
+    go NotADate h = refl
+fault-form (among ns) s e h = unless-form (oneOf ns s) h
+
+pub only-form : OnlyForm
+unfolding itemFault
+only-form provider i s e =
+    cond-case (λ (n : ℕ). 0 < n → (n ≡ 8) ⊎ (n ≡ 11)) (empty s) _ _ (λ _. go (not (required provider (i .need)))) (λ _ h. inr (fault-form (i .kind) s e h))
+  where
+    go : (b : Bool) → 0 < unless b 8 → (unless b 8 ≡ 8) ⊎ (unless b 8 ≡ 11)
+    go true h = absurd (omega arith)
+    go false h = inl refl
 
 -- ---- a line's numbers rise
 

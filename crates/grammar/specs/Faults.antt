@@ -1,16 +1,17 @@
--- What is claimed of refusals. Document 01: "Then the first faulty line; within it the lowest number, but 8–11 item by item from the left". Names of
--- proofs/FaultLaws.antt have these types: `first-fault`, `lowest-number`, `item-by-item`.
+-- What is claimed of refusals. Document 01: "Then the first faulty line; within it the lowest number, but 8–11 item by item from the left (F, C, P,
+-- D, A, braces, R, W, Q: only 8 and 11)". Names of proofs/FaultLaws.antt have these types: `first-fault`, `lowest-number`, `item-by-item`,
+-- `only-form`.
 use Prim.Native.Nat.{ℕ, _+_, _≤_, _<_}
 use mathlib.Core.Path.{_≡_}
 use mathlib.Core.Logic.{_⊎_, _↔_}
-use mathlib.Core.Bool.{Bool, true, cond, not, _||_}
+use mathlib.Core.Bool.{Bool, true, false, cond, not, _||_}
 use mathlib.Core.List.{List, [], _∷_, _++_}
 use lib.Dec.{eqb, leb}
 use lib.ListN.{length}
 use Rattle.lists.specs.Lists.{same, All, refused, unless}
 use Rattle.characters.specs.Text.{allChars}
 use Rattle.characters.specs.Rows.{rows}
-use Rattle.records.specs.Table.{Item}
+use Rattle.records.specs.Table.{Kind, N, U, X, A, F, C, P, R, W, Q, D, among, Item}
 use Rattle.records.specs.Split.{itemsOf}
 use Rattle.records.specs.Records.{recordOf, recordFrom, itemFault, itemsFault, rowOf, pairs, t911}
 use Rattle.order.specs.declared.State.{State}
@@ -100,3 +101,25 @@ pub record Leftmost (n : ℕ) (ns : List ℕ) : Type 0 where
 
 abbrev pub ItemByItem : Type 0
 ItemByItem = (provider : Bool) (is : List Item) (ss : List (List ℕ)) (n : ℕ) → 0 < n → itemsFault provider is ss ≡ n → Leftmost n (eachFault provider is ss)
+
+-- ---- "(F, C, P, D, A, braces, R, W, Q: only 8 and 11)"
+
+-- the kinds that have 9 and 10 too
+abbrev pub measured : Kind → Bool
+measured (N m) = true
+measured (U m) = true
+measured (X m) = true
+measured A = false
+measured F = false
+measured C = false
+measured P = false
+measured R = false
+measured W = false
+measured Q = false
+measured D = false
+measured (among ns) = false
+
+abbrev pub OnlyForm : Type 0
+OnlyForm =
+    (provider : Bool) (i : Item) (s : List ℕ) → measured (i .kind) ≡ false → 0 < itemFault provider i s
+    → (itemFault provider i s ≡ 8) ⊎ (itemFault provider i s ≡ 11)
