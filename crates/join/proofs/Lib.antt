@@ -1,4 +1,5 @@
 pub mod WalkLaws
+pub mod SoundLaws
 pub mod BodyLaws
 pub mod SetLaws
 pub mod JoinLaws

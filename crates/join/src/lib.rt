@@ -1,6 +1,7 @@
 // Joining: pieces in any order to one file, which is then checked. The call's definition: specs/Join.antt. Inside, a piece is carried by
 // positions (specs/Spans.antt): its rows are the bytes from behind its line 1 to its record 911, and the tables `starts` and `ends`
-// have them by place, so that each piece is looked at once.
+// have them by place, so that each piece is looked at once. Only where the pieces cannot be joined is the input read again for a broken
+// line, whose number 2 goes before 19.
 ghost use mathlib.Core.Path.{_≡_};
 ghost use mathlib.Core.List.{_++_};
 ghost use Prim.Native.Nat.{_≤_, _<_};
@@ -414,8 +415,7 @@ fn join_pieces(s: &[u8], buf: &mut [u8]) -> Made
     }
 }
 
-// The joined file before it is checked: 1 and 2 on the input, then 19. Pieces that can be joined have no broken line, so that one is
-// looked for only where they cannot.
+// The joined file before it is checked: 1 and 2 on the input, then 19.
 fn join_into(s: &[u8], buf: &mut [u8]) -> Made
     requires { ⌜ length (now buf) ≡ 65536 ⌝ }
     ensures { λ r. ⌜ MadeIs (joinedFile (now (s .entry))) (now (buf .exit)) r ⌝ }

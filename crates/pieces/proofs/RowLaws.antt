@@ -9,7 +9,7 @@ use lib.Dec.{eqb}
 use lib.ListN.{length, take, drop, getD, length-drop}
 use lib.Seq.{drop-drop, take-all}
 use Rattle.lists.specs.Lists.{bytes, same, upTo, is, findFrom}
-use Rattle.lists.proofs.Cuts.{drop-end, rest-all, upTo-hit, upTo-go, upTo-out, upTo-le, upTo-split}
+use Rattle.lists.proofs.Cuts.{drop-end, rest-all, upTo-le, upTo-split}
 use Rattle.lists.proofs.Loops.{find-high}
 use Rattle.characters.specs.Text.{isStop, text}
 use Rattle.characters.specs.Rows.{consRow, rows, lineEnd, isLine, endMark}

@@ -2,7 +2,7 @@
 use Prim.Native.Nat.{ℕ, zero, suc, _+_, _-_, _≤_, _<_}
 use mathlib.Core.Path.{_≡_, refl, sym, ap, _∙_, subst}
 use mathlib.Core.Bool.{Bool, true, false, not, false≢true}
-use mathlib.Core.List.{List, [], _∷_, _++_}
+use mathlib.Core.List.{List, _∷_, _++_}
 use native.Mathlib.Omega.{arith}
 use borrow.Author.Tests.{ne-eqb, eqb-true, eqb-false, leb-true, leb-false, not-false}
 use lib.Dec.{leb, eqb}
@@ -19,7 +19,6 @@ use Rattle.canonical.specs.Canonical.{headRow}
 use Rattle.canonical.proofs.Accepted.{head-length}
 use Rattle.pieces.specs.declared.Row.{Row}
 use Rattle.pieces.specs.declared.Row.the-variants.{Body}
-use Rattle.pieces.specs.declared.RowRead.{RowRead}
 use Rattle.pieces.specs.Answers.{RowAt, KindIs, RowIs, PlainWhere, Skipped}
 use Rattle.pieces.proofs.RowLaws.{row-laws, head-true, head-false}
 use Rattle.pieces.proofs.Chunks.{body-is}

@@ -87,7 +87,7 @@ pub fn read_mark(line: &[u8]) -> Numbers
     read_numbers(line, j)
 }
 
-// Whether eight bytes are all above 1Ah, so that no line end stands among them. Without a way out of its loop they are compared at once.
+// Whether eight bytes are all above 1Ah, so that none ends a text. The loop has no way out, so that the compiler compares them at once.
 fn eight_plain(s: &[u8], at: usize) -> bool
     requires { ⌜ at + 8 ≤ length (now s) ⌝ }
     ensures { λ r. ⌜ PlainWhere (now (s .entry)) at 8 r ⌝ }
@@ -154,7 +154,7 @@ fn text_end(s: &[u8], at: usize) -> usize
 }
 
 // Whether a row is a line with its line end.
-pub fn is_line(r: &[u8]) -> bool
+fn is_line(r: &[u8]) -> bool
     ensures { λ x. ⌜ x ≡ isLine (now (r .entry)) ⌝ }
 {
     let e = text_end(r, 0);
@@ -171,7 +171,7 @@ pub enum Row {
     Broken,
 }
 
-pub fn row_kind(r: &[u8]) -> Row
+fn row_kind(r: &[u8]) -> Row
     ensures { λ k. ⌜ KindIs (now (r .entry)) k ⌝ }
 {
     let provider = b"JAHISTC04,1\r\n";
@@ -221,7 +221,8 @@ fn any_row(s: &[u8], at: usize) -> RowRead
     }
 }
 
-// The same: a text with its line end that cannot be a line 1, by its length or its first byte, is looked at once.
+// The same. Most rows are a text with its line end, which the text's end tells: they are looked at once. Of these only a row as long as
+// a line 1 that begins with its J is compared with it.
 pub fn row_at(s: &[u8], at: usize) -> RowRead
     requires { ⌜ at < length (now s) ⌝ }
     ensures { λ r. ⌜ RowIs (now (s .entry)) at r ⌝ }
