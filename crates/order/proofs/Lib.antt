@@ -1,4 +1,4 @@
-pub mod Halves
+pub mod ByNumber
 pub mod Rows
 pub mod Laws
 pub mod Run

@@ -4,12 +4,14 @@
 // State (what a record changes). A new record number moves together: a row in `mayFollow` and in `may_follow`, and the
 // part of the pattern that it belongs to (`in_front`, `in_rp`, `in_rest`).
 ghost use mathlib.Core.Path.{_≡_};
-ghost use mathlib.Core.Bool.{cond};
+ghost use mathlib.Core.Bool.{false, not, cond, _&&_};
+ghost use mathlib.Core.List.{[], _∷_};
 ghost use lib.Dec.{eqb};
-ghost use Rattle.order.specs.Places.{inHead, inFront, inDrugs, inRp, inRest, inGroup, ofOpenRp, mayFollow};
-ghost use Rattle.order.specs.Questions.{beforeOf, askedOf};
-ghost use Rattle.order.specs.Rules.{pairBroken, misplaced, continues, closesRp, lacking, missing, valueWrong, newerGroup};
-ghost use Rattle.order.specs.State.{none, hadAfter, start, advance, refusalOf, stepOf, finishOf, groupOf, drugOf, Room};
+ghost use Rattle.order.specs.declared.Moved.the-variants.{On};
+ghost use Rattle.order.specs.Places.{oneOf, inHead, inFront, inDrugs, inRp, inRest, inGroup};
+ghost use Rattle.order.specs.Questions.{beforeOf};
+ghost use Rattle.order.specs.Rules.{lacking};
+ghost use Rattle.order.specs.State.{none, start, advance, rpOf, doctorOf, refusalOf, stepOf, finishOf, groupOf, drugOf, Room};
 
 // All that the rules look at in a record; an empty item is 0, or false. `rp` is the first item of 201 to 391, `day` a
 // 5's day as YYYYMMDD, `schedule` an 11's fee schedule (third item), `form` a 301's form (fifth item), `named` whether
@@ -27,11 +29,11 @@ pub struct Facts {
 // `doctor` and `drug` are the lines of the last 55 and 201, 0 where there is none.
 pub struct Had {
     pub had11: bool,
-    pub schedule: u32,
     pub had51: bool,
     pub had411: bool,
-    pub rp: u32,
     pub had301: bool,
+    pub schedule: u32,
+    pub rp: u32,
     pub doctor: u32,
     pub drug: u32,
 }
@@ -59,13 +61,6 @@ fn pick(b: bool, x: u32, y: u32) -> u32
     ensures { λ r. ⌜ r ≡ cond b x y ⌝ }
 {
     if b { x } else { y }
-}
-
-// The first of two refusals, where 0 is none.
-fn first_of(a: u32, b: u32) -> u32
-    ensures { λ r. ⌜ r ≡ cond (eqb a 0) b a ⌝ }
-{
-    pick(a == 0, b, a)
 }
 
 // Parts of the pattern, by place; specs/Places has the sentence of each.
@@ -105,45 +100,17 @@ fn in_group(p: u32) -> bool
     in_front(p) | (p == 55) | in_rp(p) | in_rest(p)
 }
 
-// A record of the open RP by its number; a 201 may begin the next.
-fn of_open_rp(n: u32) -> bool
-    ensures { λ r. ⌜ r ≡ ofOpenRp n ⌝ }
+// A record of the open RP but a 201; placed: it may stand here. "The first items of one RP have one value", else 15.
+fn kept_rp(placed: bool, same: bool) -> u32
+    ensures { λ k. ⌜ k ≡ cond placed (cond (not same) 15 0) 13 ⌝ }
 {
-    (n == 281) | (n == 291) | (n == 301) | (n == 311) | (n == 391)
-}
-
-// Record `n` may stand after place `p`: a row for each number, so that a record is tested against its own places only.
-fn may_follow(p: u32, n: u32) -> bool
-    ensures { λ r. ⌜ r ≡ mayFollow p n ⌝ }
-{
-    let head = in_head(p);
-    let front = in_front(p);
-    let drugs = in_drugs(p);
-    let rp = in_rp(p);
-    let rest = in_rest(p);
-    match n {
-        1 => p == 0,
-        2 => (p == 0) | (p == 1) | (p == 2),
-        3 => (p == 0) | (p == 1) | (p == 2) | (p == 3),
-        4 => head,
-        5 => head | front | rp | rest,
-        11 => p == 5,
-        15 => (p == 5) | (p == 11),
-        51 => (p == 5) | (p == 11) | (p == 15),
-        55 => front | rp,
-        201 => front | (p == 55) | rp,
-        281 => (p == 201) | (p == 281),
-        291 => drugs,
-        301 => drugs,
-        311 => (p == 301) | (p == 311),
-        391 => rp,
-        401 => front | rp | (p == 401),
-        411 => front | rp | ((p == 401) | (p == 411)),
-        501 => front | rp | ((p == 401) | (p == 411) | (p == 501)),
-        601 => front | rp | rest,
-        701 => head | front | rp | rest | (p == 701),
-        _ => false,
+    if same {
+        if placed {
+            return 0;
+        }
+        return 13;
     }
+    pick(placed, 15, 13)
 }
 
 impl Had {
@@ -160,44 +127,6 @@ impl Had {
             had301: false,
             doctor: 0,
             drug: 0,
-        }
-    }
-
-    // A 5 begins anew: neither doctor nor fee schedule reaches into the next group.
-    fn after(self, r: Facts, line: u32) -> Self
-        ensures { λ h. ⌜ h ≡ hadAfter self r line ⌝ }
-    {
-        let n = r.number;
-        match n {
-            5 => Had::none(),
-            11 => Had {
-                had11: true,
-                schedule: r.schedule,
-                ..self
-            },
-            51 => Had {
-                had51: true,
-                ..self
-            },
-            55 => Had {
-                doctor: line,
-                ..self
-            },
-            201 => Had {
-                rp: r.rp,
-                had301: false,
-                drug: line,
-                ..self
-            },
-            301 => Had {
-                had301: true,
-                ..self
-            },
-            411 => Had {
-                had411: true,
-                ..self
-            },
-            _ => self,
         }
     }
 }
@@ -219,148 +148,358 @@ impl State {
         }
     }
 
-    // 12: a usage name has to stand here and is empty. Here and below n is the record's number, so that a caller may name it.
-    fn pair_broken(self, n: u32, r: Facts) -> bool
-        requires { ⌜ n ≡ r .number ⌝ }
-        ensures { λ b. ⌜ b ≡ pairBroken (beforeOf self) (askedOf self r) ⌝ }
-    {
-        (n == 301)
-            & !r.named
-            & (!self.provider
-                | in_group(self.place)
-                    & (self.had.schedule == 4)
-                    & !((r.form == 9) | (r.form == 10)))
-    }
-
-    // 13: the record can't stand here.
-    fn misplaced(self, n: u32, r: Facts) -> bool
-        requires { ⌜ n ≡ r .number ⌝ }
-        ensures { λ b. ⌜ b ≡ misplaced (beforeOf self) (askedOf self r) ⌝ }
-    {
-        !may_follow(self.place, n)
-            | (n == 55) & in_rp(self.place) & (self.had.doctor == 0)
-            | self.provider
-                & ((n == 51) | (n == 55))
-                & ((self.had.schedule == 1) | (self.had.schedule == 3))
-            | self.provider & (self.place == 51) & !((n == 55) | (n == 201))
-            | self.provider & (n == 401) & (self.had.rp == 0)
-    }
-
-    // A further drug of the open RP.
-    fn continues(self, n: u32, r: Facts) -> bool
-        requires { ⌜ n ≡ r .number ⌝ }
-        ensures { λ b. ⌜ b ≡ continues (beforeOf self) (askedOf self r) ⌝ }
-    {
-        (n == 201) & in_drugs(self.place) & (r.rp == self.had.rp)
-    }
-
-    // The open RP ends before this record.
-    fn closes_rp(self, n: u32, r: Facts) -> bool
-        requires { ⌜ n ≡ r .number ⌝ }
-        ensures { λ b. ⌜ b ≡ closesRp (beforeOf self) (askedOf self r) ⌝ }
-    {
-        in_rp(self.place) & !of_open_rp(n) & !self.continues(n, r)
-    }
-
     // The open group can't close in direction 1.
     fn lacking(self) -> bool
         ensures { λ b. ⌜ b ≡ lacking (beforeOf self) ⌝ }
     {
-        !self.had.had11
-            | !(self.had.rp == 0) & (self.had.schedule == 4) & !self.had.had51
-            | (self.had.rp == 0) & !self.had.had411
+        if !self.had.had11 {
+            return true;
+        }
+        if self.had.rp == 0 {
+            return !self.had.had411;
+        }
+        (self.had.schedule == 4) & !self.had.had51
     }
 
-    // 14: a part that this record closes lacks a record.
-    fn missing(self, n: u32, r: Facts) -> bool
-        requires { ⌜ n ≡ r .number ⌝ }
-        ensures { λ b. ⌜ b ≡ missing (beforeOf self) (askedOf self r) ⌝ }
+    // Direction 1: "after an 11 with 1 or 3, no 51 or 55".
+    fn barred(self) -> bool
+        ensures { λ b. ⌜ b ≡ (self .provider && oneOf (self .had .schedule) (1 ∷ 3 ∷ [])) ⌝ }
     {
-        !self.provider & (self.place == 0) & !(n == 1)
-            | self.provider & self.closes_rp(n, r) & !self.had.had301
-            | self.provider & ((n == 5) | (n == 701)) & in_group(self.place) & self.lacking()
-            | self.provider & (n == 701) & (self.groups == 0)
+        self.provider & ((self.had.schedule == 1) | (self.had.schedule == 3))
     }
 
-    // 15: the RP value is wrong. In 64 bits, so that the next value always exists.
-    fn value_wrong(self, n: u32, r: Facts) -> bool
-        requires { ⌜ n ≡ r .number ⌝ }
-        ensures { λ b. ⌜ b ≡ valueWrong (beforeOf self) (askedOf self r) ⌝ }
+    // The open RP closes. Direction 1: "each RP has 301".
+    fn rp_closed(self) -> u32
+        ensures { λ k. ⌜ k ≡ cond (self .provider && not (self .had .had301)) 14 0 ⌝ }
     {
+        pick(self.provider & !self.had.had301, 14, 0)
+    }
+
+    // 2, 3 and 4; placed: "any 2s, then 3s, then 4s". "Direction 2: record 1 stands" before them.
+    fn head_refusal(self, placed: bool) -> u32
+        ensures { λ k. ⌜ k ≡ cond placed (cond (not (self .provider) && eqb (self .place) 0) 14 0) 13 ⌝ }
+    {
+        pick(placed, pick(!self.provider & (self.place == 0), 14, 0), 13)
+    }
+
+    // 5: it closes the RP and the group before it; direction 1: "a 51 is followed by 55 or 201", not by a 5.
+    // "No group is newer than the one before it; equal days are good."
+    fn group_refusal(self, r: Facts) -> u32
+        requires { ⌜ r .number ≡ 5 ⌝ }
+        ensures { λ k. ⌜ k ≡ refusalOf self r ⌝ }
+    {
+        let p = self.place;
+        let good = pick(!(self.groups == 0) & (self.day < r.day), 16, 0);
+        let lacks = self.lacking();
+        if in_rp(p) {
+            return pick(
+                self.provider & !self.had.had301 | self.provider & lacks,
+                14,
+                good,
+            );
+        }
+        if in_front(p) | in_rest(p) {
+            return pick(
+                self.provider & (p == 51),
+                13,
+                pick(self.provider & lacks, 14, good),
+            );
+        }
+        pick(in_head(p), pick(!self.provider & (p == 0), 14, good), 13)
+    }
+
+    // 701: it closes what a 5 closes, and the groups. Direction 1: "at least one group".
+    fn end_refusal(self, r: Facts) -> u32
+        requires { ⌜ r .number ≡ 701 ⌝ }
+        ensures { λ k. ⌜ k ≡ refusalOf self r ⌝ }
+    {
+        let p = self.place;
+        let lacks = self.lacking();
+        let none = self.provider & (self.groups == 0);
+        if in_rp(p) {
+            return pick(
+                self.provider & !self.had.had301 | self.provider & lacks | none,
+                14,
+                0,
+            );
+        }
+        if in_front(p) | in_rest(p) {
+            return pick(
+                self.provider & (p == 51),
+                13,
+                pick(self.provider & lacks | none, 14, 0),
+            );
+        }
+        pick(
+            in_head(p) | (p == 701),
+            pick(!self.provider & (p == 0) | none, 14, 0),
+            13,
+        )
+    }
+
+    // 55: "Prescriptions are all without doctors, or the first is preceded by 55".
+    fn doctor_refusal(self, r: Facts) -> u32
+        requires { ⌜ r .number ≡ 55 ⌝ }
+        ensures { λ k. ⌜ k ≡ refusalOf self r ⌝ }
+    {
+        let p = self.place;
+        let barred = self.barred();
+        if in_rp(p) {
+            return pick((self.had.doctor == 0) | barred, 13, self.rp_closed());
+        }
+        if in_front(p) {
+            return pick(barred, 13, 0);
+        }
+        13
+    }
+
+    // 201 that begins an RP, which has "1 in a group's first RP, one more in each next". In 64 bits, so that the next value always exists.
+    fn new_rp(self, r: Facts) -> u32
+        requires { ⌜ r .number ≡ 201 ⌝ }
+        requires { ⌜ (inDrugs (self .place) && eqb (r .rp) (self .had .rp)) ≡ false ⌝ }
+        ensures { λ k. ⌜ k ≡ refusalOf self r ⌝ }
+    {
+        let p = self.place;
         let next = (self.had.rp as u64) + 1;
         let value = r.rp as u64;
-        (n == 201) & !self.continues(n, r) & !(value == next)
-            | of_open_rp(n) & !(r.rp == self.had.rp)
+        let good = pick(!(value == next), 15, 0);
+        if in_rp(p) {
+            return pick(self.provider & !self.had.had301, 14, good);
+        }
+        pick(in_front(p) | (p == 55), good, 13)
     }
 
-    // 16: the group is newer than the one before it.
-    fn newer_group(self, n: u32, r: Facts) -> bool
-        requires { ⌜ n ≡ r .number ⌝ }
-        ensures { λ b. ⌜ b ≡ newerGroup (beforeOf self) (askedOf self r) ⌝ }
+    // 201: "with another value than the open RP begins a new RP; so does any 201 after a 301 or 391".
+    fn drug_refusal(self, r: Facts) -> u32
+        requires { ⌜ r .number ≡ 201 ⌝ }
+        ensures { λ k. ⌜ k ≡ refusalOf self r ⌝ }
     {
-        (n == 5) & !(self.groups == 0) & (self.day < r.day)
+        if r.rp == self.had.rp {
+            if in_drugs(self.place) {
+                return 0;
+            }
+            return self.new_rp(r);
+        }
+        self.new_rp(r)
     }
 
-    // The lowest of 12 and 13 that the record breaks, 0 where it breaks none; n: the record's number.
-    fn ill_placed(self, n: u32, r: Facts) -> u32
-        requires { ⌜ n ≡ r .number ⌝ }
-        ensures { λ k. ⌜ k ≡ cond (pairBroken (beforeOf self) (askedOf self r)) 12 (cond (misplaced (beforeOf self) (askedOf self r)) 13 0) ⌝ }
+    // 301: "The usage name (second item) stands in direction 2 always, and in direction 1 when the open group has had an 11 with 4 and
+    // the form isn't 9 or 10."
+    fn usage_refusal(self, r: Facts) -> u32
+        requires { ⌜ r .number ≡ 301 ⌝ }
+        ensures { λ k. ⌜ k ≡ refusalOf self r ⌝ }
     {
-        let pair = self.pair_broken(n, r);
-        let place = self.misplaced(n, r);
-        pick(pair, 12, pick(place, 13, 0))
+        let p = self.place;
+        let same = r.rp == self.had.rp;
+        if r.named {
+            return kept_rp(in_drugs(p), same);
+        }
+        if !self.provider
+            | in_group(p) & (self.had.schedule == 4) & !((r.form == 9) | (r.form == 10))
+        {
+            return 12;
+        }
+        kept_rp(in_drugs(p), same)
     }
 
-    // The lowest of 14 to 16 that the record breaks.
-    fn ill_valued(self, n: u32, r: Facts) -> u32
-        requires { ⌜ n ≡ r .number ⌝ }
-        ensures { λ k. ⌜ k ≡ cond (missing (beforeOf self) (askedOf self r)) 14 (cond (valueWrong (beforeOf self) (askedOf self r)) 15 (cond (newerGroup (beforeOf self) (askedOf self r)) 16 0)) ⌝ }
+    // 401 to 601; behind: "any 401s, 411s, 501s, 601s" before it. Direction 1: "a 51 is followed by 55 or 201".
+    fn rest_refusal(self, behind: bool) -> u32
+        ensures { λ k. ⌜ k ≡ cond (inRp (self .place)) (cond (self .provider && not (self .had .had301)) 14 0) (cond (inFront (self .place)) (cond (self .provider && eqb (self .place) 51) 13 0) (cond behind 0 13)) ⌝ }
     {
-        let missing = self.missing(n, r);
-        let value = self.value_wrong(n, r);
-        let date = self.newer_group(n, r);
-        pick(missing, 14, pick(value, 15, pick(date, 16, 0)))
+        let p = self.place;
+        if in_rp(p) {
+            return self.rp_closed();
+        }
+        if in_front(p) {
+            return pick(self.provider & (p == 51), 13, 0);
+        }
+        pick(behind, 0, 13)
     }
 
-    // The lowest number that the record breaks; 0 where it is good. Almost every record is, so all five are tested; a record's number
-    // settles most of what they ask, so each frequent number has a call of its own, which is compiled for that number alone.
+    // The lowest number that the record breaks; 0 where it is good. A record's number settles most of what the rules ask, so each number
+    // has its own: first where it may stand (13), then what else it is asked.
     fn refusal(self, r: Facts) -> u32
         ensures { λ n. ⌜ n ≡ refusalOf self r ⌝ }
     {
         let n = r.number;
+        let p = self.place;
+        let same = r.rp == self.had.rp;
         match n {
-            5 => first_of(self.ill_placed(5, r), self.ill_valued(5, r)),
-            11 => first_of(self.ill_placed(11, r), self.ill_valued(11, r)),
-            51 => first_of(self.ill_placed(51, r), self.ill_valued(51, r)),
-            55 => first_of(self.ill_placed(55, r), self.ill_valued(55, r)),
-            201 => first_of(self.ill_placed(201, r), self.ill_valued(201, r)),
-            281 => first_of(self.ill_placed(281, r), self.ill_valued(281, r)),
-            291 => first_of(self.ill_placed(291, r), self.ill_valued(291, r)),
-            301 => first_of(self.ill_placed(301, r), self.ill_valued(301, r)),
-            311 => first_of(self.ill_placed(311, r), self.ill_valued(311, r)),
-            _ => first_of(self.ill_placed(n, r), self.ill_valued(n, r)),
+            1 => pick(p == 0, 0, 13),
+            2 => self.head_refusal((p == 0) | (p == 1) | (p == 2)),
+            3 => self.head_refusal((p == 0) | (p == 1) | (p == 2) | (p == 3)),
+            4 => self.head_refusal(in_head(p)),
+            5 => self.group_refusal(r),
+            11 => pick(p == 5, 0, 13),
+            15 => pick((p == 5) | (p == 11), 0, 13),
+            51 => pick(
+                (p == 5) | (p == 11) | (p == 15),
+                pick(self.barred(), 13, 0),
+                13,
+            ),
+            55 => self.doctor_refusal(r),
+            201 => self.drug_refusal(r),
+            281 => kept_rp((p == 201) | (p == 281), same),
+            291 => kept_rp(in_drugs(p), same),
+            301 => self.usage_refusal(r),
+            311 => kept_rp((p == 301) | (p == 311), same),
+            391 => kept_rp(in_rp(p), same),
+            401 => pick(
+                self.provider & (self.had.rp == 0),
+                13,
+                self.rest_refusal(p == 401),
+            ),
+            411 => self.rest_refusal((p == 401) | (p == 411)),
+            501 => self.rest_refusal((p == 401) | (p == 411) | (p == 501)),
+            601 => self.rest_refusal(in_rest(p)),
+            701 => self.end_refusal(r),
+            _ => 13,
         }
     }
 
-    // The state after the record, whether or not it is good here.
-    fn advance(self, r: Facts) -> State
+    // The state after the record, with its RP and doctor. A 5 begins anew: neither doctor nor fee schedule reaches into the next group.
+    fn moved(self, r: Facts) -> Moved
         requires { ⌜ Room self ⌝ }
-        ensures { λ t. ⌜ t ≡ advance self r ⌝ }
+        ensures { λ m. ⌜ m ≡ On (advance self r) (rpOf r) (doctorOf self r) ⌝ }
     {
         let n = r.number;
         let line = self.line + 1;
-        let groups = self.groups + 1;
-        let drugs = self.drugs + 1;
-        let had = self.had;
-        let next = had.after(r, line);
-        State {
-            place: n,
-            line: line,
-            groups: pick(n == 5, groups, self.groups),
-            drugs: pick(n == 201, drugs, self.drugs),
-            day: pick(n == 5, r.day, self.day),
-            had: next,
-            ..self
+        match n {
+            5 => {
+                let groups = self.groups + 1;
+                let none = Had::none();
+                Moved::On(
+                    State {
+                        place: 5,
+                        line: line,
+                        groups: groups,
+                        day: r.day,
+                        had: none,
+                        ..self
+                    },
+                    0,
+                    0,
+                )
+            }
+            11 => {
+                let had = Had {
+                    had11: true,
+                    schedule: r.schedule,
+                    ..self.had
+                };
+                Moved::On(
+                    State {
+                        place: 11,
+                        line: line,
+                        had: had,
+                        ..self
+                    },
+                    0,
+                    0,
+                )
+            }
+            51 => {
+                let had = Had {
+                    had51: true,
+                    ..self.had
+                };
+                Moved::On(
+                    State {
+                        place: 51,
+                        line: line,
+                        had: had,
+                        ..self
+                    },
+                    0,
+                    0,
+                )
+            }
+            55 => {
+                let had = Had {
+                    doctor: line,
+                    ..self.had
+                };
+                Moved::On(
+                    State {
+                        place: 55,
+                        line: line,
+                        had: had,
+                        ..self
+                    },
+                    0,
+                    0,
+                )
+            }
+            201 => {
+                let drugs = self.drugs + 1;
+                let had = Had {
+                    rp: r.rp,
+                    had301: false,
+                    drug: line,
+                    ..self.had
+                };
+                Moved::On(
+                    State {
+                        place: 201,
+                        line: line,
+                        drugs: drugs,
+                        had: had,
+                        ..self
+                    },
+                    r.rp,
+                    self.had.doctor,
+                )
+            }
+            301 => {
+                let had = Had {
+                    had301: true,
+                    ..self.had
+                };
+                Moved::On(
+                    State {
+                        place: 301,
+                        line: line,
+                        had: had,
+                        ..self
+                    },
+                    r.rp,
+                    self.had.doctor,
+                )
+            }
+            281 | 291 | 311 | 391 => Moved::On(
+                State {
+                    place: n,
+                    line: line,
+                    ..self
+                },
+                r.rp,
+                self.had.doctor,
+            ),
+            411 => {
+                let had = Had {
+                    had411: true,
+                    ..self.had
+                };
+                Moved::On(
+                    State {
+                        place: 411,
+                        line: line,
+                        had: had,
+                        ..self
+                    },
+                    0,
+                    0,
+                )
+            }
+            _ => Moved::On(
+                State {
+                    place: n,
+                    line: line,
+                    ..self
+                },
+                0,
+                0,
+            ),
         }
     }
 
@@ -371,12 +510,7 @@ impl State {
     {
         let no = self.refusal(r);
         if no == 0 {
-            let of_rp = in_rp(r.number);
-            Moved::On(
-                self.advance(r),
-                pick(of_rp, r.rp, 0),
-                pick(of_rp, self.had.doctor, 0),
-            )
+            self.moved(r)
         } else {
             Moved::Refused(no)
         }

@@ -1,12 +1,26 @@
 -- `State::lacking` meets its contract. Assumes nothing.
 use Rattle.order.specs.Rules.{lacking}
-use mathlib.Core.Path.{refl}
+use mathlib.Core.Path.{sym}
+use mathlib.Core.Bool.{not, _&&_, or-false}
+use lib.Dec.{eqb}
+use borrow.Author.Tests.{eq-eqb, ne-eqb}
 use Rattle.order.proofs.State.lacking.Statement.{statement}
 use Rattle.order.proofs.State.lacking.Tie as tie
 
 returns : tie.Need-returns
 unfolding lacking
-returns c = refl
+returns c = simp (c .if1 .taken)
+
+returns-2 : tie.Need-returns-2
+unfolding lacking
+returns-2 c = simp (c .before .before .before .if1 .left, eq-eqb _ _ (c .before .if2 .taken))
+
+returns-3 : tie.Need-returns-3
+unfolding lacking
+returns-3 c =
+    let h = c .before .before .before .before .before .before .args .self .had in
+    let e = ne-eqb (h .rp) 0 (c .before .before .if2 .left) in
+    simp (c .before .before .before .before .if1 .left, e) (sym (or-false (eqb (h .schedule) 4 && not (h .had51))))
 
 pub lacking-spec : {M : Type 1} → statement M
-lacking-spec = tie.close (tie.spec returns)
+lacking-spec = tie.close (tie.spec returns returns-2 returns-3)

@@ -1,168 +1,205 @@
--- `State::refusal` meets its contract. Assumes nothing.
-use Rattle.order.proofs.Halves.{first-found}
+-- `State::refusal` meets its contract, by the law of each number. Assumes nothing.
+use Rattle.order.proofs.ByNumber.{as-number, of-1, of-2, of-3, of-4, of-11, of-15, of-51, of-281, of-291, of-311, of-391, of-401, of-411, of-501, of-601, of-other}
+use Rattle.order.proofs.Rows.{no-row}
+use Rattle.order.specs.Places.{rows, mayFollow}
+use mathlib.Core.Path.{refl, sym, _∙_}
+use borrow.Author.Tests.{ne-eqb}
 use borrow.Author.Needs.{needs}
 use Rattle.order.proofs.State.refusal.Statement.{statement}
 use Rattle.order.proofs.State.refusal.Tie as tie
 use Rattle.order.proofs.State.refusal.Reads as reads
 use Rattle.order.proofs.State.refusal.Lts as lts
-use Rattle.order.proofs.State.ill_placed.Reads as ill-placed-reads
-use Rattle.order.proofs.State.ill_valued.Reads as ill-valued-reads
-use Rattle.order.proofs.first_of.Reads as first-of-reads
+use Rattle.order.proofs.State.barred.Reads as barred-reads
+use Rattle.order.proofs.State.doctor_refusal.Reads as doctor-refusal-reads
+use Rattle.order.proofs.State.drug_refusal.Reads as drug-refusal-reads
+use Rattle.order.proofs.State.end_refusal.Reads as end-refusal-reads
+use Rattle.order.proofs.State.group_refusal.Reads as group-refusal-reads
+use Rattle.order.proofs.State.head_refusal.Reads as head-refusal-reads
+use Rattle.order.proofs.State.rest_refusal.Reads as rest-refusal-reads
+use Rattle.order.proofs.State.usage_refusal.Reads as usage-refusal-reads
+use Rattle.order.proofs.in_drugs.Reads as in-drugs-reads
+use Rattle.order.proofs.in_head.Reads as in-head-reads
+use Rattle.order.proofs.in_rest.Reads as in-rest-reads
+use Rattle.order.proofs.in_rp.Reads as in-rp-reads
+use Rattle.order.proofs.kept_rp.Reads as kept-rp-reads
+use Rattle.order.proofs.pick.Reads as pick-reads
 
-ill-placed-requires : tie.Need-ill-placed-requires
-ill-placed-requires c κs = search needs
+pick-requires : tie.Need-pick-requires
+pick-requires c κs = search needs
 
-ill-valued-requires : tie.Need-ill-valued-requires
-ill-valued-requires c κs = search needs
+head-refusal-requires : tie.Need-head-refusal-requires
+head-refusal-requires c κs = search needs
 
-first-of-requires : tie.Need-first-of-requires
-first-of-requires c κs = search needs
+head-refusal-requires-2 : tie.Need-head-refusal-requires-2
+head-refusal-requires-2 c κs = search needs
 
-ill-placed-requires-2 : tie.Need-ill-placed-requires-2
-ill-placed-requires-2 c κs = search needs
+in-head-requires : tie.Need-in-head-requires
+in-head-requires c κs = search needs
 
-ill-valued-requires-2 : tie.Need-ill-valued-requires-2
-ill-valued-requires-2 c κs = search needs
+head-refusal-requires-3 : tie.Need-head-refusal-requires-3
+head-refusal-requires-3 c κs = search needs
 
-first-of-requires-2 : tie.Need-first-of-requires-2
-first-of-requires-2 c κs = search needs
+group-refusal-requires : tie.Need-group-refusal-requires
+group-refusal-requires c κs = search needs
 
-ill-placed-requires-3 : tie.Need-ill-placed-requires-3
-ill-placed-requires-3 c κs = search needs
+pick-requires-2 : tie.Need-pick-requires-2
+pick-requires-2 c κs = search needs
 
-ill-valued-requires-3 : tie.Need-ill-valued-requires-3
-ill-valued-requires-3 c κs = search needs
+pick-requires-3 : tie.Need-pick-requires-3
+pick-requires-3 c κs = search needs
 
-first-of-requires-3 : tie.Need-first-of-requires-3
-first-of-requires-3 c κs = search needs
+barred-requires : tie.Need-barred-requires
+barred-requires c κs = search needs
 
-ill-placed-requires-4 : tie.Need-ill-placed-requires-4
-ill-placed-requires-4 c κs = search needs
+pick-requires-4 : tie.Need-pick-requires-4
+pick-requires-4 c κs = search needs
 
-ill-valued-requires-4 : tie.Need-ill-valued-requires-4
-ill-valued-requires-4 c κs = search needs
+pick-requires-5 : tie.Need-pick-requires-5
+pick-requires-5 c κs = search needs
 
-first-of-requires-4 : tie.Need-first-of-requires-4
-first-of-requires-4 c κs = search needs
+doctor-refusal-requires : tie.Need-doctor-refusal-requires
+doctor-refusal-requires c κs = search needs
 
-ill-placed-requires-5 : tie.Need-ill-placed-requires-5
-ill-placed-requires-5 c κs = search needs
+drug-refusal-requires : tie.Need-drug-refusal-requires
+drug-refusal-requires c κs = search needs
 
-ill-valued-requires-5 : tie.Need-ill-valued-requires-5
-ill-valued-requires-5 c κs = search needs
+kept-rp-requires : tie.Need-kept-rp-requires
+kept-rp-requires c κs = search needs
 
-first-of-requires-5 : tie.Need-first-of-requires-5
-first-of-requires-5 c κs = search needs
+in-drugs-requires : tie.Need-in-drugs-requires
+in-drugs-requires c κs = search needs
 
-ill-placed-requires-6 : tie.Need-ill-placed-requires-6
-ill-placed-requires-6 c κs = search needs
+kept-rp-requires-2 : tie.Need-kept-rp-requires-2
+kept-rp-requires-2 c κs = search needs
 
-ill-valued-requires-6 : tie.Need-ill-valued-requires-6
-ill-valued-requires-6 c κs = search needs
+usage-refusal-requires : tie.Need-usage-refusal-requires
+usage-refusal-requires c κs = search needs
 
-first-of-requires-6 : tie.Need-first-of-requires-6
-first-of-requires-6 c κs = search needs
+kept-rp-requires-3 : tie.Need-kept-rp-requires-3
+kept-rp-requires-3 c κs = search needs
 
-ill-placed-requires-7 : tie.Need-ill-placed-requires-7
-ill-placed-requires-7 c κs = search needs
+in-rp-requires : tie.Need-in-rp-requires
+in-rp-requires c κs = search needs
 
-ill-valued-requires-7 : tie.Need-ill-valued-requires-7
-ill-valued-requires-7 c κs = search needs
+kept-rp-requires-4 : tie.Need-kept-rp-requires-4
+kept-rp-requires-4 c κs = search needs
 
-first-of-requires-7 : tie.Need-first-of-requires-7
-first-of-requires-7 c κs = search needs
+rest-refusal-requires : tie.Need-rest-refusal-requires
+rest-refusal-requires c κs = search needs
 
-ill-placed-requires-8 : tie.Need-ill-placed-requires-8
-ill-placed-requires-8 c κs = search needs
+pick-requires-6 : tie.Need-pick-requires-6
+pick-requires-6 c κs = search needs
 
-ill-valued-requires-8 : tie.Need-ill-valued-requires-8
-ill-valued-requires-8 c κs = search needs
+rest-refusal-requires-2 : tie.Need-rest-refusal-requires-2
+rest-refusal-requires-2 c κs = search needs
 
-first-of-requires-8 : tie.Need-first-of-requires-8
-first-of-requires-8 c κs = search needs
+rest-refusal-requires-3 : tie.Need-rest-refusal-requires-3
+rest-refusal-requires-3 c κs = search needs
 
-ill-placed-requires-9 : tie.Need-ill-placed-requires-9
-ill-placed-requires-9 c κs = search needs
+in-rest-requires : tie.Need-in-rest-requires
+in-rest-requires c κs = search needs
 
-ill-valued-requires-9 : tie.Need-ill-valued-requires-9
-ill-valued-requires-9 c κs = search needs
+rest-refusal-requires-4 : tie.Need-rest-refusal-requires-4
+rest-refusal-requires-4 c κs = search needs
 
-first-of-requires-9 : tie.Need-first-of-requires-9
-first-of-requires-9 c κs = search needs
-
-ill-placed-requires-10 : tie.Need-ill-placed-requires-10
-ill-placed-requires-10 c κs = search needs
-
-ill-valued-requires-10 : tie.Need-ill-valued-requires-10
-ill-valued-requires-10 c κs = search needs
-
-first-of-requires-10 : tie.Need-first-of-requires-10
-first-of-requires-10 c κs = search needs
+end-refusal-requires : tie.Need-end-refusal-requires
+end-refusal-requires c κs = search needs
 
 returns : tie.Need-returns
-returns c = search (needs, first-found)
+returns c = simp (c .pick .ensures, as-number (c .before .before .before .before .args .self) (c .before .before .before .before .args .r) 1 (c .before .match .keys1), of-1 (c .before .before .before .before .args .self) (c .before .before .before .before .args .r))
 
 returns-2 : tie.Need-returns-2
-returns-2 c = search (needs, first-found)
+returns-2 c = simp (c .head-refusal .ensures, as-number (c .before .before .before .before .args .self) (c .before .before .before .before .args .r) 2 (c .before .match .keys2), of-2 (c .before .before .before .before .args .self) (c .before .before .before .before .args .r))
 
 returns-3 : tie.Need-returns-3
-returns-3 c = search (needs, first-found)
+returns-3 c = simp (c .head-refusal2 .ensures, as-number (c .before .before .before .before .args .self) (c .before .before .before .before .args .r) 3 (c .before .match .keys3), of-3 (c .before .before .before .before .args .self) (c .before .before .before .before .args .r))
 
 returns-4 : tie.Need-returns-4
-returns-4 c = search (needs, first-found)
+returns-4 c = simp (c .head-refusal3 .ensures, c .before .in-head .ensures, as-number (c .before .before .before .before .before .args .self) (c .before .before .before .before .before .args .r) 4 (c .before .before .match .keys4), of-4 (c .before .before .before .before .before .args .self) (c .before .before .before .before .before .args .r))
 
 returns-5 : tie.Need-returns-5
-returns-5 c = search (needs, first-found)
+returns-5 c = search needs
 
 returns-6 : tie.Need-returns-6
-returns-6 c = search (needs, first-found)
+returns-6 c = simp (c .pick2 .ensures, as-number (c .before .before .before .before .args .self) (c .before .before .before .before .args .r) 11 (c .before .match .keys6), of-11 (c .before .before .before .before .args .self) (c .before .before .before .before .args .r))
 
 returns-7 : tie.Need-returns-7
-returns-7 c = search (needs, first-found)
+returns-7 c = simp (c .pick3 .ensures, as-number (c .before .before .before .before .args .self) (c .before .before .before .before .args .r) 15 (c .before .match .keys7), of-15 (c .before .before .before .before .args .self) (c .before .before .before .before .args .r))
 
 returns-8 : tie.Need-returns-8
-returns-8 c = search (needs, first-found)
+returns-8 c = simp (c .pick5 .ensures, c .before .pick4 .ensures, c .before .before .barred .ensures, as-number (c .before .before .before .before .before .before .args .self) (c .before .before .before .before .before .before .args .r) 51 (c .before .before .before .match .keys8), of-51 (c .before .before .before .before .before .before .args .self) (c .before .before .before .before .before .before .args .r))
 
 returns-9 : tie.Need-returns-9
-returns-9 c = search (needs, first-found)
+returns-9 c = search needs
 
 returns-10 : tie.Need-returns-10
-returns-10 c = search (needs, first-found)
+returns-10 c = search needs
+
+returns-11 : tie.Need-returns-11
+returns-11 c = simp (c .kept-rp .ensures, as-number (c .before .before .before .before .args .self) (c .before .before .before .before .args .r) 281 (c .before .match .keys11), of-281 (c .before .before .before .before .args .self) (c .before .before .before .before .args .r))
+
+returns-12 : tie.Need-returns-12
+returns-12 c = simp (c .kept-rp2 .ensures, c .before .in-drugs .ensures, as-number (c .before .before .before .before .before .args .self) (c .before .before .before .before .before .args .r) 291 (c .before .before .match .keys12), of-291 (c .before .before .before .before .before .args .self) (c .before .before .before .before .before .args .r))
+
+returns-13 : tie.Need-returns-13
+returns-13 c = search needs
+
+returns-14 : tie.Need-returns-14
+returns-14 c = simp (c .kept-rp3 .ensures, as-number (c .before .before .before .before .args .self) (c .before .before .before .before .args .r) 311 (c .before .match .keys14), of-311 (c .before .before .before .before .args .self) (c .before .before .before .before .args .r))
+
+returns-15 : tie.Need-returns-15
+returns-15 c = simp (c .kept-rp4 .ensures, c .before .in-rp .ensures, as-number (c .before .before .before .before .before .args .self) (c .before .before .before .before .before .args .r) 391 (c .before .before .match .keys15), of-391 (c .before .before .before .before .before .args .self) (c .before .before .before .before .before .args .r))
+
+returns-16 : tie.Need-returns-16
+returns-16 c = simp (c .pick6 .ensures, c .before .rest-refusal .ensures, as-number (c .before .before .before .before .before .before .before .args .self) (c .before .before .before .before .before .before .before .args .r) 401 (c .before .before .before .before .match .keys16), of-401 (c .before .before .before .before .before .before .before .args .self) (c .before .before .before .before .before .before .before .args .r))
+
+returns-17 : tie.Need-returns-17
+returns-17 c = simp (c .rest-refusal2 .ensures, as-number (c .before .before .before .before .args .self) (c .before .before .before .before .args .r) 411 (c .before .match .keys17), of-411 (c .before .before .before .before .args .self) (c .before .before .before .before .args .r))
+
+returns-18 : tie.Need-returns-18
+returns-18 c = simp (c .rest-refusal3 .ensures, as-number (c .before .before .before .before .args .self) (c .before .before .before .before .args .r) 501 (c .before .match .keys18), of-501 (c .before .before .before .before .args .self) (c .before .before .before .before .args .r))
+
+returns-19 : tie.Need-returns-19
+returns-19 c = simp (c .rest-refusal4 .ensures, c .before .in-rest .ensures, as-number (c .before .before .before .before .before .args .self) (c .before .before .before .before .before .args .r) 601 (c .before .before .match .keys19), of-601 (c .before .before .before .before .before .args .self) (c .before .before .before .before .before .args .r))
+
+returns-20 : tie.Need-returns-20
+returns-20 c = search needs
+
+returns-21 : tie.Need-returns-21
+unfolding mayFollow
+returns-21 c = let n = c .before .before .before .args .r .number in sym (as-number (c .before .before .before .args .self) (c .before .before .before .args .r) n refl ∙ of-other (c .before .before .before .args .self) (c .before .before .before .args .r) n (no-row (Unit {0}) n (rows (c .before .before .before .args .self .place)) (c .match .rest) .1) (ne-eqb n 301 (c .match .rest .0 .0 .0 .0 .0 .0 .0 .1)))
 
 pub refusal-spec : {M : Type 1} → statement M
 refusal-spec =
     tie.close
     (tie.spec
-    ill-placed-requires
-    ill-valued-requires
-    first-of-requires
-    ill-placed-requires-2
-    ill-valued-requires-2
-    first-of-requires-2
-    ill-placed-requires-3
-    ill-valued-requires-3
-    first-of-requires-3
-    ill-placed-requires-4
-    ill-valued-requires-4
-    first-of-requires-4
-    ill-placed-requires-5
-    ill-valued-requires-5
-    first-of-requires-5
-    ill-placed-requires-6
-    ill-valued-requires-6
-    first-of-requires-6
-    ill-placed-requires-7
-    ill-valued-requires-7
-    first-of-requires-7
-    ill-placed-requires-8
-    ill-valued-requires-8
-    first-of-requires-8
-    ill-placed-requires-9
-    ill-valued-requires-9
-    first-of-requires-9
-    ill-placed-requires-10
-    ill-valued-requires-10
-    first-of-requires-10
+    pick-requires
+    head-refusal-requires
+    head-refusal-requires-2
+    in-head-requires
+    head-refusal-requires-3
+    group-refusal-requires
+    pick-requires-2
+    pick-requires-3
+    barred-requires
+    pick-requires-4
+    pick-requires-5
+    doctor-refusal-requires
+    drug-refusal-requires
+    kept-rp-requires
+    in-drugs-requires
+    kept-rp-requires-2
+    usage-refusal-requires
+    kept-rp-requires-3
+    in-rp-requires
+    kept-rp-requires-4
+    rest-refusal-requires
+    pick-requires-6
+    rest-refusal-requires-2
+    rest-refusal-requires-3
+    in-rest-requires
+    rest-refusal-requires-4
+    end-refusal-requires
     returns
     returns-2
     returns-3
@@ -172,4 +209,15 @@ refusal-spec =
     returns-7
     returns-8
     returns-9
-    returns-10)
+    returns-10
+    returns-11
+    returns-12
+    returns-13
+    returns-14
+    returns-15
+    returns-16
+    returns-17
+    returns-18
+    returns-19
+    returns-20
+    returns-21)

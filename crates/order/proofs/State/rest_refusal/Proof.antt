@@ -1,0 +1,48 @@
+-- `State::rest_refusal` meets its contract. Assumes nothing.
+use mathlib.Core.Path.{sym, _∙_}
+use borrow.Author.Needs.{needs}
+use Rattle.order.proofs.State.rest_refusal.Statement.{statement}
+use Rattle.order.proofs.State.rest_refusal.Tie as tie
+use Rattle.order.proofs.State.rest_refusal.Reads as reads
+use Rattle.order.proofs.State.rest_refusal.Lts as lts
+use Rattle.order.proofs.State.rp_closed.Reads as rp-closed-reads
+use Rattle.order.proofs.in_front.Reads as in-front-reads
+use Rattle.order.proofs.in_rp.Reads as in-rp-reads
+use Rattle.order.proofs.pick.Reads as pick-reads
+
+in-rp-requires : tie.Need-in-rp-requires
+in-rp-requires c κs = search needs
+
+rp-closed-requires : tie.Need-rp-closed-requires
+rp-closed-requires c κs = search needs
+
+returns : tie.Need-returns
+returns c = simp (c .rp-closed .ensures, sym (c .before .before .in-rp .ensures) ∙ c .before .if1 .taken)
+
+in-front-requires : tie.Need-in-front-requires
+in-front-requires c κs = search needs
+
+pick-requires : tie.Need-pick-requires
+pick-requires c κs = search needs
+
+returns-2 : tie.Need-returns-2
+returns-2 c = simp (c .pick .ensures, sym (c .before .before .before .before .before .in-rp .ensures) ∙ c .before .before .before .before .if1 .left, sym (c .before .before .before .in-front .ensures) ∙ c .before .before .if2 .taken)
+
+pick-requires-2 : tie.Need-pick-requires-2
+pick-requires-2 c κs = search needs
+
+returns-3 : tie.Need-returns-3
+returns-3 c = simp (c .pick2 .ensures, sym (c .before .before .before .before .in-rp .ensures) ∙ c .before .before .before .if1 .left, sym (c .before .before .in-front .ensures) ∙ c .before .if2 .left)
+
+pub rest-refusal-spec : {M : Type 1} → statement M
+rest-refusal-spec =
+    tie.close
+    (tie.spec
+    in-rp-requires
+    rp-closed-requires
+    returns
+    in-front-requires
+    pick-requires
+    returns-2
+    pick-requires-2
+    returns-3)
