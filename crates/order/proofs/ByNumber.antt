@@ -35,7 +35,7 @@ beyond Q b p [] z n t = z
 beyond Q b p (x ∷ xs) z n t = beyond Q (b || eqb p x) p xs (simp (z, differs Q p x (n .0) t)) (n .1) t
 
 -- a place where Q holds is none of xs, if Q holds of none of them
-pub elsewhere : (Q : ℕ → Bool) (p : ℕ) (xs : List ℕ) → Never Q xs → Q p ≡ true → oneOf p xs ≡ false
+elsewhere : (Q : ℕ → Bool) (p : ℕ) (xs : List ℕ) → Never Q xs → Q p ≡ true → oneOf p xs ≡ false
 elsewhere Q p xs n t = beyond Q false p xs refl n t
 
 neither : (a b : Bool) → (a || b) ≡ false → (a ≡ false) × (b ≡ false)
@@ -48,7 +48,7 @@ by-bool false t f = f refl
 
 -- ---- a record with its number written out
 
-abbrev pub refusalAs : State → Facts → ℕ → ℕ
+abbrev refusalAs : State → Facts → ℕ → ℕ
 refusalAs s r n = refusal (beforeOf s) (record {
   number = n;
   same = askedOf s r .same;
@@ -58,7 +58,7 @@ refusalAs s r n = refusal (beforeOf s) (record {
   material = askedOf s r .material;
 })
 
-pub as-number : (s : State) (r : Facts) (n : ℕ) → r .number ≡ n → refusalOf s r ≡ refusalAs s r n
+as-number : (s : State) (r : Facts) (n : ℕ) → r .number ≡ n → refusalOf s r ≡ refusalAs s r n
 unfolding refusalOf
 as-number s r n e = rw e
 
@@ -72,213 +72,477 @@ module _ (s : State) (r : Facts) where
 
   -- ---- before the prescriptions
 
-  pub of-1 : refusalAs s r 1 ≡ cond (eqb (s .place) 0) 0 13
+  pub of-1 : r .number ≡ 1 → refusalOf s r ≡ cond (eqb (s .place) 0) 0 13
   unfolding refusal pairBroken misplaced mayFollow continues closesRp missing valueWrong newerGroup
-  of-1 =
-      by-bool (eqb (s .place) 0)
-      (λ h. simp (h, off (λ p. eqb p 0) 51 refl h, off-rp (λ p. eqb p 0) (refl, (refl, (refl, (refl, (refl, (refl, tt)))))) h, and-true, and-false, or-true, or-false))
-      (λ h. simp h)
+  of-1 q =
+      rw (as-number s r 1 q)
+      (by-bool (eqb (s .place) 0)
+      (λ h. simp (
+        h,
+        off (λ p. eqb p 0) 51 refl h,
+        off-rp (λ p. eqb p 0) (refl, (refl, (refl, (refl, (refl, (refl, tt)))))) h,
+        and-true,
+        and-false,
+        or-true,
+        or-false,
+      ))
+      (λ h. simp h))
 
-  pub of-2 : refusalAs s r 2 ≡ cond (oneOf (s .place) (0 ∷ 1 ∷ 2 ∷ [])) (cond (not (s .provider) && eqb (s .place) 0) 14 0) 13
+  pub of-2 : r .number ≡ 2 → refusalOf s r ≡ cond (oneOf (s .place) (0 ∷ 1 ∷ 2 ∷ [])) (cond (not (s .provider) && eqb (s .place) 0) 14 0) 13
   unfolding refusal pairBroken misplaced mayFollow continues closesRp missing valueWrong newerGroup
-  of-2 =
-      by-bool (oneOf (s .place) (0 ∷ 1 ∷ 2 ∷ []))
-      (λ h. simp (h, off (λ p. oneOf p (0 ∷ 1 ∷ 2 ∷ [])) 51 refl h, off-rp (λ p. oneOf p (0 ∷ 1 ∷ 2 ∷ [])) (refl, (refl, (refl, (refl, (refl, (refl, tt)))))) h, and-true, and-false, or-true, or-false))
-      (λ h. simp h)
+  of-2 q =
+      rw (as-number s r 2 q)
+      (by-bool (oneOf (s .place) (0 ∷ 1 ∷ 2 ∷ []))
+      (λ h. simp (
+        h,
+        off (λ p. oneOf p (0 ∷ 1 ∷ 2 ∷ [])) 51 refl h,
+        off-rp (λ p. oneOf p (0 ∷ 1 ∷ 2 ∷ [])) (
+          refl,
+          (
+            refl,
+            (
+              refl,
+              (
+                refl,
+                (refl, (refl, tt)),
+              ),
+            ),
+          ),
+        ) h,
+        and-true,
+        and-false,
+        or-true,
+        or-false,
+      ))
+      (λ h. simp h))
 
-  pub of-3 : refusalAs s r 3 ≡ cond (oneOf (s .place) (0 ∷ 1 ∷ 2 ∷ 3 ∷ [])) (cond (not (s .provider) && eqb (s .place) 0) 14 0) 13
+  pub of-3 : r .number ≡ 3 → refusalOf s r ≡ cond (oneOf (s .place) (0 ∷ 1 ∷ 2 ∷ 3 ∷ [])) (cond (not (s .provider) && eqb (s .place) 0) 14 0) 13
   unfolding refusal pairBroken misplaced mayFollow continues closesRp missing valueWrong newerGroup
-  of-3 =
-      by-bool (oneOf (s .place) (0 ∷ 1 ∷ 2 ∷ 3 ∷ []))
-      (λ h. simp (h, off (λ p. oneOf p (0 ∷ 1 ∷ 2 ∷ 3 ∷ [])) 51 refl h, off-rp (λ p. oneOf p (0 ∷ 1 ∷ 2 ∷ 3 ∷ [])) (refl, (refl, (refl, (refl, (refl, (refl, tt)))))) h, and-true, and-false, or-true, or-false))
-      (λ h. simp h)
+  of-3 q =
+      rw (as-number s r 3 q)
+      (by-bool (oneOf (s .place) (0 ∷ 1 ∷ 2 ∷ 3 ∷ []))
+      (λ h. simp (
+        h,
+        off (λ p. oneOf p (0 ∷ 1 ∷ 2 ∷ 3 ∷ [])) 51 refl h,
+        off-rp (λ p. oneOf p (0 ∷ 1 ∷ 2 ∷ 3 ∷ [])) (
+          refl,
+          (
+            refl,
+            (
+              refl,
+              (refl, (refl, (refl, tt))),
+            ),
+          ),
+        ) h,
+        and-true,
+        and-false,
+        or-true,
+        or-false,
+      ))
+      (λ h. simp h))
 
-  pub of-4 : refusalAs s r 4 ≡ cond (oneOf (s .place) (0 ∷ 1 ∷ 2 ∷ 3 ∷ 4 ∷ [])) (cond (not (s .provider) && eqb (s .place) 0) 14 0) 13
+  pub of-4 : r .number ≡ 4 → refusalOf s r ≡ cond (oneOf (s .place) (0 ∷ 1 ∷ 2 ∷ 3 ∷ 4 ∷ [])) (cond (not (s .provider) && eqb (s .place) 0) 14 0) 13
   unfolding refusal pairBroken misplaced mayFollow continues closesRp missing valueWrong newerGroup
-  of-4 =
-      by-bool (oneOf (s .place) (0 ∷ 1 ∷ 2 ∷ 3 ∷ 4 ∷ []))
-      (λ h. simp (h, off (λ p. oneOf p (0 ∷ 1 ∷ 2 ∷ 3 ∷ 4 ∷ [])) 51 refl h, off-rp (λ p. oneOf p (0 ∷ 1 ∷ 2 ∷ 3 ∷ 4 ∷ [])) (refl, (refl, (refl, (refl, (refl, (refl, tt)))))) h, and-true, and-false, or-true, or-false))
-      (λ h. simp h)
+  of-4 q =
+      rw (as-number s r 4 q)
+      (by-bool (oneOf (s .place) (0 ∷ 1 ∷ 2 ∷ 3 ∷ 4 ∷ []))
+      (λ h. simp (
+        h,
+        off (λ p. oneOf p (0 ∷ 1 ∷ 2 ∷ 3 ∷ 4 ∷ [])) 51 refl h,
+        off-rp (λ p. oneOf p (0 ∷ 1 ∷ 2 ∷ 3 ∷ 4 ∷ [])) (
+          refl,
+          (
+            refl,
+            (refl, (refl, (refl, (refl, tt)))),
+          ),
+        ) h,
+        and-true,
+        and-false,
+        or-true,
+        or-false,
+      ))
+      (λ h. simp h))
 
-  pub of-11 : refusalAs s r 11 ≡ cond (eqb (s .place) 5) 0 13
+  pub of-11 : r .number ≡ 11 → refusalOf s r ≡ cond (eqb (s .place) 5) 0 13
   unfolding refusal pairBroken misplaced mayFollow continues closesRp missing valueWrong newerGroup
-  of-11 =
-      by-bool (eqb (s .place) 5)
-      (λ h. simp (h, off (λ p. eqb p 5) 0 refl h, off (λ p. eqb p 5) 51 refl h, off-rp (λ p. eqb p 5) (refl, (refl, (refl, (refl, (refl, (refl, tt)))))) h, and-true, and-false, or-true, or-false))
-      (λ h. simp h)
+  of-11 q =
+      rw (as-number s r 11 q)
+      (by-bool (eqb (s .place) 5)
+      (λ h. simp (
+        h,
+        off (λ p. eqb p 5) 0 refl h,
+        off (λ p. eqb p 5) 51 refl h,
+        off-rp (λ p. eqb p 5) (
+          refl,
+          (
+            refl,
+            (
+              refl,
+              (
+                refl,
+                (
+                  refl,
+                  (refl, tt),
+                ),
+              ),
+            ),
+          ),
+        ) h,
+        and-true,
+        and-false,
+        or-true,
+        or-false,
+      ))
+      (λ h. simp h))
 
-  pub of-15 : refusalAs s r 15 ≡ cond (oneOf (s .place) (5 ∷ 11 ∷ [])) 0 13
+  pub of-15 : r .number ≡ 15 → refusalOf s r ≡ cond (oneOf (s .place) (5 ∷ 11 ∷ [])) 0 13
   unfolding refusal pairBroken misplaced mayFollow continues closesRp missing valueWrong newerGroup
-  of-15 =
-      by-bool (oneOf (s .place) (5 ∷ 11 ∷ []))
-      (λ h. simp (h, off (λ p. oneOf p (5 ∷ 11 ∷ [])) 0 refl h, off (λ p. oneOf p (5 ∷ 11 ∷ [])) 51 refl h, off-rp (λ p. oneOf p (5 ∷ 11 ∷ [])) (refl, (refl, (refl, (refl, (refl, (refl, tt)))))) h, and-true, and-false, or-true, or-false))
-      (λ h. simp h)
+  of-15 q =
+      rw (as-number s r 15 q)
+      (by-bool (oneOf (s .place) (5 ∷ 11 ∷ []))
+      (λ h. simp (
+        h,
+        off (λ p. oneOf p (5 ∷ 11 ∷ [])) 0 refl h,
+        off (λ p. oneOf p (5 ∷ 11 ∷ [])) 51 refl h,
+        off-rp (λ p. oneOf p (5 ∷ 11 ∷ [])) (refl, (refl, (refl, (refl, (refl, (refl, tt)))))) h,
+        and-true,
+        and-false,
+        or-true,
+        or-false,
+      ))
+      (λ h. simp h))
 
-  pub of-51 : refusalAs s r 51 ≡ cond (oneOf (s .place) (5 ∷ 11 ∷ 15 ∷ [])) (cond (s .provider && oneOf (s .had .schedule) (1 ∷ 3 ∷ [])) 13 0) 13
+  pub of-51 : r .number ≡ 51 → refusalOf s r ≡ cond (oneOf (s .place) (5 ∷ 11 ∷ 15 ∷ []))
+      (cond (s .provider && oneOf (s .had .schedule) (1 ∷ 3 ∷ [])) 13 0) 13
   unfolding refusal pairBroken misplaced mayFollow continues closesRp missing valueWrong newerGroup
-  of-51 =
-      by-bool (oneOf (s .place) (5 ∷ 11 ∷ 15 ∷ []))
-      (λ h. simp (h, off (λ p. oneOf p (5 ∷ 11 ∷ 15 ∷ [])) 0 refl h, off (λ p. oneOf p (5 ∷ 11 ∷ 15 ∷ [])) 51 refl h, off-rp (λ p. oneOf p (5 ∷ 11 ∷ 15 ∷ [])) (refl, (refl, (refl, (refl, (refl, (refl, tt)))))) h, and-true, and-false, or-true, or-false))
-      (λ h. simp h)
+  of-51 q =
+      rw (as-number s r 51 q)
+      (by-bool (oneOf (s .place) (5 ∷ 11 ∷ 15 ∷ []))
+      (λ h. simp (
+        h,
+        off (λ p. oneOf p (5 ∷ 11 ∷ 15 ∷ [])) 0 refl h,
+        off (λ p. oneOf p (5 ∷ 11 ∷ 15 ∷ [])) 51 refl h,
+        off-rp (λ p. oneOf p (5 ∷ 11 ∷ 15 ∷ [])) (refl, (refl, (refl, (refl, (refl, (refl, tt)))))) h,
+        and-true,
+        and-false,
+        or-true,
+        or-false,
+      ))
+      (λ h. simp h))
 
-  pub of-55 : refusalAs s r 55 ≡ cond (inRp (s .place)) (cond (eqb (s .had .doctor) 0 || s .provider && oneOf (s .had .schedule) (1 ∷ 3 ∷ [])) 13 (cond (s .provider && not (s .had .had301)) 14 0)) (cond (inFront (s .place)) (cond (s .provider && oneOf (s .had .schedule) (1 ∷ 3 ∷ [])) 13 0) 13)
+  pub of-55 : r .number ≡ 55 → refusalOf s r ≡ cond (inRp (s .place))
+      (cond (eqb (s .had .doctor) 0 || s .provider && oneOf (s .had .schedule) (1 ∷ 3 ∷ [])) 13
+      (cond (s .provider && not (s .had .had301)) 14 0)) (cond (inFront (s .place))
+      (cond (s .provider && oneOf (s .had .schedule) (1 ∷ 3 ∷ [])) 13 0) 13)
   unfolding refusal pairBroken misplaced mayFollow continues closesRp missing valueWrong newerGroup
-  of-55 =
-      by-bool (inRp (s .place))
+  of-55 q =
+      rw (as-number s r 55 q)
+      (by-bool (inRp (s .place))
       (λ h. simp (h, off inRp 0 refl h, off inRp 51 refl h, and-true, and-false, or-true, or-false))
       (λ g. by-bool (inFront (s .place))
       (λ h. simp (g, h, off inFront 0 refl h, and-true, and-false, or-true, or-false))
-      (λ h. simp (g, h, and-true, and-false, or-true, or-false)))
+      (λ h. simp (g, h, and-true, and-false, or-true, or-false))))
 
   -- ---- a prescription
 
-  pub of-201-on : inDrugs (s .place) ≡ true → eqb (r .rp) (s .had .rp) ≡ true → refusalAs s r 201 ≡ 0
+  pub of-201-on : r .number ≡ 201 → inDrugs (s .place) ≡ true → eqb (r .rp) (s .had .rp) ≡ true → refusalOf s r ≡ 0
   unfolding refusal pairBroken misplaced mayFollow continues closesRp missing valueWrong newerGroup
-  of-201-on h e = simp (h, e, off inDrugs 0 refl h, and-true, and-false, or-true, or-false)
+  of-201-on q h e =
+      rw (as-number s r 201 q)
+      (simp (h, e, off inDrugs 0 refl h, and-true, and-false, or-true, or-false))
 
-  pub of-201-new : (inDrugs (s .place) && eqb (r .rp) (s .had .rp)) ≡ false → refusalAs s r 201 ≡ cond (inRp (s .place)) (cond (s .provider && not (s .had .had301)) 14 (cond (not (eqb (r .rp) (s .had .rp + 1))) 15 0)) (cond (inFront (s .place) || eqb (s .place) 55) (cond (not (eqb (r .rp) (s .had .rp + 1))) 15 0) 13)
+  pub of-201-new : r .number ≡ 201 → (inDrugs (s .place) && eqb (r .rp) (s .had .rp)) ≡ false → refusalOf s r ≡ cond (inRp (s .place))
+      (cond (s .provider && not (s .had .had301)) 14 (cond (not (eqb (r .rp) (s .had .rp + 1))) 15 0))
+      (cond (inFront (s .place) || eqb (s .place) 55) (cond (not (eqb (r .rp) (s .had .rp + 1))) 15 0) 13)
   unfolding refusal pairBroken misplaced mayFollow continues closesRp missing valueWrong newerGroup
-  of-201-new c =
-      by-bool (inRp (s .place))
+  of-201-new q c =
+      rw (as-number s r 201 q)
+      (by-bool (inRp (s .place))
       (λ h. simp (h, c, off inRp 0 refl h, and-true, and-false, or-true, or-false))
       (λ g. by-bool (inFront (s .place) || eqb (s .place) 55)
       (λ h. simp (g, h, c, off (λ p. inFront p || eqb p 55) 0 refl h, and-true, and-false, or-true, or-false))
-      (λ h. simp (g, h, and-true, and-false, or-true, or-false)))
+      (λ h. simp (g, h, and-true, and-false, or-true, or-false))))
 
   -- a record of the open RP but a 201; placed: it may stand here
   abbrev keptRp : Bool → ℕ
   keptRp placed = cond placed (cond (not (eqb (r .rp) (s .had .rp))) 15 0) 13
 
-  pub of-281 : refusalAs s r 281 ≡ keptRp (oneOf (s .place) (201 ∷ 281 ∷ []))
+  pub of-281 : r .number ≡ 281 → refusalOf s r ≡ keptRp (oneOf (s .place) (201 ∷ 281 ∷ []))
   unfolding refusal pairBroken misplaced mayFollow continues closesRp missing valueWrong newerGroup
-  of-281 =
-      by-bool (oneOf (s .place) (201 ∷ 281 ∷ []))
-      (λ h. simp (h, off (λ p. oneOf p (201 ∷ 281 ∷ [])) 0 refl h, off (λ p. oneOf p (201 ∷ 281 ∷ [])) 51 refl h, and-true, and-false, or-true, or-false))
-      (λ h. simp (h))
+  of-281 q =
+      rw (as-number s r 281 q)
+      (by-bool (oneOf (s .place) (201 ∷ 281 ∷ []))
+      (λ h. simp (
+        h,
+        off (λ p. oneOf p (201 ∷ 281 ∷ [])) 0 refl h,
+        off (λ p. oneOf p (201 ∷ 281 ∷ [])) 51 refl h,
+        and-true,
+        and-false,
+        or-true,
+        or-false,
+      ))
+      (λ h. simp (h)))
 
-  pub of-291 : refusalAs s r 291 ≡ keptRp (inDrugs (s .place))
+  pub of-291 : r .number ≡ 291 → refusalOf s r ≡ keptRp (inDrugs (s .place))
   unfolding refusal pairBroken misplaced mayFollow continues closesRp missing valueWrong newerGroup
-  of-291 =
-      by-bool (inDrugs (s .place))
+  of-291 q =
+      rw (as-number s r 291 q)
+      (by-bool (inDrugs (s .place))
       (λ h. simp (h, off inDrugs 0 refl h, off inDrugs 51 refl h, and-true, and-false, or-true, or-false))
-      (λ h. simp (h))
+      (λ h. simp (h)))
 
-  pub of-301-named : r .named ≡ true → refusalAs s r 301 ≡ keptRp (inDrugs (s .place))
+  pub of-301-named : r .number ≡ 301 → r .named ≡ true → refusalOf s r ≡ keptRp (inDrugs (s .place))
   unfolding refusal pairBroken misplaced mayFollow continues closesRp missing valueWrong newerGroup
-  of-301-named e =
-      by-bool (inDrugs (s .place))
+  of-301-named q e =
+      rw (as-number s r 301 q)
+      (by-bool (inDrugs (s .place))
       (λ h. simp (h, e, off inDrugs 0 refl h, off inDrugs 51 refl h, and-true, and-false, or-true, or-false))
-      (λ h. simp (e, h))
+      (λ h. simp (e, h)))
 
   -- whether a 301 has to have a usage name
   abbrev pub namedHere : Bool
   namedHere = not (s .provider) || inGroup (s .place) && eqb (s .had .schedule) 4 && not (oneOf (r .form) (9 ∷ 10 ∷ []))
 
-  pub of-301-unnamed : r .named ≡ false → namedHere ≡ true → refusalAs s r 301 ≡ 12
+  pub of-301-unnamed : r .number ≡ 301 → r .named ≡ false → namedHere ≡ true → refusalOf s r ≡ 12
   unfolding refusal pairBroken misplaced mayFollow continues closesRp missing valueWrong newerGroup
-  of-301-unnamed e g = simp (e, g)
+  of-301-unnamed q e g =
+      rw (as-number s r 301 q)
+      (simp (e, g))
 
-  pub of-301-free : r .named ≡ false → namedHere ≡ false → refusalAs s r 301 ≡ keptRp (inDrugs (s .place))
+  pub of-301-free : r .number ≡ 301 → r .named ≡ false → namedHere ≡ false → refusalOf s r ≡ keptRp (inDrugs (s .place))
   unfolding refusal pairBroken misplaced mayFollow continues closesRp missing valueWrong newerGroup
-  of-301-free e g =
-      by-bool (inDrugs (s .place))
+  of-301-free q e g =
+      rw (as-number s r 301 q)
+      (by-bool (inDrugs (s .place))
       (λ h. simp (h, e, g, off inDrugs 0 refl h, off inDrugs 51 refl h, and-true, and-false, or-true, or-false))
-      (λ h. simp (e, g, h))
+      (λ h. simp (e, g, h)))
 
-  pub of-311 : refusalAs s r 311 ≡ keptRp (oneOf (s .place) (301 ∷ 311 ∷ []))
+  pub of-311 : r .number ≡ 311 → refusalOf s r ≡ keptRp (oneOf (s .place) (301 ∷ 311 ∷ []))
   unfolding refusal pairBroken misplaced mayFollow continues closesRp missing valueWrong newerGroup
-  of-311 =
-      by-bool (oneOf (s .place) (301 ∷ 311 ∷ []))
-      (λ h. simp (h, off (λ p. oneOf p (301 ∷ 311 ∷ [])) 0 refl h, off (λ p. oneOf p (301 ∷ 311 ∷ [])) 51 refl h, and-true, and-false, or-true, or-false))
-      (λ h. simp (h))
+  of-311 q =
+      rw (as-number s r 311 q)
+      (by-bool (oneOf (s .place) (301 ∷ 311 ∷ []))
+      (λ h. simp (
+        h,
+        off (λ p. oneOf p (301 ∷ 311 ∷ [])) 0 refl h,
+        off (λ p. oneOf p (301 ∷ 311 ∷ [])) 51 refl h,
+        and-true,
+        and-false,
+        or-true,
+        or-false,
+      ))
+      (λ h. simp (h)))
 
-  pub of-391 : refusalAs s r 391 ≡ keptRp (inRp (s .place))
+  pub of-391 : r .number ≡ 391 → refusalOf s r ≡ keptRp (inRp (s .place))
   unfolding refusal pairBroken misplaced mayFollow continues closesRp missing valueWrong newerGroup
-  of-391 =
-      by-bool (inRp (s .place))
+  of-391 q =
+      rw (as-number s r 391 q)
+      (by-bool (inRp (s .place))
       (λ h. simp (h, off inRp 0 refl h, off inRp 51 refl h, and-true, and-false, or-true, or-false))
-      (λ h. simp (h))
+      (λ h. simp (h)))
 
   -- ---- behind the prescriptions
 
   -- a record behind the prescriptions that may stand behind them, or where `behind` holds
   abbrev pub inTheRest : Bool → ℕ
-  inTheRest behind = cond (inRp (s .place)) (cond (s .provider && not (s .had .had301)) 14 0) (cond (inFront (s .place)) (cond (s .provider && eqb (s .place) 51) 13 0) (cond behind 0 13))
+  inTheRest behind = cond (inRp (s .place)) (cond (s .provider && not (s .had .had301)) 14 0) (cond (inFront (s .place))
+      (cond (s .provider && eqb (s .place) 51) 13 0) (cond behind 0 13))
 
-  pub of-401 : refusalAs s r 401 ≡ cond (s .provider && eqb (s .had .rp) 0) 13 (inTheRest (oneOf (s .place) (401 ∷ [])))
+  pub of-401 : r .number ≡ 401 → refusalOf s r ≡ cond (s .provider && eqb (s .had .rp) 0) 13 (inTheRest (oneOf (s .place) (401 ∷ [])))
   unfolding refusal pairBroken misplaced mayFollow continues closesRp missing valueWrong newerGroup
-  of-401 =
-      by-bool (s .provider && eqb (s .had .rp) 0)
+  of-401 q =
+      rw (as-number s r 401 q)
+      (by-bool (s .provider && eqb (s .had .rp) 0)
       (λ z. simp (z, and-true, or-true))
       (λ z. by-bool (inRp (s .place))
       (λ h. simp (h, z, off inRp 0 refl h, off inRp 51 refl h, and-true, and-false, or-true, or-false))
       (λ g. by-bool (inFront (s .place))
       (λ h. simp (g, h, z, off inFront 0 refl h, and-true, and-false, or-true, or-false))
       (λ f. by-bool (oneOf (s .place) (401 ∷ []))
-      (λ h. simp (g, h, z, off (λ p. oneOf p (401 ∷ [])) 0 refl h, off (λ p. oneOf p (401 ∷ [])) 5 refl h, off (λ p. oneOf p (401 ∷ [])) 11 refl h, off (λ p. oneOf p (401 ∷ [])) 15 refl h, off (λ p. oneOf p (401 ∷ [])) 51 refl h, and-true, and-false, or-true, or-false))
-      (λ h. simp (g, f, h, z, and-true, and-false, or-true, or-false)))))
+      (λ h. simp (
+        g,
+        h,
+        z,
+        off (λ p. oneOf p (401 ∷ [])) 0 refl h,
+        off (λ p. oneOf p (401 ∷ [])) 5 refl h,
+        off (λ p. oneOf p (401 ∷ [])) 11 refl h,
+        off (λ p. oneOf p (401 ∷ [])) 15 refl h,
+        off (λ p. oneOf p (401 ∷ [])) 51 refl h,
+        and-true,
+        and-false,
+        or-true,
+        or-false,
+      ))
+      (λ h. simp (g, f, h, z, and-true, and-false, or-true, or-false))))))
 
-  pub of-411 : refusalAs s r 411 ≡ inTheRest (oneOf (s .place) (401 ∷ 411 ∷ []))
+  pub of-411 : r .number ≡ 411 → refusalOf s r ≡ inTheRest (oneOf (s .place) (401 ∷ 411 ∷ []))
   unfolding refusal pairBroken misplaced mayFollow continues closesRp missing valueWrong newerGroup
-  of-411 =
-      by-bool (inRp (s .place))
+  of-411 q =
+      rw (as-number s r 411 q)
+      (by-bool (inRp (s .place))
       (λ h. simp (h, off inRp 0 refl h, off inRp 51 refl h, and-true, and-false, or-true, or-false))
       (λ g. by-bool (inFront (s .place))
       (λ h. simp (g, h, off inFront 0 refl h, and-true, and-false, or-true, or-false))
       (λ f. by-bool (oneOf (s .place) (401 ∷ 411 ∷ []))
-      (λ h. simp (g, h, off (λ p. oneOf p (401 ∷ 411 ∷ [])) 0 refl h, off (λ p. oneOf p (401 ∷ 411 ∷ [])) 5 refl h, off (λ p. oneOf p (401 ∷ 411 ∷ [])) 11 refl h, off (λ p. oneOf p (401 ∷ 411 ∷ [])) 15 refl h, off (λ p. oneOf p (401 ∷ 411 ∷ [])) 51 refl h, and-true, and-false, or-true, or-false))
-      (λ h. simp (g, f, h, and-true, and-false, or-true, or-false))))
+      (λ h. simp (
+        g,
+        h,
+        off (λ p. oneOf p (401 ∷ 411 ∷ [])) 0 refl h,
+        off (λ p. oneOf p (401 ∷ 411 ∷ [])) 5 refl h,
+        off (λ p. oneOf p (401 ∷ 411 ∷ [])) 11 refl h,
+        off (λ p. oneOf p (401 ∷ 411 ∷ [])) 15 refl h,
+        off (λ p. oneOf p (401 ∷ 411 ∷ [])) 51 refl h,
+        and-true,
+        and-false,
+        or-true,
+        or-false,
+      ))
+      (λ h. simp (g, f, h, and-true, and-false, or-true, or-false)))))
 
-  pub of-501 : refusalAs s r 501 ≡ inTheRest (oneOf (s .place) (401 ∷ 411 ∷ 501 ∷ []))
+  pub of-501 : r .number ≡ 501 → refusalOf s r ≡ inTheRest (oneOf (s .place) (401 ∷ 411 ∷ 501 ∷ []))
   unfolding refusal pairBroken misplaced mayFollow continues closesRp missing valueWrong newerGroup
-  of-501 =
-      by-bool (inRp (s .place))
+  of-501 q =
+      rw (as-number s r 501 q)
+      (by-bool (inRp (s .place))
       (λ h. simp (h, off inRp 0 refl h, off inRp 51 refl h, and-true, and-false, or-true, or-false))
       (λ g. by-bool (inFront (s .place))
       (λ h. simp (g, h, off inFront 0 refl h, and-true, and-false, or-true, or-false))
       (λ f. by-bool (oneOf (s .place) (401 ∷ 411 ∷ 501 ∷ []))
-      (λ h. simp (g, h, off (λ p. oneOf p (401 ∷ 411 ∷ 501 ∷ [])) 0 refl h, off (λ p. oneOf p (401 ∷ 411 ∷ 501 ∷ [])) 5 refl h, off (λ p. oneOf p (401 ∷ 411 ∷ 501 ∷ [])) 11 refl h, off (λ p. oneOf p (401 ∷ 411 ∷ 501 ∷ [])) 15 refl h, off (λ p. oneOf p (401 ∷ 411 ∷ 501 ∷ [])) 51 refl h, and-true, and-false, or-true, or-false))
-      (λ h. simp (g, f, h, and-true, and-false, or-true, or-false))))
+      (λ h. simp (
+        g,
+        h,
+        off (λ p. oneOf p (401 ∷ 411 ∷ 501 ∷ [])) 0 refl h,
+        off (λ p. oneOf p (401 ∷ 411 ∷ 501 ∷ [])) 5 refl h,
+        off (λ p. oneOf p (401 ∷ 411 ∷ 501 ∷ [])) 11 refl h,
+        off (λ p. oneOf p (401 ∷ 411 ∷ 501 ∷ [])) 15 refl h,
+        off (λ p. oneOf p (401 ∷ 411 ∷ 501 ∷ [])) 51 refl h,
+        and-true,
+        and-false,
+        or-true,
+        or-false,
+      ))
+      (λ h. simp (g, f, h, and-true, and-false, or-true, or-false)))))
 
-  pub of-601 : refusalAs s r 601 ≡ inTheRest (oneOf (s .place) (401 ∷ 411 ∷ 501 ∷ 601 ∷ []))
+  pub of-601 : r .number ≡ 601 → refusalOf s r ≡ inTheRest (oneOf (s .place) (401 ∷ 411 ∷ 501 ∷ 601 ∷ []))
   unfolding refusal pairBroken misplaced mayFollow continues closesRp missing valueWrong newerGroup
-  of-601 =
-      by-bool (inRp (s .place))
+  of-601 q =
+      rw (as-number s r 601 q)
+      (by-bool (inRp (s .place))
       (λ h. simp (h, off inRp 0 refl h, off inRp 51 refl h, and-true, and-false, or-true, or-false))
       (λ g. by-bool (inFront (s .place))
       (λ h. simp (g, h, off inFront 0 refl h, and-true, and-false, or-true, or-false))
       (λ f. by-bool (oneOf (s .place) (401 ∷ 411 ∷ 501 ∷ 601 ∷ []))
-      (λ h. simp (g, h, off (λ p. oneOf p (401 ∷ 411 ∷ 501 ∷ 601 ∷ [])) 0 refl h, off (λ p. oneOf p (401 ∷ 411 ∷ 501 ∷ 601 ∷ [])) 5 refl h, off (λ p. oneOf p (401 ∷ 411 ∷ 501 ∷ 601 ∷ [])) 11 refl h, off (λ p. oneOf p (401 ∷ 411 ∷ 501 ∷ 601 ∷ [])) 15 refl h, off (λ p. oneOf p (401 ∷ 411 ∷ 501 ∷ 601 ∷ [])) 51 refl h, and-true, and-false, or-true, or-false))
-      (λ h. simp (g, f, h, and-true, and-false, or-true, or-false))))
+      (λ h. simp (
+        g,
+        h,
+        off (λ p. oneOf p (401 ∷ 411 ∷ 501 ∷ 601 ∷ [])) 0 refl h,
+        off (λ p. oneOf p (401 ∷ 411 ∷ 501 ∷ 601 ∷ [])) 5 refl h,
+        off (λ p. oneOf p (401 ∷ 411 ∷ 501 ∷ 601 ∷ [])) 11 refl h,
+        off (λ p. oneOf p (401 ∷ 411 ∷ 501 ∷ 601 ∷ [])) 15 refl h,
+        off (λ p. oneOf p (401 ∷ 411 ∷ 501 ∷ 601 ∷ [])) 51 refl h,
+        and-true,
+        and-false,
+        or-true,
+        or-false,
+      ))
+      (λ h. simp (g, f, h, and-true, and-false, or-true, or-false)))))
 
   -- ---- what closes a group
 
-  pub of-5 : refusalAs s r 5 ≡ cond (inRp (s .place)) (cond (s .provider && not (s .had .had301) || s .provider && lacking (beforeOf s)) 14 (cond (not (eqb (s .groups) 0) && ltb (s .day) (r .day)) 16 0)) (cond (inFront (s .place) || inRest (s .place)) (cond (s .provider && eqb (s .place) 51) 13 (cond (s .provider && lacking (beforeOf s)) 14 (cond (not (eqb (s .groups) 0) && ltb (s .day) (r .day)) 16 0))) (cond (inHead (s .place)) (cond (not (s .provider) && eqb (s .place) 0) 14 (cond (not (eqb (s .groups) 0) && ltb (s .day) (r .day)) 16 0)) 13))
+  pub of-5 : r .number ≡ 5 → refusalOf s r ≡ cond (inRp (s .place))
+      (cond (s .provider && not (s .had .had301) || s .provider && lacking (beforeOf s)) 14
+      (cond (not (eqb (s .groups) 0) && ltb (s .day) (r .day)) 16 0)) (cond (inFront (s .place) || inRest (s .place))
+      (cond (s .provider && eqb (s .place) 51) 13 (cond (s .provider && lacking (beforeOf s)) 14
+      (cond (not (eqb (s .groups) 0) && ltb (s .day) (r .day)) 16 0))) (cond (inHead (s .place))
+      (cond (not (s .provider) && eqb (s .place) 0) 14 (cond (not (eqb (s .groups) 0) && ltb (s .day) (r .day)) 16 0)) 13))
   unfolding refusal pairBroken misplaced mayFollow continues closesRp missing valueWrong newerGroup inGroup
-  of-5 =
-      by-bool (inRp (s .place))
+  of-5 q =
+      rw (as-number s r 5 q)
+      (by-bool (inRp (s .place))
       (λ h. simp (h, off inRp 0 refl h, off inRp 51 refl h, and-true, and-false, or-true, or-false))
       (λ g. by-bool (inFront (s .place) || inRest (s .place))
-      (λ h. simp (g, h, off (λ p. inFront p || inRest p) 1 refl h, off (λ p. inFront p || inRest p) 2 refl h, off (λ p. inFront p || inRest p) 3 refl h, off (λ p. inFront p || inRest p) 4 refl h, off (λ p. inFront p || inRest p) 0 refl h, off (λ p. inFront p || inRest p) 55 refl h, off (λ p. inFront p || inRest p) 701 refl h, and-true, and-false, or-true, or-false))
+      (λ h. simp (
+        g,
+        h,
+        off (λ p. inFront p || inRest p) 1 refl h,
+        off (λ p. inFront p || inRest p) 2 refl h,
+        off (λ p. inFront p || inRest p) 3 refl h,
+        off (λ p. inFront p || inRest p) 4 refl h,
+        off (λ p. inFront p || inRest p) 0 refl h,
+        off (λ p. inFront p || inRest p) 55 refl h,
+        off (λ p. inFront p || inRest p) 701 refl h,
+        and-true,
+        and-false,
+        or-true,
+        or-false,
+      ))
       (λ f. by-bool (inHead (s .place))
-      (λ h. simp (g, f, h, off inHead 51 refl h, off inHead 55 refl h, off inHead 5 refl h, off inHead 11 refl h, off inHead 15 refl h, elsewhere inHead (s .place) (401 ∷ 411 ∷ 501 ∷ 601 ∷ []) (refl, (refl, (refl, (refl, tt)))) h, and-true, and-false, or-true, or-false))
-      (λ h. simp (g, f, h, and-true, and-false, or-true, or-false))))
+      (λ h. simp (
+        g,
+        f,
+        h,
+        off inHead 51 refl h,
+        off inHead 55 refl h,
+        off inHead 5 refl h,
+        off inHead 11 refl h,
+        off inHead 15 refl h,
+        elsewhere inHead (s .place) (401 ∷ 411 ∷ 501 ∷ 601 ∷ []) (refl, (refl, (refl, (refl, tt)))) h,
+        and-true,
+        and-false,
+        or-true,
+        or-false,
+      ))
+      (λ h. simp (g, f, h, and-true, and-false, or-true, or-false)))))
 
-  pub of-701 : refusalAs s r 701 ≡ cond (inRp (s .place)) (cond (s .provider && not (s .had .had301) || s .provider && lacking (beforeOf s) || s .provider && eqb (s .groups) 0) 14 (0)) (cond (inFront (s .place) || inRest (s .place)) (cond (s .provider && eqb (s .place) 51) 13 (cond (s .provider && lacking (beforeOf s) || s .provider && eqb (s .groups) 0) 14 (0))) (cond (inHead (s .place) || eqb (s .place) 701) (cond (not (s .provider) && eqb (s .place) 0 || s .provider && eqb (s .groups) 0) 14 (0)) 13))
+  pub of-701 : r .number ≡ 701 → refusalOf s r ≡ cond (inRp (s .place))
+      (cond (s .provider && not (s .had .had301) || s .provider && lacking (beforeOf s) || s .provider && eqb (s .groups) 0) 14 (0))
+      (cond (inFront (s .place) || inRest (s .place)) (cond (s .provider && eqb (s .place) 51) 13
+      (cond (s .provider && lacking (beforeOf s) || s .provider && eqb (s .groups) 0) 14 (0)))
+      (cond (inHead (s .place) || eqb (s .place) 701)
+      (cond (not (s .provider) && eqb (s .place) 0 || s .provider && eqb (s .groups) 0) 14 (0)) 13))
   unfolding refusal pairBroken misplaced mayFollow continues closesRp missing valueWrong newerGroup inGroup
-  of-701 =
-      by-bool (inRp (s .place))
+  of-701 q =
+      rw (as-number s r 701 q)
+      (by-bool (inRp (s .place))
       (λ h. simp (h, off inRp 0 refl h, off inRp 51 refl h, and-true, and-false, or-true, or-false))
       (λ g. by-bool (inFront (s .place) || inRest (s .place))
-      (λ h. simp (g, h, off (λ p. inFront p || inRest p) 1 refl h, off (λ p. inFront p || inRest p) 2 refl h, off (λ p. inFront p || inRest p) 3 refl h, off (λ p. inFront p || inRest p) 4 refl h, off (λ p. inFront p || inRest p) 0 refl h, off (λ p. inFront p || inRest p) 55 refl h, off (λ p. inFront p || inRest p) 701 refl h, and-true, and-false, or-true, or-false))
+      (λ h. simp (
+        g,
+        h,
+        off (λ p. inFront p || inRest p) 1 refl h,
+        off (λ p. inFront p || inRest p) 2 refl h,
+        off (λ p. inFront p || inRest p) 3 refl h,
+        off (λ p. inFront p || inRest p) 4 refl h,
+        off (λ p. inFront p || inRest p) 0 refl h,
+        off (λ p. inFront p || inRest p) 55 refl h,
+        off (λ p. inFront p || inRest p) 701 refl h,
+        and-true,
+        and-false,
+        or-true,
+        or-false,
+      ))
       (λ f. by-bool (inHead (s .place) || eqb (s .place) 701)
-      (λ h. simp (g, f, h, off (λ p. inHead p || eqb p 701) 51 refl h, off (λ p. inHead p || eqb p 701) 55 refl h, off (λ p. inHead p || eqb p 701) 5 refl h, off (λ p. inHead p || eqb p 701) 11 refl h, off (λ p. inHead p || eqb p 701) 15 refl h, elsewhere (λ p. inHead p || eqb p 701) (s .place) (401 ∷ 411 ∷ 501 ∷ 601 ∷ []) (refl, (refl, (refl, (refl, tt)))) h, and-true, and-false, or-true, or-false))
+      (λ h. simp (
+        g,
+        f,
+        h,
+        off (λ p. inHead p || eqb p 701) 51 refl h,
+        off (λ p. inHead p || eqb p 701) 55 refl h,
+        off (λ p. inHead p || eqb p 701) 5 refl h,
+        off (λ p. inHead p || eqb p 701) 11 refl h,
+        off (λ p. inHead p || eqb p 701) 15 refl h,
+        elsewhere (λ p. inHead p || eqb p 701) (s .place) (401 ∷ 411 ∷ 501 ∷ 601 ∷ []) (refl, (refl, (refl, (refl, tt)))) h,
+        and-true,
+        and-false,
+        or-true,
+        or-false,
+      ))
       (λ h. let n = neither (inFront (s .place)) (inRest (s .place)) f in let m = neither (inHead (s .place)) (eqb (s .place) 701) h in
-      simp (g, n .0, n .1, m .0, m .1))))
+      simp (g, n .0, n .1, m .0, m .1)))))
 
-pub of-other : (s : State) (r : Facts) (n : ℕ) → mayFollow (s .place) n ≡ false → eqb n 301 ≡ false → refusalAs s r n ≡ 13
-unfolding refusal pairBroken misplaced
-of-other s r n h e = simp (e, h)
+pub of-other : (s : State) (r : Facts) → mayFollow (s .place) (r .number) ≡ false → eqb (r .number) 301 ≡ false → refusalOf s r ≡ 13
+unfolding refusalOf refusal pairBroken misplaced
+of-other s r h e = simp (e, h)
 
 -- ---- the state after a record that changes no more than its place and line
 
@@ -294,7 +558,8 @@ placed s n = record {
 }
 
 -- a record of an RP
-pub kept-by : (s : State) (r : Facts) → (r .number ≡ 281) ⊎ ((r .number ≡ 291) ⊎ ((r .number ≡ 311) ⊎ (r .number ≡ 391))) → On (placed s (r .number)) (r .rp) (s .had .doctor) ≡ On (advance s r) (rpOf r) (doctorOf s r)
+pub kept-by : (s : State) (r : Facts) → (r .number ≡ 281) ⊎ ((r .number ≡ 291) ⊎ ((r .number ≡ 311) ⊎ (r .number ≡ 391))) →
+    On (placed s (r .number)) (r .rp) (s .had .doctor) ≡ On (advance s r) (rpOf r) (doctorOf s r)
 unfolding advance hadAfter rpOf doctorOf
 kept-by s r (inl e) = simp e
 kept-by s r (inr (inl e)) = simp e

@@ -1,8 +1,9 @@
 // The order of records in a notebook file (JAHIS 15-106 3.2.7 and 3.2.8): refusals 12 to 16 of a record, 14 at the end.
 // A record is read elsewhere; here it is six facts, so that files that spell the same values take the same steps.
 // The rules are in specs/: Places (which record follows which), Questions (what is compared), Rules (what is refused),
-// State (what a record changes). A new record number moves together: a row in `mayFollow` and in `may_follow`, and the
-// part of the pattern that it belongs to (`in_front`, `in_rp`, `in_rest`).
+// State (what a record changes). A new record number moves together: a row in `mayFollow`, an arm in `refusal` with its
+// law in proofs/ByNumber.antt, an arm in `moved` where it changes more than the place, and the part of the pattern that
+// it belongs to (`in_front`, `in_rp`, `in_rest`).
 ghost use mathlib.Core.Path.{_≡_};
 ghost use mathlib.Core.Bool.{false, not, cond, _&&_};
 ghost use mathlib.Core.List.{[], _∷_};
@@ -25,8 +26,9 @@ pub struct Facts {
     pub named: bool,
 }
 
-// What the open group has had. `rp` is the open RP's value, which is also the count of RPs; `had301` speaks of that RP.
-// `doctor` and `drug` are the lines of the last 55 and 201, 0 where there is none.
+// What the open group has had; the Booleans stand together, so that they are copied as one word. `rp` is the open RP's
+// value, which is also the count of RPs; `had301` speaks of that RP. `doctor` and `drug` are the lines of the last 55 and
+// 201, 0 where there is none.
 pub struct Had {
     pub had11: bool,
     pub had51: bool,
@@ -120,11 +122,11 @@ impl Had {
     {
         Had {
             had11: false,
-            schedule: 0,
             had51: false,
             had411: false,
-            rp: 0,
             had301: false,
+            schedule: 0,
+            rp: 0,
             doctor: 0,
             drug: 0,
         }
@@ -148,7 +150,8 @@ impl State {
         }
     }
 
-    // The open group can't close in direction 1.
+    // The open group can't close in direction 1: "each has 11", "a group with an RP and an 11 with 4 has 51", "a group without RP has a
+    // 411".
     fn lacking(self) -> bool
         ensures { λ b. ⌜ b ≡ lacking (beforeOf self) ⌝ }
     {
@@ -182,8 +185,8 @@ impl State {
         pick(placed, pick(!self.provider & (self.place == 0), 14, 0), 13)
     }
 
-    // 5: it closes the RP and the group before it; direction 1: "a 51 is followed by 55 or 201", not by a 5.
-    // "No group is newer than the one before it; equal days are good."
+    // 5: it closes the RP and the group before it; direction 1: "each RP has 301", "a 51 is followed by 55 or 201". Direction 2:
+    // "record 1 stands". "No group is newer than the one before it; equal days are good."
     fn group_refusal(self, r: Facts) -> u32
         requires { ⌜ r .number ≡ 5 ⌝ }
         ensures { λ k. ⌜ k ≡ refusalOf self r ⌝ }
@@ -237,7 +240,7 @@ impl State {
         )
     }
 
-    // 55: "Prescriptions are all without doctors, or the first is preceded by 55".
+    // 55: "Prescriptions are all without doctors, or the first is preceded by 55". It closes the RP before it.
     fn doctor_refusal(self, r: Facts) -> u32
         requires { ⌜ r .number ≡ 55 ⌝ }
         ensures { λ k. ⌜ k ≡ refusalOf self r ⌝ }
@@ -269,7 +272,8 @@ impl State {
         pick(in_front(p) | (p == 55), good, 13)
     }
 
-    // 201: "with another value than the open RP begins a new RP; so does any 201 after a 301 or 391".
+    // 201: it is a further drug of the open RP, or, "with another value than the open RP begins a new RP; so does any 201
+    // after a 301 or 391".
     fn drug_refusal(self, r: Facts) -> u32
         requires { ⌜ r .number ≡ 201 ⌝ }
         ensures { λ k. ⌜ k ≡ refusalOf self r ⌝ }
@@ -302,9 +306,10 @@ impl State {
         kept_rp(in_drugs(p), same)
     }
 
-    // 401 to 601; behind: "any 401s, 411s, 501s, 601s" before it. Direction 1: "a 51 is followed by 55 or 201".
+    // 401 to 601; behind: "then any 401s, 411s, 501s, 601s" up to it. Direction 1: "a 51 is followed by 55 or 201".
     fn rest_refusal(self, behind: bool) -> u32
-        ensures { λ k. ⌜ k ≡ cond (inRp (self .place)) (cond (self .provider && not (self .had .had301)) 14 0) (cond (inFront (self .place)) (cond (self .provider && eqb (self .place) 51) 13 0) (cond behind 0 13)) ⌝ }
+        ensures { λ k. ⌜ k ≡ cond (inRp (self .place)) (cond (self .provider && not (self .had .had301)) 14 0)
+            (cond (inFront (self .place)) (cond (self .provider && eqb (self .place) 51) 13 0) (cond behind 0 13)) ⌝ }
     {
         let p = self.place;
         if in_rp(p) {
@@ -344,6 +349,7 @@ impl State {
             301 => self.usage_refusal(r),
             311 => kept_rp((p == 301) | (p == 311), same),
             391 => kept_rp(in_rp(p), same),
+            // Direction 1: "a group without RP has .. no 401".
             401 => pick(
                 self.provider & (self.had.rp == 0),
                 13,

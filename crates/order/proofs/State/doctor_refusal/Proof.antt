@@ -1,5 +1,5 @@
 -- `State::doctor_refusal` meets its contract. Assumes nothing.
-use Rattle.order.proofs.ByNumber.{as-number, of-55}
+use Rattle.order.proofs.ByNumber.{of-55}
 use mathlib.Core.Path.{sym, _∙_}
 use borrow.Author.Needs.{needs}
 use Rattle.order.proofs.State.doctor_refusal.Statement.{statement}
@@ -25,7 +25,16 @@ pick-requires : tie.Need-pick-requires
 pick-requires c κs = search needs
 
 returns : tie.Need-returns
-returns c = simp (c .pick .ensures, c .before .rp-closed .ensures, c .before .before .before .before .before .barred .ensures, as-number (c .before .before .before .before .before .before .args .self) (c .before .before .before .before .before .before .args .r) 55 (c .before .before .before .before .before .before .pre), of-55 (c .before .before .before .before .before .before .args .self) (c .before .before .before .before .before .before .args .r), sym (c .before .before .before .before .in-rp .ensures) ∙ c .before .before .before .if1 .taken)
+returns c =
+    let d1 = c .before in let d3 = d1 .before .before in let d4 = d3 .before in let d5 = d4 .before in
+    let d6 = d5 .before in
+    simp (
+      c .pick .ensures,
+      d1 .rp-closed .ensures,
+      d5 .barred .ensures,
+      of-55 (d6 .args .self) (d6 .args .r) (d6 .pre),
+      sym (d4 .in-rp .ensures) ∙ d3 .if1 .taken,
+    )
 
 in-front-requires : tie.Need-in-front-requires
 in-front-requires c κs = search needs
@@ -34,10 +43,21 @@ pick-requires-2 : tie.Need-pick-requires-2
 pick-requires-2 c κs = search needs
 
 returns-2 : tie.Need-returns-2
-returns-2 c = simp (c .pick2 .ensures, c .before .before .before .before .before .barred .ensures, as-number (c .before .before .before .before .before .before .args .self) (c .before .before .before .before .before .before .args .r) 55 (c .before .before .before .before .before .before .pre), of-55 (c .before .before .before .before .before .before .args .self) (c .before .before .before .before .before .before .args .r), sym (c .before .before .before .before .in-rp .ensures) ∙ c .before .before .before .if1 .left, sym (c .before .before .in-front .ensures) ∙ c .before .if2 .taken)
+returns-2 c =
+    let d1 = c .before in let d2 = d1 .before in let d3 = d2 .before in let d4 = d3 .before in let d5 = d4 .before in
+    let d6 = d5 .before in
+    simp (
+      c .pick2 .ensures,
+      d5 .barred .ensures,
+      of-55 (d6 .args .self) (d6 .args .r) (d6 .pre),
+      sym (d4 .in-rp .ensures) ∙ d3 .if1 .left,
+      sym (d2 .in-front .ensures) ∙ d1 .if2 .taken,
+    )
 
 returns-3 : tie.Need-returns-3
-returns-3 c = simp (as-number (c .before .before .before .before .before .args .self) (c .before .before .before .before .before .args .r) 55 (c .before .before .before .before .before .pre), of-55 (c .before .before .before .before .before .args .self) (c .before .before .before .before .before .args .r), sym (c .before .before .before .in-rp .ensures) ∙ c .before .before .if1 .left, sym (c .before .in-front .ensures) ∙ c .if2 .left)
+returns-3 c =
+    let d1 = c .before in let d2 = d1 .before in let d3 = d2 .before in let d5 = d3 .before .before in
+    simp (of-55 (d5 .args .self) (d5 .args .r) (d5 .pre), sym (d3 .in-rp .ensures) ∙ d2 .if1 .left, sym (d1 .in-front .ensures) ∙ c .if2 .left)
 
 pub doctor-refusal-spec : {M : Type 1} → statement M
 doctor-refusal-spec =

@@ -1,5 +1,5 @@
 -- `State::end_refusal` meets its contract. Assumes nothing.
-use Rattle.order.proofs.ByNumber.{as-number, of-701}
+use Rattle.order.proofs.ByNumber.{of-701}
 use mathlib.Core.Path.{sym, _∙_}
 use borrow.Author.Needs.{needs}
 use Rattle.order.proofs.State.end_refusal.Statement.{statement}
@@ -23,7 +23,10 @@ pick-requires : tie.Need-pick-requires
 pick-requires c κs = search needs
 
 returns : tie.Need-returns
-returns c = simp (c .pick .ensures, c .before .before .before .before .before .before .before .before .lacking .ensures, as-number (c .before .before .before .before .before .before .before .before .before .args .self) (c .before .before .before .before .before .before .before .before .before .args .r) 701 (c .before .before .before .before .before .before .before .before .before .pre), of-701 (c .before .before .before .before .before .before .before .before .before .args .self) (c .before .before .before .before .before .before .before .before .before .args .r), sym (c .before .before .before .before .before .in-rp .ensures) ∙ c .before .before .before .before .if1 .taken)
+returns c =
+    let d4 = c .before .before .before .before in let d5 = d4 .before in let d8 = d5 .before .before .before in
+    let d9 = d8 .before in
+    simp (c .pick .ensures, d8 .lacking .ensures, of-701 (d9 .args .self) (d9 .args .r) (d9 .pre), sym (d5 .in-rp .ensures) ∙ d4 .if1 .taken)
 
 in-front-requires : tie.Need-in-front-requires
 in-front-requires c κs = search needs
@@ -38,7 +41,17 @@ pick-requires-3 : tie.Need-pick-requires-3
 pick-requires-3 c κs = search needs
 
 returns-2 : tie.Need-returns-2
-returns-2 c = simp (c .pick3 .ensures, c .before .pick2 .ensures, c .before .before .before .before .before .before .before .before .before .before .before .lacking .ensures, as-number (c .before .before .before .before .before .before .before .before .before .before .before .before .args .self) (c .before .before .before .before .before .before .before .before .before .before .before .before .args .r) 701 (c .before .before .before .before .before .before .before .before .before .before .before .before .pre), of-701 (c .before .before .before .before .before .before .before .before .before .before .before .before .args .self) (c .before .before .before .before .before .before .before .before .before .before .before .before .args .r), sym (c .before .before .before .before .before .before .before .before .in-rp .ensures) ∙ c .before .before .before .before .before .before .before .if1 .left, rw (c .before .before .before .before .before .before .in-front .ensures, c .before .before .before .before .before .in-rest .ensures) at (c .before .before .before .before .if2 .taken))
+returns-2 c =
+    let d1 = c .before in let d4 = d1 .before .before .before in let d5 = d4 .before in let d6 = d5 .before in
+    let d7 = d6 .before in let d8 = d7 .before in let d11 = d8 .before .before .before in let d12 = d11 .before in
+    simp (
+      c .pick3 .ensures,
+      d1 .pick2 .ensures,
+      d11 .lacking .ensures,
+      of-701 (d12 .args .self) (d12 .args .r) (d12 .pre),
+      sym (d8 .in-rp .ensures) ∙ d7 .if1 .left,
+      rw (d6 .in-front .ensures, d5 .in-rest .ensures) at (d4 .if2 .taken),
+    )
 
 in-head-requires : tie.Need-in-head-requires
 in-head-requires c κs = search needs
@@ -50,7 +63,19 @@ pick-requires-5 : tie.Need-pick-requires-5
 pick-requires-5 c κs = search needs
 
 returns-3 : tie.Need-returns-3
-returns-3 c = simp (c .pick5 .ensures, c .before .pick4 .ensures, c .before .before .before .in-head .ensures, c .before .before .before .before .before .before .before .before .before .before .before .lacking .ensures, as-number (c .before .before .before .before .before .before .before .before .before .before .before .before .args .self) (c .before .before .before .before .before .before .before .before .before .before .before .before .args .r) 701 (c .before .before .before .before .before .before .before .before .before .before .before .before .pre), of-701 (c .before .before .before .before .before .before .before .before .before .before .before .before .args .self) (c .before .before .before .before .before .before .before .before .before .before .before .before .args .r), sym (c .before .before .before .before .before .before .before .before .in-rp .ensures) ∙ c .before .before .before .before .before .before .before .if1 .left, rw (c .before .before .before .before .before .before .in-front .ensures, c .before .before .before .before .before .in-rest .ensures) at (c .before .before .before .before .if2 .left))
+returns-3 c =
+    let d1 = c .before in let d3 = d1 .before .before in let d4 = d3 .before in let d5 = d4 .before in
+    let d6 = d5 .before in let d7 = d6 .before in let d8 = d7 .before in let d11 = d8 .before .before .before in
+    let d12 = d11 .before in
+    simp (
+      c .pick5 .ensures,
+      d1 .pick4 .ensures,
+      d3 .in-head .ensures,
+      d11 .lacking .ensures,
+      of-701 (d12 .args .self) (d12 .args .r) (d12 .pre),
+      sym (d8 .in-rp .ensures) ∙ d7 .if1 .left,
+      rw (d6 .in-front .ensures, d5 .in-rest .ensures) at (d4 .if2 .left),
+    )
 
 pub end-refusal-spec : {M : Type 1} → statement M
 end-refusal-spec =

@@ -1,5 +1,5 @@
 -- `State::group_refusal` meets its contract. Assumes nothing.
-use Rattle.order.proofs.ByNumber.{as-number, of-5}
+use Rattle.order.proofs.ByNumber.{of-5}
 use mathlib.Core.Path.{sym, _∙_}
 use borrow.Author.Needs.{needs}
 use Rattle.order.proofs.State.group_refusal.Statement.{statement}
@@ -26,7 +26,16 @@ pick-requires-2 : tie.Need-pick-requires-2
 pick-requires-2 c κs = search needs
 
 returns : tie.Need-returns
-returns c = simp (c .pick2 .ensures, c .before .before .before .before .before .before .before .pick .ensures, c .before .before .before .before .before .before .lacking .ensures, as-number (c .before .before .before .before .before .before .before .before .before .before .before .args .self) (c .before .before .before .before .before .before .before .before .before .before .before .args .r) 5 (c .before .before .before .before .before .before .before .before .before .before .before .pre), of-5 (c .before .before .before .before .before .before .before .before .before .before .before .args .self) (c .before .before .before .before .before .before .before .before .before .before .before .args .r), sym (c .before .before .before .before .before .in-rp .ensures) ∙ c .before .before .before .before .if1 .taken)
+returns c =
+    let d4 = c .before .before .before .before in let d5 = d4 .before in let d6 = d5 .before in let d7 = d6 .before in
+    let d11 = d7 .before .before .before .before in
+    simp (
+      c .pick2 .ensures,
+      d7 .pick .ensures,
+      d6 .lacking .ensures,
+      of-5 (d11 .args .self) (d11 .args .r) (d11 .pre),
+      sym (d5 .in-rp .ensures) ∙ d4 .if1 .taken,
+    )
 
 in-front-requires : tie.Need-in-front-requires
 in-front-requires c κs = search needs
@@ -41,7 +50,19 @@ pick-requires-4 : tie.Need-pick-requires-4
 pick-requires-4 c κs = search needs
 
 returns-2 : tie.Need-returns-2
-returns-2 c = simp (c .pick4 .ensures, c .before .pick3 .ensures, c .before .before .before .before .before .before .before .before .before .before .pick .ensures, c .before .before .before .before .before .before .before .before .before .lacking .ensures, as-number (c .before .before .before .before .before .before .before .before .before .before .before .before .before .before .args .self) (c .before .before .before .before .before .before .before .before .before .before .before .before .before .before .args .r) 5 (c .before .before .before .before .before .before .before .before .before .before .before .before .before .before .pre), of-5 (c .before .before .before .before .before .before .before .before .before .before .before .before .before .before .args .self) (c .before .before .before .before .before .before .before .before .before .before .before .before .before .before .args .r), sym (c .before .before .before .before .before .before .before .before .in-rp .ensures) ∙ c .before .before .before .before .before .before .before .if1 .left, rw (c .before .before .before .before .before .before .in-front .ensures, c .before .before .before .before .before .in-rest .ensures) at (c .before .before .before .before .if2 .taken))
+returns-2 c =
+    let d1 = c .before in let d4 = d1 .before .before .before in let d5 = d4 .before in let d6 = d5 .before in
+    let d7 = d6 .before in let d8 = d7 .before in let d9 = d8 .before in let d10 = d9 .before in
+    let d14 = d10 .before .before .before .before in
+    simp (
+      c .pick4 .ensures,
+      d1 .pick3 .ensures,
+      d10 .pick .ensures,
+      d9 .lacking .ensures,
+      of-5 (d14 .args .self) (d14 .args .r) (d14 .pre),
+      sym (d8 .in-rp .ensures) ∙ d7 .if1 .left,
+      rw (d6 .in-front .ensures, d5 .in-rest .ensures) at (d4 .if2 .taken),
+    )
 
 in-head-requires : tie.Need-in-head-requires
 in-head-requires c κs = search needs
@@ -53,7 +74,23 @@ pick-requires-6 : tie.Need-pick-requires-6
 pick-requires-6 c κs = search needs
 
 returns-3 : tie.Need-returns-3
-returns-3 c = simp (c .pick6 .ensures, c .before .pick5 .ensures, c .before .before .before .before .before .before .before .before .before .before .pick .ensures, c .before .before .before .in-head .ensures, c .before .before .before .before .before .before .before .before .before .lacking .ensures, as-number (c .before .before .before .before .before .before .before .before .before .before .before .before .before .before .args .self) (c .before .before .before .before .before .before .before .before .before .before .before .before .before .before .args .r) 5 (c .before .before .before .before .before .before .before .before .before .before .before .before .before .before .pre), of-5 (c .before .before .before .before .before .before .before .before .before .before .before .before .before .before .args .self) (c .before .before .before .before .before .before .before .before .before .before .before .before .before .before .args .r), sym (c .before .before .before .before .before .before .before .before .in-rp .ensures) ∙ c .before .before .before .before .before .before .before .if1 .left, rw (c .before .before .before .before .before .before .in-front .ensures, c .before .before .before .before .before .in-rest .ensures) at (c .before .before .before .before .if2 .left))
+returns-3 c =
+    let d1 = c .before in let d3 = d1 .before .before in let d4 = d3 .before in let d5 = d4 .before in
+    let d6 = d5 .before in let d7 = d6 .before in let d8 = d7 .before in let d9 = d8 .before in let d10 = d9 .before in
+    let d14 = d10 .before .before .before .before in
+    simp (
+      c .pick6 .ensures,
+      d1 .pick5 .ensures,
+      d10 .pick .ensures,
+      d3 .in-head .ensures,
+      d9 .lacking .ensures,
+      of-5 (d14 .args .self) (d14 .args .r) (d14 .pre),
+      sym (d8 .in-rp .ensures) ∙ d7 .if1 .left,
+      rw (
+        d6 .in-front .ensures,
+        d5 .in-rest .ensures,
+      ) at (d4 .if2 .left),
+    )
 
 pub group-refusal-spec : {M : Type 1} → statement M
 group-refusal-spec =

@@ -24,7 +24,9 @@ add-drugs c = search needs
 
 returns : tie.Need-returns
 unfolding advance hadAfter rpOf doctorOf none
-returns c = simp (c .before .before .match .keys1, c .none .ensures)
+returns c =
+    let d2 = c .before .before in
+    simp (d2 .match .keys1, c .none .ensures)
 
 returns-2 : tie.Need-returns-2
 unfolding advance hadAfter rpOf doctorOf
@@ -47,7 +49,9 @@ unfolding advance hadAfter rpOf doctorOf
 returns-6 c = simp (c .match .keys6)
 
 returns-7 : tie.Need-returns-7
-returns-7 c = kept-by (c .before .before .before .args .self) (c .before .before .before .args .r) (c .before .match .keys7)
+returns-7 c =
+    let d1 = c .before in let d3 = d1 .before .before in
+    kept-by (d3 .args .self) (d3 .args .r) (d1 .match .keys7)
 
 returns-8 : tie.Need-returns-8
 unfolding advance hadAfter rpOf doctorOf
@@ -55,7 +59,21 @@ returns-8 c = simp (c .match .keys8)
 
 returns-9 : tie.Need-returns-9
 unfolding advance hadAfter rpOf doctorOf
-returns-9 c = let n = c .before .before .before .args .r .number in simp (ne-eqb n 411 (c .before .match .rest .1), ne-eqb n 281 (λ e. c .before .match .rest .0 .1 (inl e)), ne-eqb n 291 (λ e. c .before .match .rest .0 .1 (inr (inl e))), ne-eqb n 311 (λ e. c .before .match .rest .0 .1 (inr (inr (inl e)))), ne-eqb n 391 (λ e. c .before .match .rest .0 .1 (inr (inr (inr e)))), ne-eqb n 301 (c .before .match .rest .0 .0 .1), ne-eqb n 201 (c .before .match .rest .0 .0 .0 .1), ne-eqb n 55 (c .before .match .rest .0 .0 .0 .0 .1), ne-eqb n 51 (c .before .match .rest .0 .0 .0 .0 .0 .1), ne-eqb n 11 (c .before .match .rest .0 .0 .0 .0 .0 .0 .1), ne-eqb n 5 (c .before .match .rest .0 .0 .0 .0 .0 .0 .0 .1))
+returns-9 c =
+    let d1 = c .before in let d3 = d1 .before .before in
+    let n = d3 .args .r .number in simp (
+      ne-eqb n 411 (d1 .match .rest .1),
+      ne-eqb n 281 (λ e. d1 .match .rest .0 .1 (inl e)),
+      ne-eqb n 291 (λ e. d1 .match .rest .0 .1 (inr (inl e))),
+      ne-eqb n 311 (λ e. d1 .match .rest .0 .1 (inr (inr (inl e)))),
+      ne-eqb n 391 (λ e. d1 .match .rest .0 .1 (inr (inr (inr e)))),
+      ne-eqb n 301 (d1 .match .rest .0 .0 .1),
+      ne-eqb n 201 (d1 .match .rest .0 .0 .0 .1),
+      ne-eqb n 55 (d1 .match .rest .0 .0 .0 .0 .1),
+      ne-eqb n 51 (d1 .match .rest .0 .0 .0 .0 .0 .1),
+      ne-eqb n 11 (d1 .match .rest .0 .0 .0 .0 .0 .0 .1),
+      ne-eqb n 5 (d1 .match .rest .0 .0 .0 .0 .0 .0 .0 .1),
+    )
 
 pub moved-spec : {M : Type 1} → statement M
 moved-spec =

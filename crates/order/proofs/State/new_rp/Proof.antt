@@ -1,5 +1,5 @@
 -- `State::new_rp` meets its contract: of a 201 that begins an RP. Assumes nothing.
-use Rattle.order.proofs.ByNumber.{as-number, of-201-new}
+use Rattle.order.proofs.ByNumber.{of-201-new}
 use mathlib.Core.Path.{sym, _∙_}
 use borrow.Author.Needs.{needs}
 use Rattle.order.proofs.State.new_rp.Statement.{statement}
@@ -29,7 +29,15 @@ pick-requires-2 : tie.Need-pick-requires-2
 pick-requires-2 c κs = search needs
 
 returns : tie.Need-returns
-returns c = simp (c .pick2 .ensures, c .before .before .before .before .before .pick .ensures, as-number (c .before .before .before .before .before .before .before .before .args .self) (c .before .before .before .before .before .before .before .before .args .r) 201 (c .before .before .before .before .before .before .before .before .pre .0), of-201-new (c .before .before .before .before .before .before .before .before .args .self) (c .before .before .before .before .before .before .before .before .args .r) (c .before .before .before .before .before .before .before .before .pre .1), sym (c .before .before .before .before .in-rp .ensures) ∙ c .before .before .before .if1 .taken)
+returns c =
+    let d3 = c .before .before .before in let d4 = d3 .before in let d5 = d4 .before in
+    let d8 = d5 .before .before .before in
+    simp (
+      c .pick2 .ensures,
+      d5 .pick .ensures,
+      of-201-new (d8 .args .self) (d8 .args .r) (d8 .pre .0) (d8 .pre .1),
+      sym (d4 .in-rp .ensures) ∙ d3 .if1 .taken,
+    )
 
 in-front-requires : tie.Need-in-front-requires
 in-front-requires c κs = search needs
@@ -38,7 +46,16 @@ pick-requires-3 : tie.Need-pick-requires-3
 pick-requires-3 c κs = search needs
 
 returns-2 : tie.Need-returns-2
-returns-2 c = simp (c .pick3 .ensures, c .before .in-front .ensures, c .before .before .before .before .pick .ensures, as-number (c .before .before .before .before .before .before .before .args .self) (c .before .before .before .before .before .before .before .args .r) 201 (c .before .before .before .before .before .before .before .pre .0), of-201-new (c .before .before .before .before .before .before .before .args .self) (c .before .before .before .before .before .before .before .args .r) (c .before .before .before .before .before .before .before .pre .1), sym (c .before .before .before .in-rp .ensures) ∙ c .before .before .if1 .left)
+returns-2 c =
+    let d1 = c .before in let d2 = d1 .before in let d3 = d2 .before in let d4 = d3 .before in
+    let d7 = d4 .before .before .before in
+    simp (
+      c .pick3 .ensures,
+      d1 .in-front .ensures,
+      d4 .pick .ensures,
+      of-201-new (d7 .args .self) (d7 .args .r) (d7 .pre .0) (d7 .pre .1),
+      sym (d3 .in-rp .ensures) ∙ d2 .if1 .left,
+    )
 
 pub new-rp-spec : {M : Type 1} → statement M
 new-rp-spec =

@@ -1,5 +1,5 @@
 -- `State::refusal` meets its contract, by the law of each number. Assumes nothing.
-use Rattle.order.proofs.ByNumber.{as-number, of-1, of-2, of-3, of-4, of-11, of-15, of-51, of-281, of-291, of-311, of-391, of-401, of-411, of-501, of-601, of-other}
+use Rattle.order.proofs.ByNumber.{of-1, of-2, of-3, of-4, of-11, of-15, of-51, of-281, of-291, of-311, of-391, of-401, of-411, of-501, of-601, of-other}
 use Rattle.order.proofs.Rows.{no-row}
 use Rattle.order.specs.Places.{rows, mayFollow}
 use mathlib.Core.Path.{refl, sym, _∙_}
@@ -106,28 +106,42 @@ end-refusal-requires : tie.Need-end-refusal-requires
 end-refusal-requires c κs = search needs
 
 returns : tie.Need-returns
-returns c = simp (c .pick .ensures, as-number (c .before .before .before .before .args .self) (c .before .before .before .before .args .r) 1 (c .before .match .keys1), of-1 (c .before .before .before .before .args .self) (c .before .before .before .before .args .r))
+returns c =
+    let d1 = c .before in let d4 = d1 .before .before .before in
+    simp (c .pick .ensures, of-1 (d4 .args .self) (d4 .args .r) (d1 .match .keys1))
 
 returns-2 : tie.Need-returns-2
-returns-2 c = simp (c .head-refusal .ensures, as-number (c .before .before .before .before .args .self) (c .before .before .before .before .args .r) 2 (c .before .match .keys2), of-2 (c .before .before .before .before .args .self) (c .before .before .before .before .args .r))
+returns-2 c =
+    let d1 = c .before in let d4 = d1 .before .before .before in
+    simp (c .head-refusal .ensures, of-2 (d4 .args .self) (d4 .args .r) (d1 .match .keys2))
 
 returns-3 : tie.Need-returns-3
-returns-3 c = simp (c .head-refusal2 .ensures, as-number (c .before .before .before .before .args .self) (c .before .before .before .before .args .r) 3 (c .before .match .keys3), of-3 (c .before .before .before .before .args .self) (c .before .before .before .before .args .r))
+returns-3 c =
+    let d1 = c .before in let d4 = d1 .before .before .before in
+    simp (c .head-refusal2 .ensures, of-3 (d4 .args .self) (d4 .args .r) (d1 .match .keys3))
 
 returns-4 : tie.Need-returns-4
-returns-4 c = simp (c .head-refusal3 .ensures, c .before .in-head .ensures, as-number (c .before .before .before .before .before .args .self) (c .before .before .before .before .before .args .r) 4 (c .before .before .match .keys4), of-4 (c .before .before .before .before .before .args .self) (c .before .before .before .before .before .args .r))
+returns-4 c =
+    let d1 = c .before in let d2 = d1 .before in let d5 = d2 .before .before .before in
+    simp (c .head-refusal3 .ensures, d1 .in-head .ensures, of-4 (d5 .args .self) (d5 .args .r) (d2 .match .keys4))
 
 returns-5 : tie.Need-returns-5
 returns-5 c = search needs
 
 returns-6 : tie.Need-returns-6
-returns-6 c = simp (c .pick2 .ensures, as-number (c .before .before .before .before .args .self) (c .before .before .before .before .args .r) 11 (c .before .match .keys6), of-11 (c .before .before .before .before .args .self) (c .before .before .before .before .args .r))
+returns-6 c =
+    let d1 = c .before in let d4 = d1 .before .before .before in
+    simp (c .pick2 .ensures, of-11 (d4 .args .self) (d4 .args .r) (d1 .match .keys6))
 
 returns-7 : tie.Need-returns-7
-returns-7 c = simp (c .pick3 .ensures, as-number (c .before .before .before .before .args .self) (c .before .before .before .before .args .r) 15 (c .before .match .keys7), of-15 (c .before .before .before .before .args .self) (c .before .before .before .before .args .r))
+returns-7 c =
+    let d1 = c .before in let d4 = d1 .before .before .before in
+    simp (c .pick3 .ensures, of-15 (d4 .args .self) (d4 .args .r) (d1 .match .keys7))
 
 returns-8 : tie.Need-returns-8
-returns-8 c = simp (c .pick5 .ensures, c .before .pick4 .ensures, c .before .before .barred .ensures, as-number (c .before .before .before .before .before .before .args .self) (c .before .before .before .before .before .before .args .r) 51 (c .before .before .before .match .keys8), of-51 (c .before .before .before .before .before .before .args .self) (c .before .before .before .before .before .before .args .r))
+returns-8 c =
+    let d1 = c .before in let d2 = d1 .before in let d3 = d2 .before in let d6 = d3 .before .before .before in
+    simp (c .pick5 .ensures, d1 .pick4 .ensures, d2 .barred .ensures, of-51 (d6 .args .self) (d6 .args .r) (d3 .match .keys8))
 
 returns-9 : tie.Need-returns-9
 returns-9 c = search needs
@@ -136,38 +150,56 @@ returns-10 : tie.Need-returns-10
 returns-10 c = search needs
 
 returns-11 : tie.Need-returns-11
-returns-11 c = simp (c .kept-rp .ensures, as-number (c .before .before .before .before .args .self) (c .before .before .before .before .args .r) 281 (c .before .match .keys11), of-281 (c .before .before .before .before .args .self) (c .before .before .before .before .args .r))
+returns-11 c =
+    let d1 = c .before in let d4 = d1 .before .before .before in
+    simp (c .kept-rp .ensures, of-281 (d4 .args .self) (d4 .args .r) (d1 .match .keys11))
 
 returns-12 : tie.Need-returns-12
-returns-12 c = simp (c .kept-rp2 .ensures, c .before .in-drugs .ensures, as-number (c .before .before .before .before .before .args .self) (c .before .before .before .before .before .args .r) 291 (c .before .before .match .keys12), of-291 (c .before .before .before .before .before .args .self) (c .before .before .before .before .before .args .r))
+returns-12 c =
+    let d1 = c .before in let d2 = d1 .before in let d5 = d2 .before .before .before in
+    simp (c .kept-rp2 .ensures, d1 .in-drugs .ensures, of-291 (d5 .args .self) (d5 .args .r) (d2 .match .keys12))
 
 returns-13 : tie.Need-returns-13
 returns-13 c = search needs
 
 returns-14 : tie.Need-returns-14
-returns-14 c = simp (c .kept-rp3 .ensures, as-number (c .before .before .before .before .args .self) (c .before .before .before .before .args .r) 311 (c .before .match .keys14), of-311 (c .before .before .before .before .args .self) (c .before .before .before .before .args .r))
+returns-14 c =
+    let d1 = c .before in let d4 = d1 .before .before .before in
+    simp (c .kept-rp3 .ensures, of-311 (d4 .args .self) (d4 .args .r) (d1 .match .keys14))
 
 returns-15 : tie.Need-returns-15
-returns-15 c = simp (c .kept-rp4 .ensures, c .before .in-rp .ensures, as-number (c .before .before .before .before .before .args .self) (c .before .before .before .before .before .args .r) 391 (c .before .before .match .keys15), of-391 (c .before .before .before .before .before .args .self) (c .before .before .before .before .before .args .r))
+returns-15 c =
+    let d1 = c .before in let d2 = d1 .before in let d5 = d2 .before .before .before in
+    simp (c .kept-rp4 .ensures, d1 .in-rp .ensures, of-391 (d5 .args .self) (d5 .args .r) (d2 .match .keys15))
 
 returns-16 : tie.Need-returns-16
-returns-16 c = simp (c .pick6 .ensures, c .before .rest-refusal .ensures, as-number (c .before .before .before .before .before .before .before .args .self) (c .before .before .before .before .before .before .before .args .r) 401 (c .before .before .before .before .match .keys16), of-401 (c .before .before .before .before .before .before .before .args .self) (c .before .before .before .before .before .before .before .args .r))
+returns-16 c =
+    let d1 = c .before in let d4 = d1 .before .before .before in let d7 = d4 .before .before .before in
+    simp (c .pick6 .ensures, d1 .rest-refusal .ensures, of-401 (d7 .args .self) (d7 .args .r) (d4 .match .keys16))
 
 returns-17 : tie.Need-returns-17
-returns-17 c = simp (c .rest-refusal2 .ensures, as-number (c .before .before .before .before .args .self) (c .before .before .before .before .args .r) 411 (c .before .match .keys17), of-411 (c .before .before .before .before .args .self) (c .before .before .before .before .args .r))
+returns-17 c =
+    let d1 = c .before in let d4 = d1 .before .before .before in
+    simp (c .rest-refusal2 .ensures, of-411 (d4 .args .self) (d4 .args .r) (d1 .match .keys17))
 
 returns-18 : tie.Need-returns-18
-returns-18 c = simp (c .rest-refusal3 .ensures, as-number (c .before .before .before .before .args .self) (c .before .before .before .before .args .r) 501 (c .before .match .keys18), of-501 (c .before .before .before .before .args .self) (c .before .before .before .before .args .r))
+returns-18 c =
+    let d1 = c .before in let d4 = d1 .before .before .before in
+    simp (c .rest-refusal3 .ensures, of-501 (d4 .args .self) (d4 .args .r) (d1 .match .keys18))
 
 returns-19 : tie.Need-returns-19
-returns-19 c = simp (c .rest-refusal4 .ensures, c .before .in-rest .ensures, as-number (c .before .before .before .before .before .args .self) (c .before .before .before .before .before .args .r) 601 (c .before .before .match .keys19), of-601 (c .before .before .before .before .before .args .self) (c .before .before .before .before .before .args .r))
+returns-19 c =
+    let d1 = c .before in let d2 = d1 .before in let d5 = d2 .before .before .before in
+    simp (c .rest-refusal4 .ensures, d1 .in-rest .ensures, of-601 (d5 .args .self) (d5 .args .r) (d2 .match .keys19))
 
 returns-20 : tie.Need-returns-20
 returns-20 c = search needs
 
 returns-21 : tie.Need-returns-21
 unfolding mayFollow
-returns-21 c = let n = c .before .before .before .args .r .number in sym (as-number (c .before .before .before .args .self) (c .before .before .before .args .r) n refl ∙ of-other (c .before .before .before .args .self) (c .before .before .before .args .r) n (no-row (Unit {0}) n (rows (c .before .before .before .args .self .place)) (c .match .rest) .1) (ne-eqb n 301 (c .match .rest .0 .0 .0 .0 .0 .0 .0 .1)))
+returns-21 c =
+    let d3 = c .before .before .before in
+    let n = d3 .args .r .number in sym (of-other (d3 .args .self) (d3 .args .r) (no-row (Unit {0}) n (rows (d3 .args .self .place)) (c .match .rest) .1) (ne-eqb n 301 (c .match .rest .0 .0 .0 .0 .0 .0 .0 .1)))
 
 pub refusal-spec : {M : Type 1} → statement M
 refusal-spec =

@@ -17,7 +17,9 @@ rp-closed-requires : tie.Need-rp-closed-requires
 rp-closed-requires c κs = search needs
 
 returns : tie.Need-returns
-returns c = simp (c .rp-closed .ensures, sym (c .before .before .in-rp .ensures) ∙ c .before .if1 .taken)
+returns c =
+    let d1 = c .before in let d2 = d1 .before in
+    simp (c .rp-closed .ensures, sym (d2 .in-rp .ensures) ∙ d1 .if1 .taken)
 
 in-front-requires : tie.Need-in-front-requires
 in-front-requires c κs = search needs
@@ -26,13 +28,17 @@ pick-requires : tie.Need-pick-requires
 pick-requires c κs = search needs
 
 returns-2 : tie.Need-returns-2
-returns-2 c = simp (c .pick .ensures, sym (c .before .before .before .before .before .in-rp .ensures) ∙ c .before .before .before .before .if1 .left, sym (c .before .before .before .in-front .ensures) ∙ c .before .before .if2 .taken)
+returns-2 c =
+    let d2 = c .before .before in let d3 = d2 .before in let d4 = d3 .before in let d5 = d4 .before in
+    simp (c .pick .ensures, sym (d5 .in-rp .ensures) ∙ d4 .if1 .left, sym (d3 .in-front .ensures) ∙ d2 .if2 .taken)
 
 pick-requires-2 : tie.Need-pick-requires-2
 pick-requires-2 c κs = search needs
 
 returns-3 : tie.Need-returns-3
-returns-3 c = simp (c .pick2 .ensures, sym (c .before .before .before .before .in-rp .ensures) ∙ c .before .before .before .if1 .left, sym (c .before .before .in-front .ensures) ∙ c .before .if2 .left)
+returns-3 c =
+    let d1 = c .before in let d2 = d1 .before in let d3 = d2 .before in let d4 = d3 .before in
+    simp (c .pick2 .ensures, sym (d4 .in-rp .ensures) ∙ d3 .if1 .left, sym (d2 .in-front .ensures) ∙ d1 .if2 .left)
 
 pub rest-refusal-spec : {M : Type 1} → statement M
 rest-refusal-spec =

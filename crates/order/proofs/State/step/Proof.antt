@@ -18,7 +18,9 @@ moved-requires c κs = search needs
 
 returns : tie.Need-returns
 unfolding stepOf
-returns c = simp (sym (c .before .before .refusal .ensures), eq-eqb _ _ (c .before .if1 .taken), c .moved .ensures)
+returns c =
+    let d1 = c .before in let d2 = d1 .before in
+    simp (sym (d2 .refusal .ensures), eq-eqb _ _ (d1 .if1 .taken), c .moved .ensures)
 
 returns-2 : tie.Need-returns-2
 unfolding stepOf

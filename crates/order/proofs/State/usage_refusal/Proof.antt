@@ -1,5 +1,5 @@
 -- `State::usage_refusal` meets its contract. Assumes nothing.
-use Rattle.order.proofs.ByNumber.{as-number, of-301-named, of-301-unnamed, of-301-free}
+use Rattle.order.proofs.ByNumber.{of-301-named, of-301-unnamed, of-301-free}
 use mathlib.Core.Path.{sym, _∙_}
 use borrow.Author.Needs.{needs}
 use Rattle.order.proofs.State.usage_refusal.Statement.{statement}
@@ -17,13 +17,17 @@ kept-rp-requires : tie.Need-kept-rp-requires
 kept-rp-requires c κs = search needs
 
 returns : tie.Need-returns
-returns c = simp (c .kept-rp .ensures, c .before .in-drugs .ensures, as-number (c .before .before .before .before .before .args .self) (c .before .before .before .before .before .args .r) 301 (c .before .before .before .before .before .pre), of-301-named (c .before .before .before .before .before .args .self) (c .before .before .before .before .before .args .r) (c .before .before .if1 .taken))
+returns c =
+    let d1 = c .before in let d2 = d1 .before in let d5 = d2 .before .before .before in
+    simp (c .kept-rp .ensures, d1 .in-drugs .ensures, of-301-named (d5 .args .self) (d5 .args .r) (d5 .pre) (d2 .if1 .taken))
 
 in-group-requires : tie.Need-in-group-requires
 in-group-requires c κs = search needs
 
 returns-2 : tie.Need-returns-2
-returns-2 c = sym (as-number (c .before .before .before .before .before .before .before .before .before .args .self) (c .before .before .before .before .before .before .before .before .before .args .r) 301 (c .before .before .before .before .before .before .before .before .before .pre) ∙ of-301-unnamed (c .before .before .before .before .before .before .before .before .before .args .self) (c .before .before .before .before .before .before .before .before .before .args .r) (c .before .before .before .before .before .before .if1 .left) (rw (c .before .before .before .before .in-group .ensures) at (c .if2 .taken)))
+returns-2 c =
+    let d4 = c .before .before .before .before in let d6 = d4 .before .before in let d9 = d6 .before .before .before in
+    sym (of-301-unnamed (d9 .args .self) (d9 .args .r) (d9 .pre) (d6 .if1 .left) (rw (d4 .in-group .ensures) at (c .if2 .taken)))
 
 in-drugs-requires-2 : tie.Need-in-drugs-requires-2
 in-drugs-requires-2 c κs = search needs
@@ -32,7 +36,14 @@ kept-rp-requires-2 : tie.Need-kept-rp-requires-2
 kept-rp-requires-2 c κs = search needs
 
 returns-3 : tie.Need-returns-3
-returns-3 c = simp (c .kept-rp2 .ensures, c .before .in-drugs2 .ensures, as-number (c .before .before .before .before .before .before .before .before .before .before .before .args .self) (c .before .before .before .before .before .before .before .before .before .before .before .args .r) 301 (c .before .before .before .before .before .before .before .before .before .before .before .pre), of-301-free (c .before .before .before .before .before .before .before .before .before .before .before .args .self) (c .before .before .before .before .before .before .before .before .before .before .before .args .r) (c .before .before .before .before .before .before .before .before .if1 .left) (rw (c .before .before .before .before .before .before .in-group .ensures) at (c .before .before .if2 .left)))
+returns-3 c =
+    let d1 = c .before in let d2 = d1 .before in let d6 = d2 .before .before .before .before in
+    let d8 = d6 .before .before in let d11 = d8 .before .before .before in
+    simp (
+      c .kept-rp2 .ensures,
+      d1 .in-drugs2 .ensures,
+      of-301-free (d11 .args .self) (d11 .args .r) (d11 .pre) (d8 .if1 .left) (rw (d6 .in-group .ensures) at (d2 .if2 .left)),
+    )
 
 pub usage-refusal-spec : {M : Type 1} → statement M
 usage-refusal-spec =
