@@ -25,7 +25,7 @@ use Rattle.records.specs.Records.{itemValue}
 use Rattle.items.specs.Codes.{setOf, kindOf}
 use Rattle.buffers.specs.Buffers.{Room, Wrote}
 use Rattle.buffers.proofs.Runs.{then}
-use Rattle.canonical.specs.Writing.{postalBytes, numberBytes, dayBytes, itemBytes, Spellable, OwnWhere, OwnUnless}
+use Rattle.canonical.specs.Writing.{postalBytes, numberBytes, dayBytes, itemBytes, Spellable, oneSpelling, OwnUnless}
 use Rattle.canonical.proofs.DayLaws.{own-day}
 
 -- nothing is written
@@ -263,29 +263,28 @@ day-own (x ∷ s) g h = go (readDay (x ∷ s)) refl (g refl)
     go NotADate q f = absurd (omega arith)
     go (Date d) q f = own-day (x ∷ s) (d .ymd) h q
 
-module _ (c : ℕ) where
-  pub own-where : OwnWhere (not (eqb (c / 4 % 16) 6) && (not (eqb (c / 4 % 16) 7) && not (eqb (c / 4 % 16) 10))) c
-  own-where = record { own = λ f s. go s (eqb (c / 4 % 16) 6) refl (eqb (c / 4 % 16) 7) refl (eqb (c / 4 % 16) 10) refl f }
+-- an item of any other kind
+pub own-kind : (c : ℕ) (s : List ℕ) → oneSpelling c ≡ true → itemBytes c s ≡ s
+own-kind c s f = go (eqb (c / 4 % 16) 6) refl (eqb (c / 4 % 16) 7) refl (eqb (c / 4 % 16) 10) refl f
+  where
+    go : (x : Bool) → eqb (c / 4 % 16) 6 ≡ x → (y : Bool) → eqb (c / 4 % 16) 7 ≡ y → (z : Bool) → eqb (c / 4 % 16) 10 ≡ z → not x && (not y && not z) ≡ true → itemBytes c s ≡ s
+    go true p y q z r f = absurd (false≢true f)
+    go false p true q z r f = absurd (false≢true f)
+    go false p false q true r f = absurd (false≢true f)
+    go false p false q false r f = item-kept c s (eqb-false _ _ p) (eqb-false _ _ q) (eqb-false _ _ r)
+
+module _ (c : ℕ) (s : List ℕ) (g : Spellable c s) where
+  pub own-number : {b : ℕ} → c / 4 % 16 ≡ 7 → b ≡ getD s 0 0 → OwnUnless (eqb b 48) c s
+  own-number e q = record { own = λ f. item-number c s e ∙ number-own s (λ h. (rw (kind-number (c / 4 % 16) (c / 64) e) at (g .good h))) (λ z. eqb-false _ _ f (q ∙ z)) }
+
+  pub own-other : (c / 4 % 16 ≡ 7 → ⊥) → OwnUnless (eqb (length s) 8) c s
+  own-other n = record { own = λ f. go (eqb (c / 4 % 16) 6) refl (eqb (c / 4 % 16) 10) refl (eqb-false _ _ f) }
     where
-      go : (s : List ℕ) (x : Bool) → eqb (c / 4 % 16) 6 ≡ x → (y : Bool) → eqb (c / 4 % 16) 7 ≡ y → (z : Bool) → eqb (c / 4 % 16) 10 ≡ z → not x && (not y && not z) ≡ true
-          → itemBytes c s ≡ s
-      go s true p y q z r f = absurd (false≢true f)
-      go s false p true q z r f = absurd (false≢true f)
-      go s false p false q true r f = absurd (false≢true f)
-      go s false p false q false r f = item-kept c s (eqb-false _ _ p) (eqb-false _ _ q) (eqb-false _ _ r)
+      go : (x : Bool) → eqb (c / 4 % 16) 6 ≡ x → (y : Bool) → eqb (c / 4 % 16) 10 ≡ y → (length s ≡ 8 → ⊥) → itemBytes c s ≡ s
+      go true p y q h = item-postal c s g (eqb-true _ _ p) ∙ without-hyphen s h
+      go false p true q h =
+          let e : c / 4 % 16 ≡ 10 = eqb-true _ _ q in
+          item-day c s e ∙ day-own s (λ i. (rw (kind-day (c / 4 % 16) (c / 64) e) at (g .good i))) h
+      go false p false q h = item-kept c s (eqb-false _ _ p) n (eqb-false _ _ q)
 
-  module _ (s : List ℕ) (g : Spellable c s) where
-    pub own-number : {b : ℕ} → c / 4 % 16 ≡ 7 → b ≡ getD s 0 0 → OwnUnless (eqb b 48) c s
-    own-number e q = record { own = λ f. item-number c s e ∙ number-own s (λ h. (rw (kind-number (c / 4 % 16) (c / 64) e) at (g .good h))) (λ z. eqb-false _ _ f (q ∙ z)) }
-
-    pub own-other : (c / 4 % 16 ≡ 7 → ⊥) → OwnUnless (eqb (length s) 8) c s
-    own-other n = record { own = λ f. go (eqb (c / 4 % 16) 6) refl (eqb (c / 4 % 16) 10) refl (eqb-false _ _ f) }
-      where
-        go : (x : Bool) → eqb (c / 4 % 16) 6 ≡ x → (y : Bool) → eqb (c / 4 % 16) 10 ≡ y → (length s ≡ 8 → ⊥) → itemBytes c s ≡ s
-        go true p y q h = item-postal c s g (eqb-true _ _ p) ∙ without-hyphen s h
-        go false p true q h =
-            let e : c / 4 % 16 ≡ 10 = eqb-true _ _ q in
-            item-day c s e ∙ day-own s (λ i. (rw (kind-day (c / 4 % 16) (c / 64) e) at (g .good i))) h
-        go false p false q h = item-kept c s (eqb-false _ _ p) n (eqb-false _ _ q)
-
-pub ruleset own-laws = (own-where, own-number, own-other)
+pub ruleset own-laws = (own-number, own-other)

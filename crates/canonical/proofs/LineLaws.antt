@@ -1,14 +1,15 @@
 -- A line in its one spelling: its items one after another, its number before them, its end behind them. Assumes nothing.
-use Prim.Native.Nat.{ℕ, _+_, _-_, _/_, _%_, _≤_, _<_}
+use Prim.Native.Nat.{ℕ, zero, suc, _+_, _-_, _*_, _/_, _%_, _≤_, _<_}
 use native.Mathlib.Omega.{arith}
 use mathlib.Core.Path.{_≡_, refl, sym, ap, _∙_, subst}
-use mathlib.Core.Bool.{Bool, true}
+use mathlib.Core.Bool.{Bool, true, false, cond, _||_}
+use borrow.Author.Tests.{leb-true}
 use mathlib.Core.List.{List, [], _∷_, _++_, map, append-assoc, append-nil}
 use lib.ListN.{length, getD, take, drop, length-append}
-use lib.Dec.{leb}
+use lib.Dec.{leb, eqb}
 use lib.Seq.{sets, length-sets}
 use Rattle.lists.specs.Lists.{part}
-use Rattle.lists.proofs.Tests.{or-zero}
+use Rattle.lists.proofs.Tests.{or-zero, cond-case, below, below-at}
 use Rattle.lists.proofs.Cuts.{drop-step}
 use Rattle.digits.specs.Short.{plainNumber}
 use Rattle.characters.specs.Text.{commaCount, Stops, Sixteen}
@@ -19,18 +20,19 @@ use Rattle.records.specs.Items.{writeValue}
 use Rattle.records.specs.Records.{itemValue, itemFault, itemsFault, itemsValue, rowOf, recordFrom, recordOf, write}
 use Rattle.records.proofs.LineLaws.{row-spelled, Good, line-good}
 use Rattle.items.specs.Codes.{itemOf}
-use Rattle.lines.specs.Codes.{codes, sliceOf, placeOf, Lent, Commas, InCodes}
+use Rattle.lines.specs.Codes.{codes, RowCode, places, placeIn, sliceOf, placeOf, Lent, Commas, InCodes}
 use Rattle.lines.proofs.SplitLaws.{items-count}
-use Rattle.lines.proofs.TableLaws.{RowAt, row-of, slice-length}
+use Rattle.lines.proofs.TableLaws.{RowAt, row-of, slice-length, codes-length}
 use Rattle.lines.proofs.WalkLaws.{left, left-all, left-first}
 use Rattle.buffers.specs.Buffers.{Room, Wrote}
 use Rattle.buffers.proofs.Runs.{carry}
 use Rattle.canonical.specs.Canonical.{recordRow}
 use Rattle.canonical.specs.declared.Run.{Run}
-use Rattle.canonical.specs.Writing.{itemBytes, Spellable, ahead, reach, Ready, Passed, spot, tailOf, AllSpellable, Items, Sound, LineIn, begins, ItemOf, Ended}
+use Rattle.canonical.specs.Writing.{itemBytes, Spellable, oneSpelling, ahead, reach, Ready, Passed, spot, tailOf, AllSpellable, Items, spotsFrom, spotsOf, Sound, LineIn, begins, itemAt, tailAt, ItemOf, Ended}
 use Rattle.canonical.proofs.PartLaws.{part-length, part-part}
 use Rattle.canonical.proofs.RunLaws.{passes, waits}
-use Rattle.canonical.proofs.SpotLaws.{spot-sum, spot-first, last-spot}
+use Rattle.canonical.proofs.SpotLaws.{spot-sum, spot-first, last-spot, pass-own}
+use Rattle.canonical.proofs.ItemLaws.{own-kind}
 
 -- ---- the items
 
@@ -142,7 +144,7 @@ pub record Turning (cs : List ℕ) (place n : ℕ) (s : List ℕ) (at e end k j 
   pub low : run .from ≤ begins s at e j
   pub size : length d′ ≡ length d
 
-pub turning-start : (cs : List ℕ) (place n : ℕ) (s : List ℕ) (at e : ℕ) (start : Run) (d : List ℕ) → Lent cs → InCodes place → Items place n (part s at e)
+turning-start : (cs : List ℕ) (place n : ℕ) (s : List ℕ) (at e : ℕ) (start : Run) (d : List ℕ) → Lent cs → InCodes place → Items place n (part s at e)
     → Ready d start (at + spot (part s at e) 1) (tailOf (sliceOf place) (drop 1 (itemsOf (part s at e))))
     → Turning cs place n s at e (place / 16 + place % 16) (place / 16) 1 start d d start
 turning-start cs place n s at e start d l p i r = record {
@@ -157,33 +159,202 @@ module _ {cs : List ℕ} {place n : ℕ} {s : List ℕ} {at e end k j : ℕ} {st
   counted : commaCount (part s at e) ≡ n
   counted = sym (v .spans .commas .is)
 
-  pub turning-index : k < end → k < 83
+  turning-index : k < end → k < 83
   turning-index h = writing-index (t .writing) h
 
-  pub turning-item : k < end → ItemOf j n
+  turning-item : k < end → ItemOf j n
   turning-item h = writing-item (t .writing) counted h
 
-  pub turning-spellable : k < end → Spellable (getD cs k 0) (getD (itemsOf (take (e - at) (drop at s))) j [])
+  turning-spellable : k < end → Spellable (getD cs k 0) (getD (itemsOf (take (e - at) (drop at s))) j [])
   turning-spellable h = writing-spellable (t .writing) counted h
 
-  pub turning-ready : k < end → Ready d′ run (at + spot (take (e - at) (drop at s)) j) (0x2c ∷ itemBytes (getD cs k 0) (getD (itemsOf (take (e - at) (drop at s))) j []))
+  turning-ready : k < end → Ready d′ run (at + spot (take (e - at) (drop at s)) j) (0x2c ∷ itemBytes (getD cs k 0) (getD (itemsOf (take (e - at) (drop at s))) j []))
   turning-ready h = record {
     low = t .low;
     room = omega (arith, writing-room (t .writing) counted h, length-sets d′ (run .at) (part s (run .from) (begins s at e j)));
   }
 
-  pub turning-next : k < end → {d″ : List ℕ} {r : Run}
+  turning-next : k < end → {d″ : List ℕ} {r : Run}
       → Passed s d′ d″ run r (at + spot (take (e - at) (drop at s)) j) (at + spot (take (e - at) (drop at s)) (j + 1)) (0x2c ∷ itemBytes (getD cs k 0) (getD (itemsOf (take (e - at) (drop at s))) j []))
       → Turning cs place n s at e end (k + 1) (j + 1) start d d″ r
   turning-next h x = record { writing = writing-next (t .writing) counted h (x .wrote); low = x .low; size = x .size ∙ t .size }
 
-  pub turning-done : end ≤ k → Passed s d d′ start run (at + spot (take (e - at) (drop at s)) 1) e (tailOf (sliceOf place) (drop 1 (itemsOf (take (e - at) (drop at s)))))
+  turning-done : end ≤ k → Passed s d d′ start run (at + spot (take (e - at) (drop at s)) 1) e (tailOf (sliceOf place) (drop 1 (itemsOf (take (e - at) (drop at s)))))
   turning-done h =
       let y : j ≡ n + 1 = omega (arith, t .writing .few) in
       let z : begins s at e j ≡ e = omega (arith, last-spot (v .spans) n (omega arith), ap (spot (part s at e)) y, part-length s at e (v .low) (v .high), v .low) in
       record { wrote = subst (λ (x : ℕ). Wrote (ahead s d start (begins s at e 1)) (ahead s d′ run x) (reach start (begins s at e 1)) (reach run x) (whole place (part s at e))) z (writing-done (t .writing) h); low = omega (arith, t .low, z); size = t .size }
 
-pub ruleset turning-laws = (turning-start, turning-index, turning-item, turning-next, turning-done)
+-- ---- the loop over the items that may have another spelling
+
+-- every row is among the codes
+Inside : List RowCode → Type 0
+Inside [] = Unit {0}
+Inside (r ∷ rs) = (r .place / 16 + r .place % 16 ≤ 83) × Inside rs
+
+in-places : (rs : List RowCode) → Inside rs → (n : ℕ) → InCodes (placeIn rs n)
+unfolding placeIn Inside
+in-places [] h n = record { inside = omega arith }
+in-places (r ∷ rs) h n = cond-case InCodes (eqb n (r .number)) (r .place) (placeIn rs n) (λ _. record { inside = h .0 }) (λ _. in-places rs (h .1) n)
+
+in-codes : (n : ℕ) → InCodes (placeOf n)
+unfolding placeOf Inside
+in-codes n = in-places places (omega arith) n
+
+-- codes of P, R and D are small
+small : ℕ → Bool
+small k = oneSpelling (getD codes k 0) || leb (getD codes k 0) 63
+
+all-small : below small 83 ≡ true
+unfolding below small codes
+all-small = refl
+
+small-at : (k : ℕ) → k < 83 → oneSpelling (getD codes k 0) ≡ false → getD codes k 0 ≤ 63
+unfolding small
+small-at k h f = leb-true (getD codes k 0) 63 (sym (ap (λ (x : Bool). x || leb (getD codes k 0) 63) f) ∙ below-at small 83 all-small k h)
+
+-- what is left of a row's codes
+abbrev codesFrom : ℕ → ℕ → List ℕ
+codesFrom k end = take (end - k) (drop k codes)
+
+codes-step : (k end : ℕ) → end ≤ 83 → k < end → codesFrom k end ≡ getD codes k 0 ∷ codesFrom (k + 1) end
+codes-step k end u h =
+    let n : end - k ≡ suc (end - (k + 1)) = omega arith in
+    rw (n, drop-step codes k 0 (omega (arith, codes-length)))
+
+module _ (j c : ℕ) (cs : List ℕ) where
+  spots-kept : oneSpelling c ≡ true → spotsFrom j (c ∷ cs) ≡ spotsFrom (j + 1) cs
+  unfolding spotsFrom
+  spots-kept f = ap (λ (x : Bool). cond x (spotsFrom (j + 1) cs) (spotsFrom (j + 1) cs * 1024 + (16 * c + j))) f
+
+  spots-new : oneSpelling c ≡ false → spotsFrom j (c ∷ cs) ≡ spotsFrom (j + 1) cs * 1024 + (16 * c + j)
+  unfolding spotsFrom
+  spots-new f = ap (λ (x : Bool). cond x (spotsFrom (j + 1) cs) (spotsFrom (j + 1) cs * 1024 + (16 * c + j))) f
+
+none-spots : (k end j : ℕ) → end ≤ k → spotsFrom j (codesFrom k end) ≡ 0
+unfolding spotsFrom
+none-spots k end j h = let z : end - k ≡ 0 = omega arith in rw z
+
+-- the items before number j are passed, and w tells those from there on
+pub record Spotting (place n : ℕ) (s : List ℕ) (at e : ℕ) (start : Run) (d d′ : List ℕ) (run : Run) (w : ℕ) : Type 0 where
+  pub k : ℕ
+  pub j : ℕ
+  pub turning : Turning codes place n s at e (place / 16 + place % 16) k j start d d′ run
+  pub spots : w ≡ spotsFrom j (codesFrom k (place / 16 + place % 16))
+
+-- the first item that may have another spelling
+record Found (place n : ℕ) (s : List ℕ) (at e : ℕ) (start : Run) (d d′ : List ℕ) (run : Run) (w : ℕ) : Type 0 where
+  k : ℕ
+  j : ℕ
+  turning : Turning codes place n s at e (place / 16 + place % 16) k j start d d′ run
+  more : k < place / 16 + place % 16
+  code : w ≡ spotsFrom (j + 1) (codesFrom (k + 1) (place / 16 + place % 16)) * 1024 + (16 * getD codes k 0 + j)
+  small : getD codes k 0 ≤ 63
+
+pub spotting-start : (number n : ℕ) (s : List ℕ) (at e : ℕ) (start : Run) (d : List ℕ) {w : ℕ} → w ≡ spotsOf number → Items (placeOf number) n (part s at e)
+    → Ready d start (at + spot (take (e - at) (drop at s)) 1) (tailOf (sliceOf (placeOf number)) (drop 1 (itemsOf (take (e - at) (drop at s)))))
+    → Spotting (placeOf number) n s at e start d d start w
+unfolding spotsOf
+spotting-start number n s at e start d q i r =
+    let z : placeOf number % 16 ≡ placeOf number / 16 + placeOf number % 16 - placeOf number / 16 = omega arith in
+    record {
+      k = placeOf number / 16;
+      j = 1;
+      turning = turning-start codes (placeOf number) n s at e start d (record { is = refl }) (in-codes number) i r;
+      spots = q ∙ ap (λ (x : ℕ). spotsFrom 1 (take x (drop (placeOf number / 16) codes))) z;
+    }
+
+module _ {place n : ℕ} {s : List ℕ} {at e : ℕ} {start : Run} {d d′ : List ℕ} {run : Run} {stops : List ℕ} (v : LineIn s at e stops n) where
+  -- an item that is its own spelling is passed by nothing
+  kept-turn : {k j : ℕ} → Turning codes place n s at e (place / 16 + place % 16) k j start d d′ run → k < place / 16 + place % 16 → oneSpelling (getD codes k 0) ≡ true
+      → Turning codes place n s at e (place / 16 + place % 16) (k + 1) (j + 1) start d d′ run
+  kept-turn {k} {j} t h f =
+      turning-next t v h (pass-own s at e j v (turning-item t v h) d′ run (getD codes k 0) (own-kind (getD codes k 0) (itemAt s at e j) f) (turning-ready t v h))
+
+  found : (w m k j : ℕ) → Turning codes place n s at e (place / 16 + place % 16) k j start d d′ run → place / 16 + place % 16 - k ≡ m
+      → w ≡ spotsFrom j (codesFrom k (place / 16 + place % 16)) → (w ≡ 0 → ⊥) → Found place n s at e start d d′ run w
+  found w zero k j t z q h = absurd (h (q ∙ none-spots k (place / 16 + place % 16) j (omega arith)))
+  found w (suc m) k j t z q h = go (oneSpelling (getD codes k 0)) refl (λ u p. found w m (k + 1) (j + 1) u (omega arith) p h)
+    where
+      more : k < place / 16 + place % 16
+      more = omega arith
+
+      step : w ≡ spotsFrom j (getD codes k 0 ∷ codesFrom (k + 1) (place / 16 + place % 16))
+      step = q ∙ ap (spotsFrom j) (codes-step k (place / 16 + place % 16) (t .writing .high) more)
+
+      go : (x : Bool) → oneSpelling (getD codes k 0) ≡ x
+          → (Turning codes place n s at e (place / 16 + place % 16) (k + 1) (j + 1) start d d′ run → w ≡ spotsFrom (j + 1) (codesFrom (k + 1) (place / 16 + place % 16)) → Found place n s at e start d d′ run w) → Found place n s at e start d d′ run w
+      go true f i = i (kept-turn t more f) (step ∙ spots-kept j (getD codes k 0) (codesFrom (k + 1) (place / 16 + place % 16)) f)
+      go false f i = record {
+        k = k;
+        j = j;
+        turning = t;
+        more = more;
+        code = step ∙ spots-new j (getD codes k 0) (codesFrom (k + 1) (place / 16 + place % 16)) f;
+        small = small-at k (omega (arith, t .writing .high, more)) f;
+      }
+
+  -- none is left
+  over : (m k j : ℕ) → Turning codes place n s at e (place / 16 + place % 16) k j start d d′ run → place / 16 + place % 16 - k ≡ m
+      → spotsFrom j (codesFrom k (place / 16 + place % 16)) ≡ 0 → Passed s d d′ start run (begins s at e 1) e (tailAt place s at e)
+  over zero k j t z q = turning-done t v (omega arith)
+  over (suc m) k j t z q = go (oneSpelling (getD codes k 0)) refl (λ u p. over m (k + 1) (j + 1) u (omega arith) p)
+    where
+      more : k < place / 16 + place % 16
+      more = omega arith
+
+      step : spotsFrom j (getD codes k 0 ∷ codesFrom (k + 1) (place / 16 + place % 16)) ≡ 0
+      step = sym (ap (spotsFrom j) (codes-step k (place / 16 + place % 16) (t .writing .high) more)) ∙ q
+
+      go : (x : Bool) → oneSpelling (getD codes k 0) ≡ x
+          → (Turning codes place n s at e (place / 16 + place % 16) (k + 1) (j + 1) start d d′ run → spotsFrom (j + 1) (codesFrom (k + 1) (place / 16 + place % 16)) ≡ 0
+          → Passed s d d′ start run (begins s at e 1) e (tailAt place s at e)) → Passed s d d′ start run (begins s at e 1) e (tailAt place s at e)
+      go true f i = i (kept-turn t more f) (sym (spots-kept j (getD codes k 0) (codesFrom (k + 1) (place / 16 + place % 16)) f) ∙ step)
+      go false f i = absurd (omega (arith, spots-new j (getD codes k 0) (codesFrom (k + 1) (place / 16 + place % 16)) f, step, t .writing .some))
+
+module _ {place n : ℕ} {s : List ℕ} {at e : ℕ} {start : Run} {d d′ : List ℕ} {run : Run} {w : ℕ} (t : Spotting place n s at e start d d′ run w) {stops : List ℕ} (v : LineIn s at e stops n) where
+  pub spotting-done : w ≡ 0 → Passed s d d′ start run (at + spot (take (e - at) (drop at s)) 1) e (tailOf (sliceOf place) (drop 1 (itemsOf (take (e - at) (drop at s)))))
+  spotting-done z = over v (place / 16 + place % 16 - t .k) (t .k) (t .j) (t .turning) refl (sym (t .spots) ∙ z)
+
+  module _ (h : w ≡ 0 → ⊥) where
+    here : Found place n s at e start d d′ run w
+    here = found v w (place / 16 + place % 16 - t .k) (t .k) (t .j) (t .turning) refl (t .spots) h
+
+    its-item : ItemOf (here .j) n
+    its-item = turning-item (here .turning) v (here .more)
+
+    code-is : w % 1024 / 16 ≡ getD codes (here .k) 0
+    code-is = omega (arith, here .code, here .small, its-item .high, v .spans .few)
+
+    number-is : w % 1024 % 16 ≡ here .j
+    number-is = omega (arith, here .code, here .small, its-item .high, v .spans .few)
+
+    others : w / 1024 ≡ spotsFrom (here .j + 1) (codesFrom (here .k + 1) (place / 16 + place % 16))
+    others = omega (arith, here .code, here .small, its-item .high, v .spans .few)
+
+    pub spotting-item : ItemOf (w % 1024 % 16) n
+    spotting-item = subst (λ (j : ℕ). ItemOf j n) (sym number-is) its-item
+
+    pub spotting-spellable : Spellable (w % 1024 / 16) (getD (itemsOf (take (e - at) (drop at s))) (w % 1024 % 16) [])
+    spotting-spellable =
+        subst (λ (c : ℕ). Spellable c (itemAt s at e (w % 1024 % 16))) (sym code-is)
+        (subst (λ (j : ℕ). Spellable (getD codes (here .k) 0) (itemAt s at e j)) (sym number-is) (turning-spellable (here .turning) v (here .more)))
+
+    pub spotting-ready : Ready d′ run (at + spot (take (e - at) (drop at s)) (w % 1024 % 16)) (0x2c ∷ itemBytes (w % 1024 / 16) (getD (itemsOf (take (e - at) (drop at s))) (w % 1024 % 16) []))
+    spotting-ready =
+        subst (λ (c : ℕ). Ready d′ run (begins s at e (w % 1024 % 16)) (0x2c ∷ itemBytes c (itemAt s at e (w % 1024 % 16)))) (sym code-is)
+        (subst (λ (j : ℕ). Ready d′ run (begins s at e j) (0x2c ∷ itemBytes (getD codes (here .k) 0) (itemAt s at e j))) (sym number-is) (turning-ready (here .turning) v (here .more)))
+
+    pub spotting-next : {d″ : List ℕ} {r : Run}
+        → Passed s d′ d″ run r (at + spot (take (e - at) (drop at s)) (w % 1024 % 16)) (at + spot (take (e - at) (drop at s)) (w % 1024 % 16 + 1)) (0x2c ∷ itemBytes (w % 1024 / 16) (getD (itemsOf (take (e - at) (drop at s))) (w % 1024 % 16) []))
+        → Spotting place n s at e start d d″ r (w / 1024)
+    spotting-next {d″} {r} x =
+        let y : Passed s d′ d″ run r (begins s at e (here .j)) (begins s at e (here .j + 1)) (0x2c ∷ itemBytes (getD codes (here .k) 0) (itemAt s at e (here .j))) =
+        subst (λ (j : ℕ). Passed s d′ d″ run r (begins s at e j) (begins s at e (j + 1)) (0x2c ∷ itemBytes (getD codes (here .k) 0) (itemAt s at e j))) number-is
+        (subst (λ (c : ℕ). Passed s d′ d″ run r (begins s at e (w % 1024 % 16)) (begins s at e (w % 1024 % 16 + 1)) (0x2c ∷ itemBytes c (itemAt s at e (w % 1024 % 16)))) code-is x) in
+        record { k = here .k + 1; j = here .j + 1; turning = turning-next (here .turning) v (here .more) y; spots = others }
+
+pub ruleset spotting-laws = (spotting-start, spotting-done, spotting-next)
 
 -- ---- a line
 
@@ -234,13 +405,16 @@ parts number s {place} v p c =
           ∙ values-tail h ((rowOf h) .items) (g .rest) ∙ ap (λ (x : List Item). h ++ tailOf x (g .rest)) i;
     }
 
-module _ (s : List ℕ) (at e : ℕ) {number place : ℕ} (v : Sound number (take (e - at) (drop at s))) (p : place ≡ placeOf number) (c : InCodes place) where
+module _ (s : List ℕ) (at e : ℕ) {number : ℕ} (v : Sound number (take (e - at) (drop at s))) where
+  place : ℕ
+  place = placeOf number
+
   line : List ℕ
   line = part s at e
 
   own-parts : Parts number line place
-  unfolding line
-  own-parts = parts number (part s at e) v p c
+  unfolding line place
+  own-parts = parts number (part s at e) v refl (in-codes number)
 
   front : List ℕ
   front = own-parts .head
@@ -262,8 +436,8 @@ module _ (s : List ℕ) (at e : ℕ) {number place : ℕ} (v : Sound number (tak
     unfolding line
     commas-are = omega (arith, k .is, items-count line, ap length (own-parts .cut), own-parts .count)
 
-    pub record-items : Items place n (take (e - at) (drop at s))
-    unfolding line
+    pub record-items : Items (placeOf number) n (take (e - at) (drop at s))
+    unfolding line place
     record-items = record { good = rw (own-parts .cut) (own-parts .items); count = commas-are }
 
     pub record-line : {stops : List ℕ} → Stops (take (e - at) (drop at s)) stops → Sixteen stops → Ended s at e → LineIn s at e stops n
@@ -289,13 +463,13 @@ module _ (s : List ℕ) (at e : ℕ) {number place : ℕ} (v : Sound number (tak
     unfolding line
     first-passed = waits s d run at (at + spot line 1) front (omega arith) (omega (arith, first-high, i .high)) first-is (record { low = r .low; room = omega (arith, r .room, sizes) })
 
-    pub record-ready : Ready d run (at + spot (take (e - at) (drop at s)) 1) (tailOf (sliceOf place) (drop 1 (itemsOf (take (e - at) (drop at s)))))
-    unfolding line items
+    pub record-ready : Ready d run (at + spot (take (e - at) (drop at s)) 1) (tailOf (sliceOf (placeOf number)) (drop 1 (itemsOf (take (e - at) (drop at s)))))
+    unfolding line items place
     record-ready = record { low = omega (arith, r .low); room = omega (arith, r .low, r .room, sizes, first-length) }
 
-    pub record-passed : {d₁ : List ℕ} {q : Run} → Passed s d d₁ run q (at + spot (take (e - at) (drop at s)) 1) e (tailOf (sliceOf place) (drop 1 (itemsOf (take (e - at) (drop at s)))))
+    pub record-passed : {d₁ : List ℕ} {q : Run} → Passed s d d₁ run q (at + spot (take (e - at) (drop at s)) 1) e (tailOf (sliceOf (placeOf number)) (drop 1 (itemsOf (take (e - at) (drop at s)))))
         → Passed s d d₁ run q at (e + 2) (recordRow (recordOf (take (e - at) (drop at s))))
-    unfolding line items
+    unfolding line items place
     record-passed {d₁} {q} x =
         rw written (passes first-passed (passes x
         (waits s d₁ q e (e + 2) lineEnd (omega arith) (i .high) (i .end) (record { low = x .low; room = omega (arith, x .wrote .next, x .size, r .low, r .room, sizes, first-length) }))))

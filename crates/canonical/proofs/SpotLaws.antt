@@ -2,7 +2,6 @@
 use Prim.Native.Nat.{ℕ, zero, suc, _+_, _-_, _≤_, _<_}
 use native.Mathlib.Omega.{arith}
 use mathlib.Core.Path.{_≡_, refl, sym, ap, ap₂, _∙_, subst}
-use mathlib.Core.Bool.{Bool, true}
 use mathlib.Core.List.{List, [], _∷_, _++_, append-assoc, append-nil, head-eq-of-cons-eq}
 use mir.Val.{Fits}
 use mir.Syntax.{w64}
@@ -16,7 +15,7 @@ use Rattle.lines.specs.Codes.{Spanned, SpanAt}
 use Rattle.lines.specs.declared.Span.{Span}
 use Rattle.lines.proofs.SplitLaws.{items-count, span-mid, span-last}
 use Rattle.canonical.specs.declared.Run.{Run}
-use Rattle.canonical.specs.Writing.{itemBytes, Spellable, OwnWhere, Ready, Passed, Stands, spelledTail, spot, LineIn, ItemOf}
+use Rattle.canonical.specs.Writing.{itemBytes, Spellable, Ready, Passed, Stands, spelledTail, spot, LineIn, begins, itemAt, ItemOf}
 use Rattle.canonical.proofs.PartLaws.{part-length, part-part, part-first, part-others}
 use Rattle.canonical.proofs.RunLaws.{waits}
 
@@ -167,14 +166,12 @@ module _ {s stops : List ℕ} {at e n j : ℕ} (v : LineIn s at e stops n) (k : 
 -- ---- the ways through pass_item
 
 module _ (s : List ℕ) (at e j : ℕ) {stops : List ℕ} {n : ℕ} (v : LineIn s at e stops n) (k : ItemOf j n) where
-  -- an item of a kind that has one spelling waits
-  pub pass-own : (d : List ℕ) (run : Run) (c : ℕ) {b : Bool} → OwnWhere b c → b ≡ true
-      → Ready d run (at + spot (take (e - at) (drop at s)) j) (0x2c ∷ itemBytes c (getD (itemsOf (take (e - at) (drop at s))) j []))
-      → Passed s d d run run (at + spot (take (e - at) (drop at s)) j) (at + spot (take (e - at) (drop at s)) (j + 1)) (0x2c ∷ itemBytes c (getD (itemsOf (take (e - at) (drop at s))) j []))
-  pass-own d run c o f y =
-      waits s d run (at + spot (part s at e) j) (at + spot (part s at e) (j + 1)) (0x2c ∷ itemBytes c (getD (itemsOf (part s at e)) j []))
-      (omega (arith, item-low v k)) (omega (arith, item-high v k, v .high))
-      (item-whole v k ∙ ap (λ (x : List ℕ). 0x2c ∷ x) (sym (o .own f (getD (itemsOf (part s at e)) j [])))) y
+  -- an item that is its own spelling waits
+  pub pass-own : (d : List ℕ) (run : Run) (c : ℕ) → itemBytes c (getD (itemsOf (part s at e)) j []) ≡ getD (itemsOf (part s at e)) j []
+      → Ready d run (begins s at e j) (0x2c ∷ itemBytes c (itemAt s at e j)) → Passed s d d run run (begins s at e j) (begins s at e (j + 1)) (0x2c ∷ itemBytes c (itemAt s at e j))
+  pass-own d run c o y =
+      waits s d run (begins s at e j) (begins s at e (j + 1)) (0x2c ∷ itemBytes c (itemAt s at e j)) (omega (arith, item-low v k)) (omega (arith, item-high v k, v .high))
+      (item-whole v k ∙ ap (λ (x : List ℕ). 0x2c ∷ x) (sym o)) y
 
   pub pass-fits-behind : {q : ℕ} → q ≡ spot (take (e - at) (drop at s)) (j + 1) → Fits w64 e → Fits w64 (at + q)
   pass-fits-behind b h = omega (arith, ap (λ (x : ℕ). at + x) b, item-high v k)
@@ -213,4 +210,4 @@ module _ (s : List ℕ) (at e j : ℕ) {stops : List ℕ} {n : ℕ} (v : LineIn 
           (subst (λ (x : ℕ). Passed s d d′ run t x (at + spot (part s at e) (j + 1)) (0x2c ∷ itemBytes c (part s (at + r + 1) (at + q)))) first
           (subst (λ (x : ℕ). Passed s d d′ run t (at + r) x (0x2c ∷ itemBytes c (part s (at + r + 1) (at + q)))) last y))
 
-pub ruleset pass-laws = (pass-own, pass-fits, pass-fits-behind, pass-stands, pass-spellable, pass-ready, pass-done)
+pub ruleset pass-laws = (pass-fits, pass-fits-behind, pass-stands, pass-spellable, pass-ready, pass-done)

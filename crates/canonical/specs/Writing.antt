@@ -1,8 +1,8 @@
 -- The canonical file as the code writes it: runs of kept bytes and the items between them that are spelled anew, and what is left of a
 -- file from a row on.
-use Prim.Native.Nat.{ℕ, _+_, _-_, _≤_, _<_, _%_}
+use Prim.Native.Nat.{ℕ, _+_, _-_, _*_, _/_, _%_, _≤_, _<_}
 use mathlib.Core.Path.{_≡_}
-use mathlib.Core.Bool.{Bool, cond, true, false}
+use mathlib.Core.Bool.{Bool, cond, false, not, _&&_}
 use mathlib.Core.List.{List, [], _∷_, _++_}
 use lib.Dec.{eqb}
 use lib.ListN.{length, getD, take, drop}
@@ -18,7 +18,7 @@ use Rattle.records.specs.Records.{Record, itemValue, lineFault, recordOf}
 use Rattle.order.specs.declared.State.{State}
 use Rattle.order.specs.State.{finishOf}
 use Rattle.items.specs.Codes.{itemOf}
-use Rattle.lines.specs.Codes.{sliceOf, Spanned}
+use Rattle.lines.specs.Codes.{codes, placeOf, sliceOf, Spanned}
 use Rattle.buffers.specs.Buffers.{Wrote}
 use Rattle.notebook.specs.Notebook.{Notebook}
 use Rattle.canonical.specs.declared.Canonical.{Canonical}
@@ -48,9 +48,9 @@ itemBytes c s = writeValue (itemValue (itemOf c) s)
 pub record Spellable (c : ℕ) (s : List ℕ) : Type 0 where
   pub good : empty s ≡ false → fault ((itemOf c) .kind) s ≡ 0
 
--- all items are their own spelling, where r says so
-pub record OwnWhere (r : Bool) (c : ℕ) : Type 0 where
-  pub own : r ≡ true → (s : List ℕ) → itemBytes c s ≡ s
+-- all items of a kind are their own spelling: all kinds but P, R and D
+abbrev pub oneSpelling : ℕ → Bool
+oneSpelling c = not (eqb (c / 4 % 16) 6) && (not (eqb (c / 4 % 16) 7) && not (eqb (c / 4 % 16) 10))
 
 -- an item is its own spelling, unless r says that it may not be
 pub record OwnUnless (r : Bool) (c : ℕ) (s : List ℕ) : Type 0 where
@@ -110,6 +110,15 @@ AllSpellable (i ∷ is) (s ∷ ss) = (empty s ≡ false → fault (i .kind) s �
 pub record Items (place n : ℕ) (s : List ℕ) : Type 0 where
   pub good : AllSpellable (sliceOf place) (drop 1 (itemsOf s))
   pub count : n ≡ place % 16
+
+-- the items of a row from number j on that may have another spelling: 16 times the item's code plus its number, each later one times 1,024
+unfoldable pub spotsFrom : ℕ → List ℕ → ℕ
+spotsFrom j [] = 0
+spotsFrom j (c ∷ cs) = cond (oneSpelling c) (spotsFrom (j + 1) cs) (spotsFrom (j + 1) cs * 1024 + (16 * c + j))
+
+-- those of a record's row
+unfoldable pub spotsOf : ℕ → ℕ
+spotsOf n = spotsFrom 1 (take (placeOf n % 16) (drop (placeOf n / 16) codes))
 
 -- ---- a line
 

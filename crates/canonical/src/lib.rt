@@ -12,13 +12,13 @@ ghost use Rattle.characters.specs.Rows.{rows};
 ghost use Rattle.characters.specs.Text.{Stops, Sixteen};
 ghost use Rattle.records.specs.Records.{recordOf};
 ghost use Rattle.order.specs.State.{start};
-ghost use Rattle.lines.specs.Codes.{Lent, Commas, InCodes, Spanned};
+ghost use Rattle.lines.specs.Codes.{placeOf, Lent, Commas, Spanned};
 ghost use Rattle.buffers.specs.Buffers.{Room, Wrote};
 ghost use Rattle.notebook.specs.Notebook.{recordsFrom, readFile};
 ghost use Rattle.notebook.specs.Check.{Behind, Closing};
 ghost use Rattle.canonical.specs.Canonical.{recordRow, canonicalOf, canonicalBuffer};
-ghost use Rattle.canonical.specs.Writing.{postalBytes, numberBytes, dayBytes, itemBytes, Spellable, OwnWhere, OwnUnless, Items, Sound};
-ghost use Rattle.canonical.specs.Writing.{spot, Stands, Ready, Passed, LineIn, begins, itemAt, tailAt, ItemOf, Ended, Finished, poured, Poured, closing, fileBytes, MadeOf};
+ghost use Rattle.canonical.specs.Writing.{postalBytes, numberBytes, dayBytes, itemBytes, Spellable, OwnUnless, Items, Sound};
+ghost use Rattle.canonical.specs.Writing.{spot, Stands, Ready, Passed, spotsOf, LineIn, begins, itemAt, tailAt, ItemOf, Ended, Finished, poured, Poured, closing, fileBytes, MadeOf};
 
 // How many bytes of the output's front the canonical file takes; or a refusal's number and line, and the output as it was.
 pub enum Canonical {
@@ -79,14 +79,6 @@ fn put_item(out: &mut [u8], at: usize, c: usize, s: &[u8]) -> usize
         10 => put_date(out, at, s),
         _ => buffers::put_all(out, at, s),
     }
-}
-
-// Whether all items of a kind are their own spelling: all kinds but P, R and D.
-fn one_spelling(c: usize) -> bool
-    ensures { λ r. ⌜ OwnWhere r c ⌝ }
-{
-    let kind = c / 4 % 16;
-    (kind != 6) & ((kind != 7) & (kind != 10))
 }
 
 // Whether an item without a fault may have another spelling than its own bytes: a number with a leading zero, or eight bytes, as a postal code
@@ -164,19 +156,45 @@ fn pass_item(
     requires { ⌜ Ready (now out) run (begins (now s) at end j) (0x2c ∷ itemBytes c (itemAt (now s) at end j)) ⌝ }
     ensures { λ r. ⌜ Passed (now (s .entry)) (now (out .entry)) (now (out .exit)) run r (begins (now (s .entry)) at end j) (begins (now (s .entry)) at end (j + 1)) (0x2c ∷ itemBytes c (itemAt (now (s .entry)) at end j)) ⌝ }
 {
-    if one_spelling(c) {
-        return run;
-    }
     let before = j - 1;
     let p = at + comma_at(stops, n, &s[at..end], before);
     let e = at + comma_at(stops, n, &s[at..end], j);
     respell(c, s, p, e, out, run)
 }
 
-// The items of a line behind its number; place: the row of its record in the codes.
+// The items of a record's row that may have another spelling, of kinds P, R and D: 16 times the item of the table plus its number, each
+// later one times 1,024 more.
+fn spots(number: u32) -> usize
+    ensures { λ r. ⌜ r ≡ spotsOf number ⌝ }
+{
+    match number {
+        1 => 430723,
+        2 => 0,
+        3 => 691874,
+        4 => 674,
+        5 => 641,
+        11 => 421,
+        15 => 0,
+        51 => 0,
+        55 => 0,
+        201 => 449,
+        281 => 449,
+        311 => 449,
+        291 => 449,
+        391 => 449,
+        301 => 478657,
+        401 => 0,
+        501 => 0,
+        411 => 0,
+        601 => 674,
+        701 => 693924,
+        _ => 0,
+    }
+}
+
+// The items of a line behind its number; number: its record's.
 fn put_items(
-    codes: &[usize; 83],
-    place: usize,
+    number: u32,
     stops: &[usize; 16],
     n: usize,
     s: &[u8],
@@ -185,29 +203,24 @@ fn put_items(
     out: &mut [u8],
     start: Run,
 ) -> Run
-    requires { ⌜ Lent (now codes) ⌝ }
-    requires { ⌜ InCodes place ⌝ }
     requires { ⌜ LineIn (now s) at end (now stops) n ⌝ }
-    requires { ⌜ Items place n (part (now s) at end) ⌝ }
-    requires { ⌜ Ready (now out) start (begins (now s) at end 1) (tailAt place (now s) at end) ⌝ }
-    ensures { λ r. ⌜ Passed (now (s .entry)) (now (out .entry)) (now (out .exit)) start r (begins (now (s .entry)) at end 1) end (tailAt place (now (s .entry)) at end) ⌝ }
+    requires { ⌜ Items (placeOf number) n (part (now s) at end) ⌝ }
+    requires { ⌜ Ready (now out) start (begins (now s) at end 1) (tailAt (placeOf number) (now s) at end) ⌝ }
+    ensures { λ r. ⌜ Passed (now (s .entry)) (now (out .entry)) (now (out .exit)) start r (begins (now (s .entry)) at end 1) end (tailAt (placeOf number) (now (s .entry)) at end) ⌝ }
 {
-    let mut k = place / 16;
-    let last = k + place % 16;
-    let mut j = 1;
+    let mut left = spots(number);
     let mut run = start;
-    while k < last {
-        let c = codes[k];
+    while left != 0 {
+        let c = left % 1024 / 16;
+        let j = left % 1024 % 16;
         run = pass_item(c, stops, n, j, s, at, end, out, run);
-        j += 1;
-        k += 1;
+        left /= 1024;
     }
     run
 }
 
 // The record of the line from at to end, and its line end; number: the record's; n: the line's commas; stops: their places.
 fn put_record(
-    codes: &[usize; 83],
     number: u32,
     stops: &[usize; 16],
     n: usize,
@@ -217,7 +230,6 @@ fn put_record(
     out: &mut [u8],
     run: Run,
 ) -> Run
-    requires { ⌜ Lent (now codes) ⌝ }
     requires { ⌜ Ended (now s) at end ⌝ }
     requires { ⌜ Commas (part (now s) at end) n ⌝ }
     requires { ⌜ Stops (part (now s) at end) (now stops) ⌝ }
@@ -226,8 +238,7 @@ fn put_record(
     requires { ⌜ Ready (now out) run at (recordRow (recordOf (part (now s) at end))) ⌝ }
     ensures { λ r. ⌜ Passed (now (s .entry)) (now (out .entry)) (now (out .exit)) run r at (end + 2) (recordRow (recordOf (part (now (s .entry)) at end))) ⌝ }
 {
-    let place = lines::place_of(number);
-    put_items(codes, place, stops, n, s, at, end, out, run)
+    put_items(number, stops, n, s, at, end, out, run)
 }
 
 // ---- the file
@@ -295,7 +306,7 @@ fn write_records(
                     }
                     order::Moved::On(after, _, _) => {
                         let number = after.place;
-                        run = put_record(codes, number, stops, commas, s, at, end, out, run);
+                        run = put_record(number, stops, commas, s, at, end, out, run);
                         st = after;
                         at = end + 2;
                     }

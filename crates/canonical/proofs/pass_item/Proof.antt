@@ -7,14 +7,7 @@ use Rattle.canonical.proofs.pass_item.Tie as tie
 use Rattle.canonical.proofs.pass_item.Reads as reads
 use Rattle.canonical.proofs.pass_item.Lts as lts
 use Rattle.canonical.proofs.comma_at.Reads as comma-at-reads
-use Rattle.canonical.proofs.one_spelling.Reads as one-spelling-reads
 use Rattle.canonical.proofs.respell.Reads as respell-reads
-
-one-spelling-requires : tie.Need-one-spelling-requires
-one-spelling-requires c κs = search needs
-
-returns : tie.Need-returns
-returns c = search (needs, pass-laws)
 
 sub-before : tie.Need-sub-before
 sub-before c = search needs
@@ -55,15 +48,13 @@ respell-requires c κs = (search (needs, pass-stands), (search (needs, pass-spel
 same-length : tie.Need-same-length
 same-length c = search needs
 
-returns-2 : tie.Need-returns-2
-returns-2 c = search (needs, pass-laws)
+returns : tie.Need-returns
+returns c = search (needs, pass-laws)
 
 pub pass-item-spec : {M : Type 1} → statement M
 pass-item-spec =
     tie.close
     (tie.spec
-    one-spelling-requires
-    returns
     sub-before
     sub-comma-at
     part-comma-at-start
@@ -77,4 +68,4 @@ pass-item-spec =
     add-e
     respell-requires
     same-length
-    returns-2)
+    returns)

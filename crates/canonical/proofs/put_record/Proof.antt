@@ -7,13 +7,9 @@ use Rattle.canonical.proofs.put_record.Tie as tie
 use Rattle.canonical.proofs.put_record.Reads as reads
 use Rattle.canonical.proofs.put_record.Lts as lts
 use Rattle.canonical.proofs.put_items.Reads as put-items-reads
-use Rattle.lines.proofs.place_of.Reads as place-of-reads
-
-place-of-requires : tie.Need-place-of-requires
-place-of-requires c κs = search needs
 
 put-items-requires : tie.Need-put-items-requires
-put-items-requires c κs = (search needs, (search needs, (search (needs, record-line), (search (needs, record-items), search (needs, record-ready)))))
+put-items-requires c κs = (search (needs, record-line), (search (needs, record-items), search (needs, record-ready)))
 
 same-length : tie.Need-same-length
 same-length c = search needs
@@ -22,4 +18,4 @@ returns : tie.Need-returns
 returns c = search (needs, record-laws)
 
 pub put-record-spec : {M : Type 1} → statement M
-put-record-spec = tie.close (tie.spec place-of-requires put-items-requires same-length returns)
+put-record-spec = tie.close (tie.spec put-items-requires same-length returns)

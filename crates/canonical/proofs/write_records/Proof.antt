@@ -102,17 +102,14 @@ put-record-requires c κs =
     let v = u .before .before .before .before in
     let w = v .before .before in
     let i = w .before .before in (
-      search (needs, i .before .before .before .before .pre),
+      search (needs, running-ended, i .loop .inv .0, w .line-at .ensures, v .end .given),
       (
-        search (needs, running-ended, i .loop .inv .0, w .line-at .ensures, v .end .given),
+        search (needs, whole-commas, w .line-at .ensures, v .end .given),
         (
-          search (needs, whole-commas, w .line-at .ensures, v .end .given),
+          search (needs, whole-places, w .line-at .ensures, v .end .given),
           (
-            search (needs, whole-places, w .line-at .ensures, v .end .given),
-            (
-              search (needs, line-size),
-              (search (needs, running-sound, i .loop .inv .0, w .line-at .ensures, v .end .given, u .step-line .ensures, t .after .given), search (needs, running-room, i .loop .inv .0, w .line-at .ensures, v .end .given, u .step-line .ensures, t .after .given)),
-            ),
+            search (needs, line-size),
+            (search (needs, running-sound, i .loop .inv .0, w .line-at .ensures, v .end .given, u .step-line .ensures, t .after .given), search (needs, running-room, i .loop .inv .0, w .line-at .ensures, v .end .given, u .step-line .ensures, t .after .given)),
           ),
         ),
       ),
