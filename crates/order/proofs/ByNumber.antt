@@ -1,6 +1,6 @@
 -- What the rules come to for each record number: `of-N` is the refusal of a record of number N, in the order in which the code asks; a
 -- number that stands nowhere is refused by its place (`of-other`). Each goes by the part of the pattern that the place is in; a place in
--- one part is in no other (`elsewhere`). Assumes nothing.
+-- one part is in no other (`off`). Assumes nothing.
 use Prim.Native.Nat.{ℕ, _+_}
 use mathlib.Core.Path.{_≡_, refl, ap, sym, _∙_}
 use mathlib.Core.Logic.{_⊎_, inl, inr}
@@ -18,10 +18,17 @@ use Rattle.order.specs.State.{hadAfter, advance, refusalOf, rpOf, doctor
 
 -- ---- places
 
--- Q holds of none of xs
-abbrev Never : (ℕ → Bool) → List ℕ → Type 0
-Never Q [] = Unit {0}
-Never Q (x ∷ xs) = (Q x ≡ false) × Never Q xs
+abbrev among : List ℕ → ℕ → Bool
+among xs p = oneOf p xs
+
+-- Q holds of one of xs
+abbrev holdsAmong : (ℕ → Bool) → List ℕ → Bool
+holdsAmong Q [] = false
+holdsAmong Q (x ∷ xs) = Q x || holdsAmong Q xs
+
+neither : (a b : Bool) → (a || b) ≡ false → (a ≡ false) × (b ≡ false)
+neither true b e = absurd (false≢true (sym e))
+neither false b e = (refl, e)
 
 differs : (Q : ℕ → Bool) (p k : ℕ) → Q k ≡ false → Q p ≡ true → eqb p k ≡ false
 differs Q p k f t = by (eqb p k) refl
@@ -30,17 +37,11 @@ differs Q p k f t = by (eqb p k) refl
     by false e = e
     by true e = absurd (false≢true (sym f ∙ ap Q (sym (eqb-true p k e)) ∙ t))
 
-beyond : (Q : ℕ → Bool) (b : Bool) (p : ℕ) (xs : List ℕ) → b ≡ false → Never Q xs → Q p ≡ true → orOneOf b p xs ≡ false
+beyond : (Q : ℕ → Bool) (b : Bool) (p : ℕ) (xs : List ℕ) → b ≡ false → holdsAmong Q xs ≡ false → Q p ≡ true → orOneOf b p xs ≡ false
 beyond Q b p [] z n t = z
-beyond Q b p (x ∷ xs) z n t = beyond Q (b || eqb p x) p xs (simp (z, differs Q p x (n .0) t)) (n .1) t
-
--- a place where Q holds is none of xs, if Q holds of none of them
-elsewhere : (Q : ℕ → Bool) (p : ℕ) (xs : List ℕ) → Never Q xs → Q p ≡ true → oneOf p xs ≡ false
-elsewhere Q p xs n t = beyond Q false p xs refl n t
-
-neither : (a b : Bool) → (a || b) ≡ false → (a ≡ false) × (b ≡ false)
-neither true b e = absurd (false≢true (sym e))
-neither false b e = (refl, e)
+beyond Q b p (x ∷ xs) z n t =
+    let m = neither (Q x) (holdsAmong Q xs) n in
+    beyond Q (b || eqb p x) p xs (simp (z, differs Q p x (m .0) t)) (m .1) t
 
 by-bool : {P : Type 0} (b : Bool) → (b ≡ true → P) → (b ≡ false → P) → P
 by-bool true t f = t refl
@@ -63,12 +64,12 @@ unfolding refusalOf
 as-number s r n e = rw e
 
 module _ (s : State) (r : Facts) where
-  -- where Q holds of the place, it isn't k; nor is it in an RP
-  off : (Q : ℕ → Bool) (k : ℕ) → Q k ≡ false → Q (s .place) ≡ true → eqb (s .place) k ≡ false
-  off Q k f t = differs Q (s .place) k f t
+  -- where Q holds of the place, and of none of xs, it is none of xs
+  off : (Q : ℕ → Bool) (xs : List ℕ) → holdsAmong Q xs ≡ false → Q (s .place) ≡ true → oneOf (s .place) xs ≡ false
+  off Q xs n t = beyond Q false (s .place) xs refl n t
 
-  off-rp : (Q : ℕ → Bool) → Never Q (201 ∷ 281 ∷ 291 ∷ 301 ∷ 311 ∷ 391 ∷ []) → Q (s .place) ≡ true → inRp (s .place) ≡ false
-  off-rp Q n t = elsewhere Q (s .place) (201 ∷ 281 ∷ 291 ∷ 301 ∷ 311 ∷ 391 ∷ []) n t
+  off-rp : (Q : ℕ → Bool) → holdsAmong Q (201 ∷ 281 ∷ 291 ∷ 301 ∷ 311 ∷ 391 ∷ []) ≡ false → Q (s .place) ≡ true → inRp (s .place) ≡ false
+  off-rp Q n t = off Q (201 ∷ 281 ∷ 291 ∷ 301 ∷ 311 ∷ 391 ∷ []) n t
 
   -- ---- before the prescriptions
 
@@ -77,15 +78,7 @@ module _ (s : State) (r : Facts) where
   of-1 q =
       rw (as-number s r 1 q)
       (by-bool (eqb (s .place) 0)
-      (λ h. simp (
-        h,
-        off (λ p. eqb p 0) 51 refl h,
-        off-rp (λ p. eqb p 0) (refl, (refl, (refl, (refl, (refl, (refl, tt)))))) h,
-        and-true,
-        and-false,
-        or-true,
-        or-false,
-      ))
+      (λ h. simp (h, off (among (0 ∷ [])) (51 ∷ []) refl h, off-rp (among (0 ∷ [])) refl h, and-true, and-false, or-false))
       (λ h. simp h))
 
   pub of-2 : r .number ≡ 2 → refusalOf s r ≡ cond (oneOf (s .place) (0 ∷ 1 ∷ 2 ∷ [])) (cond (not (s .provider) && eqb (s .place) 0) 14 0) 13
@@ -93,27 +86,7 @@ module _ (s : State) (r : Facts) where
   of-2 q =
       rw (as-number s r 2 q)
       (by-bool (oneOf (s .place) (0 ∷ 1 ∷ 2 ∷ []))
-      (λ h. simp (
-        h,
-        off (λ p. oneOf p (0 ∷ 1 ∷ 2 ∷ [])) 51 refl h,
-        off-rp (λ p. oneOf p (0 ∷ 1 ∷ 2 ∷ [])) (
-          refl,
-          (
-            refl,
-            (
-              refl,
-              (
-                refl,
-                (refl, (refl, tt)),
-              ),
-            ),
-          ),
-        ) h,
-        and-true,
-        and-false,
-        or-true,
-        or-false,
-      ))
+      (λ h. simp (h, off (among (0 ∷ 1 ∷ 2 ∷ [])) (51 ∷ []) refl h, off-rp (among (0 ∷ 1 ∷ 2 ∷ [])) refl h, and-true, and-false, or-false))
       (λ h. simp h))
 
   pub of-3 : r .number ≡ 3 → refusalOf s r ≡ cond (oneOf (s .place) (0 ∷ 1 ∷ 2 ∷ 3 ∷ [])) (cond (not (s .provider) && eqb (s .place) 0) 14 0) 13
@@ -121,24 +94,7 @@ module _ (s : State) (r : Facts) where
   of-3 q =
       rw (as-number s r 3 q)
       (by-bool (oneOf (s .place) (0 ∷ 1 ∷ 2 ∷ 3 ∷ []))
-      (λ h. simp (
-        h,
-        off (λ p. oneOf p (0 ∷ 1 ∷ 2 ∷ 3 ∷ [])) 51 refl h,
-        off-rp (λ p. oneOf p (0 ∷ 1 ∷ 2 ∷ 3 ∷ [])) (
-          refl,
-          (
-            refl,
-            (
-              refl,
-              (refl, (refl, (refl, tt))),
-            ),
-          ),
-        ) h,
-        and-true,
-        and-false,
-        or-true,
-        or-false,
-      ))
+      (λ h. simp (h, off (among (0 ∷ 1 ∷ 2 ∷ 3 ∷ [])) (51 ∷ []) refl h, off-rp (among (0 ∷ 1 ∷ 2 ∷ 3 ∷ [])) refl h, and-true, and-false, or-false))
       (λ h. simp h))
 
   pub of-4 : r .number ≡ 4 → refusalOf s r ≡ cond (oneOf (s .place) (0 ∷ 1 ∷ 2 ∷ 3 ∷ 4 ∷ [])) (cond (not (s .provider) && eqb (s .place) 0) 14 0) 13
@@ -146,21 +102,7 @@ module _ (s : State) (r : Facts) where
   of-4 q =
       rw (as-number s r 4 q)
       (by-bool (oneOf (s .place) (0 ∷ 1 ∷ 2 ∷ 3 ∷ 4 ∷ []))
-      (λ h. simp (
-        h,
-        off (λ p. oneOf p (0 ∷ 1 ∷ 2 ∷ 3 ∷ 4 ∷ [])) 51 refl h,
-        off-rp (λ p. oneOf p (0 ∷ 1 ∷ 2 ∷ 3 ∷ 4 ∷ [])) (
-          refl,
-          (
-            refl,
-            (refl, (refl, (refl, (refl, tt)))),
-          ),
-        ) h,
-        and-true,
-        and-false,
-        or-true,
-        or-false,
-      ))
+      (λ h. simp (h, off (among (0 ∷ 1 ∷ 2 ∷ 3 ∷ 4 ∷ [])) (51 ∷ []) refl h, off-rp (among (0 ∷ 1 ∷ 2 ∷ 3 ∷ 4 ∷ [])) refl h, and-true, and-false, or-false))
       (λ h. simp h))
 
   pub of-11 : r .number ≡ 11 → refusalOf s r ≡ cond (eqb (s .place) 5) 0 13
@@ -168,31 +110,8 @@ module _ (s : State) (r : Facts) where
   of-11 q =
       rw (as-number s r 11 q)
       (by-bool (eqb (s .place) 5)
-      (λ h. simp (
-        h,
-        off (λ p. eqb p 5) 0 refl h,
-        off (λ p. eqb p 5) 51 refl h,
-        off-rp (λ p. eqb p 5) (
-          refl,
-          (
-            refl,
-            (
-              refl,
-              (
-                refl,
-                (
-                  refl,
-                  (refl, tt),
-                ),
-              ),
-            ),
-          ),
-        ) h,
-        and-true,
-        and-false,
-        or-true,
-        or-false,
-      ))
+      (λ h. let Q : ℕ → Bool = among (5 ∷ []) in
+      simp (h, off Q (0 ∷ []) refl h, off Q (51 ∷ []) refl h, off-rp (among (5 ∷ [])) refl h, and-true, and-false, or-false))
       (λ h. simp h))
 
   pub of-15 : r .number ≡ 15 → refusalOf s r ≡ cond (oneOf (s .place) (5 ∷ 11 ∷ [])) 0 13
@@ -200,16 +119,8 @@ module _ (s : State) (r : Facts) where
   of-15 q =
       rw (as-number s r 15 q)
       (by-bool (oneOf (s .place) (5 ∷ 11 ∷ []))
-      (λ h. simp (
-        h,
-        off (λ p. oneOf p (5 ∷ 11 ∷ [])) 0 refl h,
-        off (λ p. oneOf p (5 ∷ 11 ∷ [])) 51 refl h,
-        off-rp (λ p. oneOf p (5 ∷ 11 ∷ [])) (refl, (refl, (refl, (refl, (refl, (refl, tt)))))) h,
-        and-true,
-        and-false,
-        or-true,
-        or-false,
-      ))
+      (λ h. let Q : ℕ → Bool = among (5 ∷ 11 ∷ []) in
+      simp (h, off Q (0 ∷ []) refl h, off Q (51 ∷ []) refl h, off-rp (among (5 ∷ 11 ∷ [])) refl h, and-true, and-false, or-false))
       (λ h. simp h))
 
   pub of-51 : r .number ≡ 51 → refusalOf s r ≡ cond (oneOf (s .place) (5 ∷ 11 ∷ 15 ∷ []))
@@ -218,16 +129,8 @@ module _ (s : State) (r : Facts) where
   of-51 q =
       rw (as-number s r 51 q)
       (by-bool (oneOf (s .place) (5 ∷ 11 ∷ 15 ∷ []))
-      (λ h. simp (
-        h,
-        off (λ p. oneOf p (5 ∷ 11 ∷ 15 ∷ [])) 0 refl h,
-        off (λ p. oneOf p (5 ∷ 11 ∷ 15 ∷ [])) 51 refl h,
-        off-rp (λ p. oneOf p (5 ∷ 11 ∷ 15 ∷ [])) (refl, (refl, (refl, (refl, (refl, (refl, tt)))))) h,
-        and-true,
-        and-false,
-        or-true,
-        or-false,
-      ))
+      (λ h. let Q : ℕ → Bool = among (5 ∷ 11 ∷ 15 ∷ []) in
+      simp (h, off Q (0 ∷ []) refl h, off Q (51 ∷ []) refl h, off-rp (among (5 ∷ 11 ∷ 15 ∷ [])) refl h, and-true, and-false, or-true, or-false))
       (λ h. simp h))
 
   pub of-55 : r .number ≡ 55 → refusalOf s r ≡ cond (inRp (s .place))
@@ -238,9 +141,9 @@ module _ (s : State) (r : Facts) where
   of-55 q =
       rw (as-number s r 55 q)
       (by-bool (inRp (s .place))
-      (λ h. simp (h, off inRp 0 refl h, off inRp 51 refl h, and-true, and-false, or-true, or-false))
+      (λ h. simp (h, off inRp (0 ∷ []) refl h, off inRp (51 ∷ []) refl h, and-true, and-false, or-true, or-false))
       (λ g. by-bool (inFront (s .place))
-      (λ h. simp (g, h, off inFront 0 refl h, and-true, and-false, or-true, or-false))
+      (λ h. simp (g, h, off inFront (0 ∷ []) refl h, and-true, and-false, or-true, or-false))
       (λ h. simp (g, h, and-true, and-false, or-true, or-false))))
 
   -- ---- a prescription
@@ -249,7 +152,7 @@ module _ (s : State) (r : Facts) where
   unfolding refusal pairBroken misplaced mayFollow continues closesRp missing valueWrong newerGroup
   of-201-on q h e =
       rw (as-number s r 201 q)
-      (simp (h, e, off inDrugs 0 refl h, and-true, and-false, or-true, or-false))
+      (simp (h, e, off inDrugs (0 ∷ []) refl h, and-false, or-true, or-false))
 
   pub of-201-new : r .number ≡ 201 → (inDrugs (s .place) && eqb (r .rp) (s .had .rp)) ≡ false → refusalOf s r ≡ cond (inRp (s .place))
       (cond (s .provider && not (s .had .had301)) 14 (cond (not (eqb (r .rp) (s .had .rp + 1))) 15 0))
@@ -258,10 +161,10 @@ module _ (s : State) (r : Facts) where
   of-201-new q c =
       rw (as-number s r 201 q)
       (by-bool (inRp (s .place))
-      (λ h. simp (h, c, off inRp 0 refl h, and-true, and-false, or-true, or-false))
+      (λ h. simp (h, c, off inRp (0 ∷ []) refl h, and-true, and-false, or-true, or-false))
       (λ g. by-bool (inFront (s .place) || eqb (s .place) 55)
-      (λ h. simp (g, h, c, off (λ p. inFront p || eqb p 55) 0 refl h, and-true, and-false, or-true, or-false))
-      (λ h. simp (g, h, and-true, and-false, or-true, or-false))))
+      (λ h. simp (g, h, c, off (λ p. inFront p || eqb p 55) (0 ∷ []) refl h, and-true, and-false, or-false))
+      (λ h. simp (g, h, and-true, and-false, or-false))))
 
   -- a record of the open RP but a 201; placed: it may stand here
   abbrev keptRp : Bool → ℕ
@@ -272,15 +175,7 @@ module _ (s : State) (r : Facts) where
   of-281 q =
       rw (as-number s r 281 q)
       (by-bool (oneOf (s .place) (201 ∷ 281 ∷ []))
-      (λ h. simp (
-        h,
-        off (λ p. oneOf p (201 ∷ 281 ∷ [])) 0 refl h,
-        off (λ p. oneOf p (201 ∷ 281 ∷ [])) 51 refl h,
-        and-true,
-        and-false,
-        or-true,
-        or-false,
-      ))
+      (λ h. simp (h, off (among (201 ∷ 281 ∷ [])) (0 ∷ []) refl h, off (among (201 ∷ 281 ∷ [])) (51 ∷ []) refl h, and-true, and-false, or-false))
       (λ h. simp (h)))
 
   pub of-291 : r .number ≡ 291 → refusalOf s r ≡ keptRp (inDrugs (s .place))
@@ -288,7 +183,7 @@ module _ (s : State) (r : Facts) where
   of-291 q =
       rw (as-number s r 291 q)
       (by-bool (inDrugs (s .place))
-      (λ h. simp (h, off inDrugs 0 refl h, off inDrugs 51 refl h, and-true, and-false, or-true, or-false))
+      (λ h. simp (h, off inDrugs (0 ∷ []) refl h, off inDrugs (51 ∷ []) refl h, and-true, and-false, or-false))
       (λ h. simp (h)))
 
   pub of-301-named : r .number ≡ 301 → r .named ≡ true → refusalOf s r ≡ keptRp (inDrugs (s .place))
@@ -296,7 +191,7 @@ module _ (s : State) (r : Facts) where
   of-301-named q e =
       rw (as-number s r 301 q)
       (by-bool (inDrugs (s .place))
-      (λ h. simp (h, e, off inDrugs 0 refl h, off inDrugs 51 refl h, and-true, and-false, or-true, or-false))
+      (λ h. simp (h, e, off inDrugs (0 ∷ []) refl h, off inDrugs (51 ∷ []) refl h, and-true, and-false, or-false))
       (λ h. simp (e, h)))
 
   -- whether a 301 has to have a usage name
@@ -314,7 +209,7 @@ module _ (s : State) (r : Facts) where
   of-301-free q e g =
       rw (as-number s r 301 q)
       (by-bool (inDrugs (s .place))
-      (λ h. simp (h, e, g, off inDrugs 0 refl h, off inDrugs 51 refl h, and-true, and-false, or-true, or-false))
+      (λ h. simp (h, e, g, off inDrugs (0 ∷ []) refl h, off inDrugs (51 ∷ []) refl h, and-true, and-false, or-false))
       (λ h. simp (e, g, h)))
 
   pub of-311 : r .number ≡ 311 → refusalOf s r ≡ keptRp (oneOf (s .place) (301 ∷ 311 ∷ []))
@@ -322,15 +217,7 @@ module _ (s : State) (r : Facts) where
   of-311 q =
       rw (as-number s r 311 q)
       (by-bool (oneOf (s .place) (301 ∷ 311 ∷ []))
-      (λ h. simp (
-        h,
-        off (λ p. oneOf p (301 ∷ 311 ∷ [])) 0 refl h,
-        off (λ p. oneOf p (301 ∷ 311 ∷ [])) 51 refl h,
-        and-true,
-        and-false,
-        or-true,
-        or-false,
-      ))
+      (λ h. simp (h, off (among (301 ∷ 311 ∷ [])) (0 ∷ []) refl h, off (among (301 ∷ 311 ∷ [])) (51 ∷ []) refl h, and-true, and-false, or-false))
       (λ h. simp (h)))
 
   pub of-391 : r .number ≡ 391 → refusalOf s r ≡ keptRp (inRp (s .place))
@@ -338,7 +225,7 @@ module _ (s : State) (r : Facts) where
   of-391 q =
       rw (as-number s r 391 q)
       (by-bool (inRp (s .place))
-      (λ h. simp (h, off inRp 0 refl h, off inRp 51 refl h, and-true, and-false, or-true, or-false))
+      (λ h. simp (h, off inRp (0 ∷ []) refl h, off inRp (51 ∷ []) refl h, and-true, and-false, or-false))
       (λ h. simp (h)))
 
   -- ---- behind the prescriptions
@@ -355,97 +242,56 @@ module _ (s : State) (r : Facts) where
       (by-bool (s .provider && eqb (s .had .rp) 0)
       (λ z. simp (z, and-true, or-true))
       (λ z. by-bool (inRp (s .place))
-      (λ h. simp (h, z, off inRp 0 refl h, off inRp 51 refl h, and-true, and-false, or-true, or-false))
+      (λ h. simp (h, z, off inRp (0 ∷ []) refl h, off inRp (51 ∷ []) refl h, and-true, and-false, or-true, or-false))
       (λ g. by-bool (inFront (s .place))
-      (λ h. simp (g, h, z, off inFront 0 refl h, and-true, and-false, or-true, or-false))
+      (λ h. simp (g, h, z, off inFront (0 ∷ []) refl h, and-true, and-false, or-false))
       (λ f. by-bool (oneOf (s .place) (401 ∷ []))
-      (λ h. simp (
-        g,
-        h,
-        z,
-        off (λ p. oneOf p (401 ∷ [])) 0 refl h,
-        off (λ p. oneOf p (401 ∷ [])) 5 refl h,
-        off (λ p. oneOf p (401 ∷ [])) 11 refl h,
-        off (λ p. oneOf p (401 ∷ [])) 15 refl h,
-        off (λ p. oneOf p (401 ∷ [])) 51 refl h,
-        and-true,
-        and-false,
-        or-true,
-        or-false,
-      ))
-      (λ h. simp (g, f, h, z, and-true, and-false, or-true, or-false))))))
+      (λ h. let Q : ℕ → Bool = among (401 ∷ []) in
+      let o : (k : ℕ) → Q k ≡ false → eqb (s .place) k ≡ false = λ k e. differs Q (s .place) k e h in
+      simp (g, h, z, o 0 refl, o 5 refl, o 11 refl, o 15 refl, o 51 refl, and-true, and-false, or-false))
+      (λ h. simp (g, f, h, z, and-true, and-false, or-false))))))
 
   pub of-411 : r .number ≡ 411 → refusalOf s r ≡ inTheRest (oneOf (s .place) (401 ∷ 411 ∷ []))
   unfolding refusal pairBroken misplaced mayFollow continues closesRp missing valueWrong newerGroup
   of-411 q =
       rw (as-number s r 411 q)
       (by-bool (inRp (s .place))
-      (λ h. simp (h, off inRp 0 refl h, off inRp 51 refl h, and-true, and-false, or-true, or-false))
+      (λ h. simp (h, off inRp (0 ∷ []) refl h, off inRp (51 ∷ []) refl h, and-true, and-false, or-true, or-false))
       (λ g. by-bool (inFront (s .place))
-      (λ h. simp (g, h, off inFront 0 refl h, and-true, and-false, or-true, or-false))
+      (λ h. simp (g, h, off inFront (0 ∷ []) refl h, and-true, and-false, or-false))
       (λ f. by-bool (oneOf (s .place) (401 ∷ 411 ∷ []))
-      (λ h. simp (
-        g,
-        h,
-        off (λ p. oneOf p (401 ∷ 411 ∷ [])) 0 refl h,
-        off (λ p. oneOf p (401 ∷ 411 ∷ [])) 5 refl h,
-        off (λ p. oneOf p (401 ∷ 411 ∷ [])) 11 refl h,
-        off (λ p. oneOf p (401 ∷ 411 ∷ [])) 15 refl h,
-        off (λ p. oneOf p (401 ∷ 411 ∷ [])) 51 refl h,
-        and-true,
-        and-false,
-        or-true,
-        or-false,
-      ))
-      (λ h. simp (g, f, h, and-true, and-false, or-true, or-false)))))
+      (λ h. let Q : ℕ → Bool = among (401 ∷ 411 ∷ []) in
+      let o : (k : ℕ) → Q k ≡ false → eqb (s .place) k ≡ false = λ k e. differs Q (s .place) k e h in
+      simp (g, h, o 0 refl, o 5 refl, o 11 refl, o 15 refl, o 51 refl, and-true, and-false, or-false))
+      (λ h. simp (g, f, h, and-true, and-false, or-false)))))
 
   pub of-501 : r .number ≡ 501 → refusalOf s r ≡ inTheRest (oneOf (s .place) (401 ∷ 411 ∷ 501 ∷ []))
   unfolding refusal pairBroken misplaced mayFollow continues closesRp missing valueWrong newerGroup
   of-501 q =
       rw (as-number s r 501 q)
       (by-bool (inRp (s .place))
-      (λ h. simp (h, off inRp 0 refl h, off inRp 51 refl h, and-true, and-false, or-true, or-false))
+      (λ h. simp (h, off inRp (0 ∷ []) refl h, off inRp (51 ∷ []) refl h, and-true, and-false, or-true, or-false))
       (λ g. by-bool (inFront (s .place))
-      (λ h. simp (g, h, off inFront 0 refl h, and-true, and-false, or-true, or-false))
+      (λ h. simp (g, h, off inFront (0 ∷ []) refl h, and-true, and-false, or-false))
       (λ f. by-bool (oneOf (s .place) (401 ∷ 411 ∷ 501 ∷ []))
-      (λ h. simp (
-        g,
-        h,
-        off (λ p. oneOf p (401 ∷ 411 ∷ 501 ∷ [])) 0 refl h,
-        off (λ p. oneOf p (401 ∷ 411 ∷ 501 ∷ [])) 5 refl h,
-        off (λ p. oneOf p (401 ∷ 411 ∷ 501 ∷ [])) 11 refl h,
-        off (λ p. oneOf p (401 ∷ 411 ∷ 501 ∷ [])) 15 refl h,
-        off (λ p. oneOf p (401 ∷ 411 ∷ 501 ∷ [])) 51 refl h,
-        and-true,
-        and-false,
-        or-true,
-        or-false,
-      ))
-      (λ h. simp (g, f, h, and-true, and-false, or-true, or-false)))))
+      (λ h. let Q : ℕ → Bool = among (401 ∷ 411 ∷ 501 ∷ []) in
+      let o : (k : ℕ) → Q k ≡ false → eqb (s .place) k ≡ false = λ k e. differs Q (s .place) k e h in
+      simp (g, h, o 0 refl, o 5 refl, o 11 refl, o 15 refl, o 51 refl, and-true, and-false, or-false))
+      (λ h. simp (g, f, h, and-true, and-false, or-false)))))
 
   pub of-601 : r .number ≡ 601 → refusalOf s r ≡ inTheRest (oneOf (s .place) (401 ∷ 411 ∷ 501 ∷ 601 ∷ []))
   unfolding refusal pairBroken misplaced mayFollow continues closesRp missing valueWrong newerGroup
   of-601 q =
       rw (as-number s r 601 q)
       (by-bool (inRp (s .place))
-      (λ h. simp (h, off inRp 0 refl h, off inRp 51 refl h, and-true, and-false, or-true, or-false))
+      (λ h. simp (h, off inRp (0 ∷ []) refl h, off inRp (51 ∷ []) refl h, and-true, and-false, or-true, or-false))
       (λ g. by-bool (inFront (s .place))
-      (λ h. simp (g, h, off inFront 0 refl h, and-true, and-false, or-true, or-false))
+      (λ h. simp (g, h, off inFront (0 ∷ []) refl h, and-true, and-false, or-false))
       (λ f. by-bool (oneOf (s .place) (401 ∷ 411 ∷ 501 ∷ 601 ∷ []))
-      (λ h. simp (
-        g,
-        h,
-        off (λ p. oneOf p (401 ∷ 411 ∷ 501 ∷ 601 ∷ [])) 0 refl h,
-        off (λ p. oneOf p (401 ∷ 411 ∷ 501 ∷ 601 ∷ [])) 5 refl h,
-        off (λ p. oneOf p (401 ∷ 411 ∷ 501 ∷ 601 ∷ [])) 11 refl h,
-        off (λ p. oneOf p (401 ∷ 411 ∷ 501 ∷ 601 ∷ [])) 15 refl h,
-        off (λ p. oneOf p (401 ∷ 411 ∷ 501 ∷ 601 ∷ [])) 51 refl h,
-        and-true,
-        and-false,
-        or-true,
-        or-false,
-      ))
-      (λ h. simp (g, f, h, and-true, and-false, or-true, or-false)))))
+      (λ h. let Q : ℕ → Bool = among (401 ∷ 411 ∷ 501 ∷ 601 ∷ []) in
+      let o : (k : ℕ) → Q k ≡ false → eqb (s .place) k ≡ false = λ k e. differs Q (s .place) k e h in
+      simp (g, h, o 0 refl, o 5 refl, o 11 refl, o 15 refl, o 51 refl, and-true, and-false, or-false))
+      (λ h. simp (g, f, h, and-true, and-false, or-false)))))
 
   -- ---- what closes a group
 
@@ -459,39 +305,15 @@ module _ (s : State) (r : Facts) where
   of-5 q =
       rw (as-number s r 5 q)
       (by-bool (inRp (s .place))
-      (λ h. simp (h, off inRp 0 refl h, off inRp 51 refl h, and-true, and-false, or-true, or-false))
+      (λ h. simp (h, off inRp (0 ∷ []) refl h, off inRp (51 ∷ []) refl h, and-true, and-false, or-true, or-false))
       (λ g. by-bool (inFront (s .place) || inRest (s .place))
-      (λ h. simp (
-        g,
-        h,
-        off (λ p. inFront p || inRest p) 1 refl h,
-        off (λ p. inFront p || inRest p) 2 refl h,
-        off (λ p. inFront p || inRest p) 3 refl h,
-        off (λ p. inFront p || inRest p) 4 refl h,
-        off (λ p. inFront p || inRest p) 0 refl h,
-        off (λ p. inFront p || inRest p) 55 refl h,
-        off (λ p. inFront p || inRest p) 701 refl h,
-        and-true,
-        and-false,
-        or-true,
-        or-false,
-      ))
+      (λ h. let Q : ℕ → Bool = λ p. inFront p || inRest p in
+      let o : (k : ℕ) → Q k ≡ false → eqb (s .place) k ≡ false = λ k e. differs Q (s .place) k e h in
+      simp (g, h, o 1 refl, o 2 refl, o 3 refl, o 4 refl, o 0 refl, o 55 refl, and-true, and-false, or-true, or-false))
       (λ f. by-bool (inHead (s .place))
-      (λ h. simp (
-        g,
-        f,
-        h,
-        off inHead 51 refl h,
-        off inHead 55 refl h,
-        off inHead 5 refl h,
-        off inHead 11 refl h,
-        off inHead 15 refl h,
-        elsewhere inHead (s .place) (401 ∷ 411 ∷ 501 ∷ 601 ∷ []) (refl, (refl, (refl, (refl, tt)))) h,
-        and-true,
-        and-false,
-        or-true,
-        or-false,
-      ))
+      (λ h. let Q : ℕ → Bool = inHead in
+      let o : (k : ℕ) → Q k ≡ false → eqb (s .place) k ≡ false = λ k e. differs Q (s .place) k e h in
+      simp (g, h, o 51 refl, o 55 refl, o 5 refl, o 11 refl, o 15 refl, off Q (401 ∷ 411 ∷ 501 ∷ 601 ∷ []) refl h, and-true, and-false, or-true, or-false))
       (λ h. simp (g, f, h, and-true, and-false, or-true, or-false)))))
 
   pub of-701 : r .number ≡ 701 → refusalOf s r ≡ cond (inRp (s .place))
@@ -504,39 +326,15 @@ module _ (s : State) (r : Facts) where
   of-701 q =
       rw (as-number s r 701 q)
       (by-bool (inRp (s .place))
-      (λ h. simp (h, off inRp 0 refl h, off inRp 51 refl h, and-true, and-false, or-true, or-false))
+      (λ h. simp (h, off inRp (0 ∷ []) refl h, off inRp (51 ∷ []) refl h, and-true, and-false, or-true, or-false))
       (λ g. by-bool (inFront (s .place) || inRest (s .place))
-      (λ h. simp (
-        g,
-        h,
-        off (λ p. inFront p || inRest p) 1 refl h,
-        off (λ p. inFront p || inRest p) 2 refl h,
-        off (λ p. inFront p || inRest p) 3 refl h,
-        off (λ p. inFront p || inRest p) 4 refl h,
-        off (λ p. inFront p || inRest p) 0 refl h,
-        off (λ p. inFront p || inRest p) 55 refl h,
-        off (λ p. inFront p || inRest p) 701 refl h,
-        and-true,
-        and-false,
-        or-true,
-        or-false,
-      ))
+      (λ h. let Q : ℕ → Bool = λ p. inFront p || inRest p in
+      let o : (k : ℕ) → Q k ≡ false → eqb (s .place) k ≡ false = λ k e. differs Q (s .place) k e h in
+      simp (g, h, o 1 refl, o 2 refl, o 3 refl, o 4 refl, o 0 refl, o 55 refl, o 701 refl, and-true, and-false, or-true, or-false))
       (λ f. by-bool (inHead (s .place) || eqb (s .place) 701)
-      (λ h. simp (
-        g,
-        f,
-        h,
-        off (λ p. inHead p || eqb p 701) 51 refl h,
-        off (λ p. inHead p || eqb p 701) 55 refl h,
-        off (λ p. inHead p || eqb p 701) 5 refl h,
-        off (λ p. inHead p || eqb p 701) 11 refl h,
-        off (λ p. inHead p || eqb p 701) 15 refl h,
-        elsewhere (λ p. inHead p || eqb p 701) (s .place) (401 ∷ 411 ∷ 501 ∷ 601 ∷ []) (refl, (refl, (refl, (refl, tt)))) h,
-        and-true,
-        and-false,
-        or-true,
-        or-false,
-      ))
+      (λ h. let Q : ℕ → Bool = λ p. inHead p || eqb p 701 in
+      let o : (k : ℕ) → Q k ≡ false → eqb (s .place) k ≡ false = λ k e. differs Q (s .place) k e h in
+      simp (g, h, o 51 refl, o 55 refl, o 5 refl, o 11 refl, o 15 refl, off Q (401 ∷ 411 ∷ 501 ∷ 601 ∷ []) refl h, and-true, and-false, or-true, or-false))
       (λ h. let n = neither (inFront (s .place)) (inRest (s .place)) f in let m = neither (inHead (s .place)) (eqb (s .place) 701) h in
       simp (g, n .0, n .1, m .0, m .1)))))
 

@@ -199,7 +199,9 @@ returns-21 : tie.Need-returns-21
 unfolding mayFollow
 returns-21 c =
     let d3 = c .before .before .before in
-    let n = d3 .args .r .number in sym (of-other (d3 .args .self) (d3 .args .r) (no-row (Unit {0}) n (rows (d3 .args .self .place)) (c .match .rest) .1) (ne-eqb n 301 (c .match .rest .0 .0 .0 .0 .0 .0 .0 .1)))
+    let n = d3 .args .r .number in
+    let h = no-row (Unit {0}) n (rows (d3 .args .self .place)) (c .match .rest) .1 in
+    sym (of-other (d3 .args .self) (d3 .args .r) h (ne-eqb n 301 (c .match .rest .0 .0 .0 .0 .0 .0 .0 .1)))
 
 pub refusal-spec : {M : Type 1} → statement M
 refusal-spec =
