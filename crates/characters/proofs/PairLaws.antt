@@ -61,7 +61,7 @@ trail-at b {i} v e h =
 pub byte-small : {i b : ℕ} → i ≡ b → i < 256 → b < 256
 byte-small e h = omega arith
 
--- ---- the ways through pair_at
+-- ---- the ways through shares_bit and pair_at
 
 pub pair-short : (s : List ℕ) (i : ℕ) → i < length s → length s ≤ i + 1 → false ≡ pairAt s i
 unfolding pairAt
@@ -71,3 +71,7 @@ pub pair-told : (s : List ℕ) (i : ℕ) {x y : ℕ} → i + 1 < length s → x 
     → not (eqb (bitAnd x y) 0) ≡ pairAt s i
 unfolding pairAt
 pair-told s i k e h f m = rw (e, f, two-on s i 0 k) (pair-bits (getD s i 0) (getD s (i + 1) 0) h m)
+
+pub pair-decided : (s : List ℕ) (i : ℕ) {x : Bool} → i + 1 < length s → x ≡ isPair (getD s i 0) (getD s (i + 1) 0) → x ≡ pairAt s i
+unfolding pairAt
+pair-decided s i k e = rw (two-on s i 0 k) e

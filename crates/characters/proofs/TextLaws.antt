@@ -155,7 +155,7 @@ scan-start s at a h =
     }
 
 -- what was kept is read back
-count-places : (k : ℕ) (l : List ℕ) → length (commasFrom k l) ≡ commaCount l
+pub count-places : (k : ℕ) (l : List ℕ) → length (commasFrom k l) ≡ commaCount l
 count-places k [] = refl
 count-places k (b ∷ l) = go (eqb b 0x2c) (count-places (suc k) l)
   where

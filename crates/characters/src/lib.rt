@@ -1,7 +1,7 @@
 // Characters and lines: a Shift_JIS character by row and cell, and the line that begins at a position, in one pass over its bytes.
-// Definitions: specs/Cells.antt, specs/Text.antt, specs/Rows.antt. The scan tells a pair by a table of bits (specs/Classes.antt), which is
-// proved to agree with the cells; `is_pair` decides over row and cell. A new kind of answer about characters (as a script) moves Char and
-// charOf there.
+// Definitions: specs/Cells.antt, specs/Text.antt, specs/Rows.antt. The scan passes a pair by a table of bits (specs/Classes.antt), which is
+// proved to agree with the cells; what it does not pass is put to `is_pair`, which decides over row and cell. A new kind of answer about
+// characters (as a script) moves Char and charOf there.
 ghost use mathlib.Core.Path.{_≡_};
 ghost use Prim.Native.Nat.{_≤_, _<_};
 ghost use lib.ListN.{length};
@@ -656,8 +656,8 @@ fn trail_of(classes: &[u8; 512], b: u8) -> u8
     classes[i]
 }
 
-// Whether the two bytes at a position are a character.
-fn pair_at(classes: &[u8; 512], s: &[u8], i: usize) -> bool
+// Whether the two bytes at a position share a bit, and so are a character.
+fn shares_bit(classes: &[u8; 512], s: &[u8], i: usize) -> bool
     requires { ⌜ Classes (now classes) ⌝ }
     requires { ⌜ i < length (now s) ⌝ }
     ensures { λ r. ⌜ r ≡ pairAt (now (s .entry)) i ⌝ }
@@ -669,6 +669,18 @@ fn pair_at(classes: &[u8; 512], s: &[u8], i: usize) -> bool
     let lead = lead_of(classes, s[i]);
     let trail = trail_of(classes, s[next]);
     lead & trail != 0
+}
+
+// The same by row and cell.
+fn pair_at(s: &[u8], i: usize) -> bool
+    requires { ⌜ i < length (now s) ⌝ }
+    ensures { λ r. ⌜ r ≡ pairAt (now (s .entry)) i ⌝ }
+{
+    let next = i + 1;
+    if s.len() <= next {
+        return false;
+    }
+    is_pair(s[i], s[next])
 }
 
 // The bytes 2Dh to 7Eh, each a character and no comma: most bytes of a line that are not of a pair are told by this test alone.
@@ -701,7 +713,7 @@ pub fn scan_text(classes: &[u8; 512], stops: &mut [usize; 16], s: &[u8], at: usi
             i += 1;
             continue;
         }
-        if pair_at(classes, s, i) {
+        if shares_bit(classes, s, i) {
             i += 2;
             continue;
         }
@@ -724,8 +736,12 @@ pub fn scan_text(classes: &[u8; 512], stops: &mut [usize; 16], s: &[u8], at: usi
                     commas,
                 };
             }
-            good = false;
-            i += 1;
+            if pair_at(s, i) {
+                i += 2;
+            } else {
+                good = false;
+                i += 1;
+            }
         }
     }
     Scan {

@@ -14,6 +14,7 @@ use Rattle.lists.specs.Lists.{part, upTo, findFrom}
 use Rattle.lists.proofs.Cuts.{drop-step, drop-end, take-upTo}
 use Rattle.lists.proofs.Loops.{find-low, find-high}
 use Rattle.characters.specs.Text.{commaCount, commasFrom, Stops, Sixteen}
+use Rattle.characters.proofs.TextLaws.{count-places}
 use Rattle.records.specs.Split.{isComma, consItem, itemsOf, itemsFrom, itemEnd}
 use Rattle.lines.specs.declared.Span.{Span}
 use Rattle.lines.specs.Codes.{Commas, Spanned, SpanAt}
@@ -111,14 +112,6 @@ end-behind p ps n j = go (leb (suc j) (length ps)) refl
 
 part-shift : (a : ℕ) (l : List ℕ) (x e : ℕ) → part (a ∷ l) (suc x) (suc e) ≡ part l x e
 part-shift a l x e = let z : suc e - suc x ≡ e - x = omega arith in ap (λ (k : ℕ). take k (drop x l)) z
-
-count-places : (k : ℕ) (l : List ℕ) → length (commasFrom k l) ≡ commaCount l
-count-places k [] = refl
-count-places k (a ∷ l) = go (isComma a) (count-places (suc k) l)
-  where
-    go : (b : Bool) → length (commasFrom (suc k) l) ≡ commaCount l → length (cond b (k ∷ commasFrom (suc k) l) (commasFrom (suc k) l)) ≡ cond b 1 0 + commaCount l
-    go true e = omega (arith, e)
-    go false e = omega (arith, e)
 
 cons-first : (a : ℕ) (l : List ℕ) → getD (consItem a (itemsOf l)) 0 [] ≡ a ∷ getD (itemsOf l) 0 []
 cons-first a l = rw (items-cut l)

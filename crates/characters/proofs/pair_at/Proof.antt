@@ -1,34 +1,30 @@
 use borrow.Author.Needs.{needs}
 use Prim.Native.Nat.{_-_}
 use lib.ListN.{length}
-use Rattle.characters.proofs.PairLaws.{pair-short, pair-told}
+use Rattle.characters.proofs.PairLaws.{pair-short, pair-decided}
 use Rattle.characters.proofs.pair_at.Statement.{statement}
 use Rattle.characters.proofs.pair_at.Tie as tie
 use Rattle.characters.proofs.pair_at.Reads as reads
 use Rattle.characters.proofs.pair_at.Lts as lts
-use Rattle.characters.proofs.lead_of.Reads as lead-of-reads
-use Rattle.characters.proofs.trail_of.Reads as trail-of-reads
+use Rattle.characters.proofs.is_pair.Reads as is-pair-reads
 
 add-next : tie.Need-add-next
 add-next c = search needs
 
 returns : tie.Need-returns
-returns c = search (needs, pair-short)
+returns c = search (needs, pair-short, pair-decided)
 
-shared-slice-read-lead-of : tie.Need-shared-slice-read-lead-of
-shared-slice-read-lead-of c = search needs
+shared-slice-read-is-pair : tie.Need-shared-slice-read-is-pair
+shared-slice-read-is-pair c = search needs
 
-lead-of-requires : tie.Need-lead-of-requires
-lead-of-requires c κs = search needs
+shared-slice-read-is-pair-2 : tie.Need-shared-slice-read-is-pair-2
+shared-slice-read-is-pair-2 c = search needs
 
-shared-slice-read-trail-of : tie.Need-shared-slice-read-trail-of
-shared-slice-read-trail-of c = search needs
-
-trail-of-requires : tie.Need-trail-of-requires
-trail-of-requires c κs = search needs
+is-pair-requires : tie.Need-is-pair-requires
+is-pair-requires c κs = search needs
 
 returns-2 : tie.Need-returns-2
-returns-2 c = search (needs, pair-told)
+returns-2 c = search (needs, pair-short, pair-decided)
 
 pub pair-at-spec : {M : Type 1} → statement M
 pair-at-spec =
@@ -36,8 +32,7 @@ pair-at-spec =
     (tie.spec
     add-next
     returns
-    shared-slice-read-lead-of
-    lead-of-requires
-    shared-slice-read-trail-of
-    trail-of-requires
+    shared-slice-read-is-pair
+    shared-slice-read-is-pair-2
+    is-pair-requires
     returns-2)

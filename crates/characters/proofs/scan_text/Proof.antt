@@ -1,7 +1,7 @@
 use borrow.Author.Needs.{needs}
 use Prim.Native.Nat.{_-_}
 use lib.ListN.{length}
-use Rattle.characters.proofs.TextLaws.{Scanned, scan-laws, scan-bad}
+use Rattle.characters.proofs.TextLaws.{Scanned, scan-laws, scan-two, scan-bad}
 use Rattle.characters.proofs.scan_text.Statement.{statement}
 use Rattle.characters.proofs.scan_text.Tie as tie
 use Rattle.characters.proofs.scan_text.Reads as reads
@@ -10,6 +10,7 @@ use Rattle.characters.proofs.is_one.Reads as is-one-reads
 use Rattle.characters.proofs.is_stop.Reads as is-stop-reads
 use Rattle.characters.proofs.pair_at.Reads as pair-at-reads
 use Rattle.characters.proofs.plain.Reads as plain-reads
+use Rattle.characters.proofs.shares_bit.Reads as shares-bit-reads
 
 abbrev Inv-loop : tie.InvT-loop
 Inv-loop classes stops₀ s at i₀ good₀ commas₀ stops i good commas = Scanned s at stops₀ stops i good commas
@@ -35,8 +36,8 @@ loop-less c = search (needs, scan-laws)
 loop-again : tie.Need-loop-again Inv-loop μ-loop
 loop-again c = search (needs, scan-laws)
 
-pair-at-requires : tie.Need-pair-at-requires Inv-loop μ-loop
-pair-at-requires c κs = search (needs, scan-laws)
+shares-bit-requires : tie.Need-shares-bit-requires Inv-loop μ-loop
+shares-bit-requires c κs = search (needs, scan-laws)
 
 add-i-2 : tie.Need-add-i-2 Inv-loop μ-loop
 add-i-2 c = search (needs, scan-laws)
@@ -98,6 +99,9 @@ is-stop-requires c κs = search (needs, scan-laws)
 returns : tie.Need-returns Inv-loop μ-loop
 returns c = search (needs, scan-laws)
 
+pair-at-requires : tie.Need-pair-at-requires Inv-loop μ-loop
+pair-at-requires c κs = search (needs, scan-laws)
+
 add-i-6 : tie.Need-add-i-6 Inv-loop μ-loop
 add-i-6 c = search (needs, scan-laws)
 
@@ -106,10 +110,21 @@ loop-less-6 c = search (needs, scan-laws)
 
 loop-again-6 : tie.Need-loop-again-6 Inv-loop μ-loop
 loop-again-6 c =
-    scan-bad (c .before .before .before .before .before .before .before .before .before .before .before .loop .inv) (c .before .before .before .before .before .before .before .before .before .before .loop-test .taken)
-    (c .before .before .before .before .before .before .pair-at .ensures) (c .before .before .before .before .before .if2 .left)
-    (c .before .before .before .is-one .ensures) (c .before .before .if5 .left)
-    (c .before .is-stop .ensures) (c .if6 .left)
+    scan-two (c .before .before .before .before .before .before .before .before .before .before .before .before .before .loop .inv) (c .before .before .before .before .before .before .before .before .before .before .before .before .loop-test .taken)
+    (c .before .pair-at .ensures) (c .if7 .taken)
+
+add-i-7 : tie.Need-add-i-7 Inv-loop μ-loop
+add-i-7 c = search (needs, scan-laws)
+
+loop-less-7 : tie.Need-loop-less-7 Inv-loop μ-loop
+loop-less-7 c = search (needs, scan-laws)
+
+loop-again-7 : tie.Need-loop-again-7 Inv-loop μ-loop
+loop-again-7 c =
+    scan-bad (c .before .before .before .before .before .before .before .before .before .before .before .before .before .loop .inv) (c .before .before .before .before .before .before .before .before .before .before .before .before .loop-test .taken)
+    (c .before .pair-at .ensures) (c .if7 .left)
+    (c .before .before .before .before .before .is-one .ensures) (c .before .before .before .before .if5 .left)
+    (c .before .before .before .is-stop .ensures) (c .before .before .if6 .left)
 
 returns-2 : tie.Need-returns-2 Inv-loop μ-loop
 returns-2 c = search (needs, scan-laws)
@@ -126,7 +141,7 @@ scan-text-spec =
     add-i
     loop-less
     loop-again
-    pair-at-requires
+    shares-bit-requires
     add-i-2
     loop-less-2
     loop-again-2
@@ -147,7 +162,11 @@ scan-text-spec =
     loop-again-5
     is-stop-requires
     returns
+    pair-at-requires
     add-i-6
     loop-less-6
     loop-again-6
+    add-i-7
+    loop-less-7
+    loop-again-7
     returns-2)
