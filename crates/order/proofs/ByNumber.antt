@@ -8,6 +8,7 @@ use mathlib.Core.Bool.{Bool, true, false, not, cond, _&&_, _||_, false≢true, a
 use mathlib.Core.List.{List, [], _∷_}
 use lib.Dec.{eqb, ltb}
 use borrow.Author.Tests.{eqb-true}
+use Rattle.order.specs.declared.Had.{Had}
 use Rattle.order.specs.declared.State.{State}
 use Rattle.order.specs.declared.Facts.{Facts}
 use Rattle.order.specs.declared.Moved.the-variants.{On}
@@ -342,24 +343,12 @@ pub of-other : (s : State) (r : Facts) → mayFollow (s .place) (r .number) ≡ 
 unfolding refusalOf refusal pairBroken misplaced
 of-other s r h e = simp (e, h)
 
--- ---- the state after a record that changes no more than its place and line
+-- ---- what a record of an RP but a 201 hands back
 
-abbrev placed : State → ℕ → State
-placed s n = record {
-  provider = s .provider;
-  place = n;
-  line = s .line + 1;
-  groups = s .groups;
-  drugs = s .drugs;
-  day = s .day;
-  had = s .had;
-}
-
--- a record of an RP
-pub kept-by : (s : State) (r : Facts) → (r .number ≡ 281) ⊎ ((r .number ≡ 291) ⊎ ((r .number ≡ 311) ⊎ (r .number ≡ 391))) →
-    On (placed s (r .number)) (r .rp) (s .had .doctor) ≡ On (advance s r) (rpOf r) (doctorOf s r)
-unfolding advance hadAfter rpOf doctorOf
-kept-by s r (inl e) = simp e
-kept-by s r (inr (inl e)) = simp e
-kept-by s r (inr (inr (inl e))) = simp e
-kept-by s r (inr (inr (inr e))) = simp e
+pub handed : (s : State) (r : Facts) {h : Had} → h ≡ hadAfter (s .had) r (s .line + 1) → (r .number ≡ 281) ⊎ ((r .number ≡ 291) ⊎ ((r .number ≡ 301) ⊎ ((r .number ≡ 311) ⊎ (r .number ≡ 391)))) → On (record { provider = s .provider; place = r .number; line = s .line + 1; groups = s .groups; drugs = s .drugs; day = s .day; had = h }) (r .rp) (s .had .doctor) ≡ On (advance s r) (rpOf r) (doctorOf s r)
+unfolding advance rpOf doctorOf
+handed s r q (inl e) = simp (q, e)
+handed s r q (inr (inl e)) = simp (q, e)
+handed s r q (inr (inr (inl e))) = simp (q, e)
+handed s r q (inr (inr (inr (inl e)))) = simp (q, e)
+handed s r q (inr (inr (inr (inr e)))) = simp (q, e)

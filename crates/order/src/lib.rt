@@ -2,8 +2,8 @@
 // A record is read elsewhere; here it is six facts, so that files that spell the same values take the same steps.
 // The rules are in specs/: Places (which record follows which), Questions (what is compared), Rules (what is refused),
 // State (what a record changes). A new record number moves together: a row in `mayFollow`, an arm in `refusal` with its
-// law in proofs/ByNumber.antt, an arm in `moved` where it changes more than the place, and the part of the pattern that
-// it belongs to (`in_front`, `in_rp`, `in_rest`).
+// law in proofs/ByNumber.antt, an arm in `Had::after` where it changes what the group has had, and the part of the
+// pattern that it belongs to (`in_front`, `in_rp`, `in_rest`).
 ghost use mathlib.Core.Path.{_≡_};
 ghost use mathlib.Core.Bool.{false, not, cond, _&&_};
 ghost use mathlib.Core.List.{[], _∷_};
@@ -12,7 +12,7 @@ ghost use Rattle.order.specs.declared.Moved.the-variants.{On};
 ghost use Rattle.order.specs.Places.{oneOf, inHead, inFront, inDrugs, inRp, inRest, inGroup};
 ghost use Rattle.order.specs.Questions.{beforeOf};
 ghost use Rattle.order.specs.Rules.{lacking};
-ghost use Rattle.order.specs.State.{none, start, advance, rpOf, doctorOf, refusalOf, stepOf, finishOf, groupOf, drugOf, Room};
+ghost use Rattle.order.specs.State.{none, hadAfter, start, advance, rpOf, doctorOf, refusalOf, stepOf, finishOf, groupOf, drugOf, Room};
 
 // All that the rules look at in a record; an empty item is 0, or false. `rp` is the first item of 201 to 391, `day` a
 // 5's day as YYYYMMDD, `schedule` an 11's fee schedule (third item), `form` a 301's form (fifth item), `named` whether
@@ -129,6 +129,44 @@ impl Had {
             rp: 0,
             doctor: 0,
             drug: 0,
+        }
+    }
+
+    // A 5 begins anew: neither doctor nor fee schedule reaches into the next group.
+    fn after(self, r: Facts, line: u32) -> Self
+        ensures { λ h. ⌜ h ≡ hadAfter self r line ⌝ }
+    {
+        let n = r.number;
+        match n {
+            5 => Had::none(),
+            11 => Had {
+                had11: true,
+                schedule: r.schedule,
+                ..self
+            },
+            51 => Had {
+                had51: true,
+                ..self
+            },
+            55 => Had {
+                doctor: line,
+                ..self
+            },
+            201 => Had {
+                rp: r.rp,
+                had301: false,
+                drug: line,
+                ..self
+            },
+            301 => Had {
+                had301: true,
+                ..self
+            },
+            411 => Had {
+                had411: true,
+                ..self
+            },
+            _ => self,
         }
     }
 }
@@ -363,74 +401,28 @@ impl State {
         }
     }
 
-    // The state after the record, with its RP and doctor. A 5 begins anew: neither doctor nor fee schedule reaches into the next group.
+    // The state after the record, with its RP and doctor.
     fn moved(self, r: Facts) -> Moved
         requires { ⌜ Room self ⌝ }
         ensures { λ m. ⌜ m ≡ On (advance self r) (rpOf r) (doctorOf self r) ⌝ }
     {
         let n = r.number;
         let line = self.line + 1;
+        let had = self.had;
+        let next = State {
+            place: n,
+            line: line,
+            had: had.after(r, line),
+            ..self
+        };
         match n {
             5 => {
                 let groups = self.groups + 1;
-                let none = Had::none();
                 Moved::On(
                     State {
-                        place: 5,
-                        line: line,
                         groups: groups,
                         day: r.day,
-                        had: none,
-                        ..self
-                    },
-                    0,
-                    0,
-                )
-            }
-            11 => {
-                let had = Had {
-                    had11: true,
-                    schedule: r.schedule,
-                    ..self.had
-                };
-                Moved::On(
-                    State {
-                        place: 11,
-                        line: line,
-                        had: had,
-                        ..self
-                    },
-                    0,
-                    0,
-                )
-            }
-            51 => {
-                let had = Had {
-                    had51: true,
-                    ..self.had
-                };
-                Moved::On(
-                    State {
-                        place: 51,
-                        line: line,
-                        had: had,
-                        ..self
-                    },
-                    0,
-                    0,
-                )
-            }
-            55 => {
-                let had = Had {
-                    doctor: line,
-                    ..self.had
-                };
-                Moved::On(
-                    State {
-                        place: 55,
-                        line: line,
-                        had: had,
-                        ..self
+                        ..next
                     },
                     0,
                     0,
@@ -438,74 +430,17 @@ impl State {
             }
             201 => {
                 let drugs = self.drugs + 1;
-                let had = Had {
-                    rp: r.rp,
-                    had301: false,
-                    drug: line,
-                    ..self.had
-                };
                 Moved::On(
                     State {
-                        place: 201,
-                        line: line,
                         drugs: drugs,
-                        had: had,
-                        ..self
+                        ..next
                     },
                     r.rp,
-                    self.had.doctor,
+                    had.doctor,
                 )
             }
-            301 => {
-                let had = Had {
-                    had301: true,
-                    ..self.had
-                };
-                Moved::On(
-                    State {
-                        place: 301,
-                        line: line,
-                        had: had,
-                        ..self
-                    },
-                    r.rp,
-                    self.had.doctor,
-                )
-            }
-            281 | 291 | 311 | 391 => Moved::On(
-                State {
-                    place: n,
-                    line: line,
-                    ..self
-                },
-                r.rp,
-                self.had.doctor,
-            ),
-            411 => {
-                let had = Had {
-                    had411: true,
-                    ..self.had
-                };
-                Moved::On(
-                    State {
-                        place: 411,
-                        line: line,
-                        had: had,
-                        ..self
-                    },
-                    0,
-                    0,
-                )
-            }
-            _ => Moved::On(
-                State {
-                    place: n,
-                    line: line,
-                    ..self
-                },
-                0,
-                0,
-            ),
+            281 | 291 | 301 | 311 | 391 => Moved::On(next, r.rp, had.doctor),
+            _ => Moved::On(next, 0, 0),
         }
     }
 
