@@ -345,7 +345,14 @@ of-other s r h e = simp (e, h)
 
 -- ---- what a record of an RP but a 201 hands back
 
-pub handed : (s : State) (r : Facts) {h : Had} → h ≡ hadAfter (s .had) r (s .line + 1) → (r .number ≡ 281) ⊎ ((r .number ≡ 291) ⊎ ((r .number ≡ 301) ⊎ ((r .number ≡ 311) ⊎ (r .number ≡ 391)))) → On (record { provider = s .provider; place = r .number; line = s .line + 1; groups = s .groups; drugs = s .drugs; day = s .day; had = h }) (r .rp) (s .had .doctor) ≡ On (advance s r) (rpOf r) (doctorOf s r)
+abbrev next : State → ℕ → Had → State
+next s n h = record { provider = s .provider; place = n; line = s .line + 1; groups = s .groups; drugs = s .drugs; day = s .day; had = h }
+
+abbrev OfOpenRp : ℕ → Type 0
+OfOpenRp n = (n ≡ 281) ⊎ ((n ≡ 291) ⊎ ((n ≡ 301) ⊎ ((n ≡ 311) ⊎ (n ≡ 391))))
+
+pub handed : (s : State) (r : Facts) {h : Had} → h ≡ hadAfter (s .had) r (s .line + 1) → OfOpenRp (r .number)
+    → On (next s (r .number) h) (r .rp) (s .had .doctor) ≡ On (advance s r) (rpOf r) (doctorOf s r)
 unfolding advance rpOf doctorOf
 handed s r q (inl e) = simp (q, e)
 handed s r q (inr (inl e)) = simp (q, e)
