@@ -2,7 +2,7 @@
 # make test           the C test and example over the library; C as C99, the header as C++11 too
 # make stack          the stack that each call takes
 # make memcheck       the C test under valgrind
-# make memcheck-rust  the Rust host's calls of the library under valgrind: its tests, and a comparison of 1,000 inputs
+# make memcheck-rust  the Rust host's calls of the library under valgrind: its tests, and the gate's comparison, some 5 minutes
 # make install        library, header, notebook.pc and the programs that are built, under PREFIX (and DESTDIR)
 # make test-install   installs under target/prefix, and builds and runs the example over that in another folder
 # make uninstall      removes what install puts there
@@ -69,7 +69,7 @@ memcheck: target/c/test
 memcheck-rust: export CARGO_TARGET_X86_64_UNKNOWN_LINUX_GNU_RUNNER = $(VALGRIND) --quiet --error-exitcode=1
 memcheck-rust: $(LIBRARY)
 	cd hosts/rust && $(CARGO) test --offline -p notebook --lib --test cases
-	cd hosts/rust && $(CARGO) run --release --offline --bin compare -- --against-library 1 1000
+	cd hosts/rust && $(CARGO) test --release --offline --test comparison
 
 # The library is installed as libnotebook.a, after its header and its calls.
 install: all
