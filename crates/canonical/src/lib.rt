@@ -272,7 +272,7 @@ fn finish(st: order::State, s: &[u8], at: usize, out: &mut [u8], run: Run) -> Ca
 
 // Line 1, which is kept, and the records from behind it on.
 fn write_records(
-    classes: &[u8; 512],
+    classes: &[u16; 512],
     codes: &[usize; 83],
     stops: &mut [usize; 16],
     provider: bool,

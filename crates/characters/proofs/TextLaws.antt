@@ -16,7 +16,8 @@ use Rattle.lists.proofs.Tests.{both, either, or-first, within-in, within-below,
 use Rattle.lists.proofs.Cuts.{drop-step, drop-end, two-on}
 use Rattle.characters.specs.Cells.{isOne, isPair, isTrail, isLead, allowed, fullRow, partRow}
 use Rattle.characters.specs.Text.{Char, One, Two, Bad, charOf, charAt, allChars, isStop, clean, commaCount, commasFrom, Stops, Sixteen, text, ScanOf}
-use Rattle.characters.specs.Classes.{classesFrom, Classes, pairOf, pairAt}
+use Rattle.characters.specs.Classes.{firstOf, classesFrom, Classes, pairOf, pairAt, FirstAt}
+use Rattle.characters.proofs.PairLaws.{first-one, first-other}
 
 -- ---- no character has a 0Dh, 0Ah or 1Ah in it
 
@@ -236,15 +237,8 @@ module _ {s : List ℕ} {at : ℕ} {a₀ a : List ℕ} {i : ℕ} {good : Bool} {
         subst (Scanned s at a₀ a (i + 1) good) z
         (one-on o 0 (rw e) (omega arith) (ap (λ (k : ℕ). kept a k (commasFrom (i + 1 - at) (text (drop (i + 1) s)))) z ∙ plain-on (one-go (getD s i 0) o) e) (v .size))
 
-    pub scan-plain : {x : Bool} → x ≡ within 0x2d 0x7e (getD s i 0) → x ≡ true → Scanned s at a₀ a (i + 1) good n
-    scan-plain p e =
-        let w = both (leb 0x2d (getD s i 0)) (leb (getD s i 0) 0x7e) (sym p ∙ e) in
-        let lo : 0x2d ≤ getD s i 0 = leb-true 0x2d (getD s i 0) (w .0) in
-        let hi : getD s i 0 ≤ 0x7e = leb-true (getD s i 0) 0x7e (w .1) in
-        one-byte (or-first (within 0x20 0x7e (getD s i 0)) (within 0xa1 0xdf (getD s i 0)) (within-in 0x20 0x7e (getD s i 0) (omega arith) hi)) (ne-eqb (getD s i 0) 0x2c (λ d. omega arith))
-
-    pub scan-one : {x : Bool} → (getD s i 0 ≡ 0x2c → ⊥) → x ≡ isOne (getD s i 0) → x ≡ true → Scanned s at a₀ a (i + 1) good n
-    scan-one k p e = one-byte (sym p ∙ e) (ne-eqb (getD s i 0) 0x2c k)
+    pub scan-one : {v : ℕ} → v ≡ firstOf (getD s i 0) → v ≡ 0 → Scanned s at a₀ a (i + 1) good n
+    scan-one q e = let w = first-one (getD s i 0) (sym q ∙ e) in one-byte (w .0) (w .1)
 
     comma-one : getD s i 0 ≡ 0x2c → isOne (getD s i 0) ≡ true
     comma-one e = rw e
@@ -297,9 +291,12 @@ module _ {s : List ℕ} {at : ℕ} {a₀ a : List ℕ} {i : ℕ} {good : Bool} {
         no-one-comma : (a : ℕ) → isOne a ≡ false → eqb a 0x2c ≡ false
         no-one-comma a o = ne-eqb a 0x2c (λ e. true≢false (sym (rw e) ∙ o))
 
-    pub scan-bad : {x y z : Bool} → x ≡ pairAt s i → x ≡ false → y ≡ isOne (getD s i 0) → y ≡ false → z ≡ isStop (getD s i 0) → z ≡ false → Scanned s at a₀ a (i + 1) false n
+    pub scan-bad : {v : ℕ} {x z : Bool} → v ≡ firstOf (getD s i 0) → (v ≡ 0 → ⊥) → (getD s i 0 ≡ 0x2c → ⊥) → x ≡ pairAt s i → x ≡ false → z ≡ isStop (getD s i 0) → z ≡ false
+        → Scanned s at a₀ a (i + 1) false n
     unfolding charAt pairAt
-    scan-bad p e q f r g = bad-on (sym q ∙ f) (sym r ∙ g) (rw now-at (no-char (getD s i 0) (drop (i + 1) s) (sym q ∙ f) (ap pairOf (sym now-at) ∙ sym p ∙ e)))
+    scan-bad q k c p e r g =
+        let o : isOne (getD s i 0) ≡ false = first-other (getD s i 0) (λ z. k (q ∙ z)) c in
+        bad-on o (sym r ∙ g) (rw now-at (no-char (getD s i 0) (drop (i + 1) s) o (ap pairOf (sym now-at) ∙ sym p ∙ e)))
       where
         no-char : (a : ℕ) (l : List ℕ) → isOne a ≡ false → pairOf (a ∷ l) ≡ false → charOf (a ∷ l) ≡ Bad
         no-char a [] o p = rw o
@@ -325,7 +322,10 @@ module _ {s : List ℕ} {at : ℕ} {a₀ a : List ℕ} {i : ℕ} {good : Bool} {
           first = v .first;
         }
 
-pub ruleset scan-laws = (scan-start, scan-plain, scan-one, scan-comma, scan-more, scan-stop, scan-bad, scan-two, scan-end)
+pub first-is : (s : List ℕ) (i : ℕ) {v : ℕ} → i < length s → v ≡ firstOf (getD s i 0) → getD s i 0 < 256 → FirstAt s i v
+first-is s i h q k = record { inside = h; byte = k; is = q }
+
+pub ruleset scan-laws = (first-is, scan-start, scan-one, scan-comma, scan-more, scan-stop, scan-bad, scan-two, scan-end)
 
 -- what a caller lends is the table
 pub classes-lent : Classes (classesFrom 0 512)

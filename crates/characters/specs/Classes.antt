@@ -1,13 +1,14 @@
--- Pairs of bytes by two tables, as the code is lent them: the leads that go with the same trails have one bit, eight in all, and a trail has
--- the bits of its leads. A lead and a trail are a character exactly where they share a bit (proofs/PairLaws.antt, over all pairs).
-use Prim.Native.Nat.{ℕ, zero, suc, _+_, _-_}
+-- Bytes by two tables, as the code is lent them: what a byte may begin, and what it may end. The leads that go with the same trails have one
+-- bit, eight in all, and a trail has the bits of its leads: a lead and a trail are a character exactly where they share a bit
+-- (proofs/PairLaws.antt, over all pairs).
+use Prim.Native.Nat.{ℕ, zero, suc, _+_, _-_, _<_}
 use mathlib.Core.Path.{_≡_}
-use mathlib.Core.Bool.{Bool, true, false, cond, _||_}
+use mathlib.Core.Bool.{Bool, true, false, cond, not, _&&_, _||_}
 use mathlib.Core.List.{List, [], _∷_}
 use lib.Dec.{leb, eqb}
-use lib.ListN.{drop}
+use lib.ListN.{length, drop, getD}
 use Rattle.lists.specs.Lists.{within}
-use Rattle.characters.specs.Cells.{isPair}
+use Rattle.characters.specs.Cells.{isOne, isPair}
 
 -- leads both of whose rows are whole (rows 17 to 46, 49 to 82): every trail makes a character
 abbrev pub wholeLead : ℕ → Bool
@@ -25,6 +26,10 @@ leadOf a =
     (cond (eqb a 0x98) 64
     (cond (eqb a 0xea) 128 0)))))))
 
+-- 0 for a character of one byte but the comma; a lead's bit; 256, a bit that no trail has, for any other byte
+unfoldable pub firstOf : ℕ → ℕ
+firstOf a = cond (isOne a && not (eqb a 0x2c)) 0 (cond (eqb (leadOf a) 0) 256 (leadOf a))
+
 -- a trail's bits
 unfoldable pub trailOf : ℕ → ℕ
 trailOf b =
@@ -33,7 +38,7 @@ trailOf b =
 
 -- the two tables, one behind the other
 unfoldable pub classOf : ℕ → ℕ
-classOf i = cond (leb i 255) (leadOf i) (trailOf (i - 256))
+classOf i = cond (leb i 255) (firstOf i) (trailOf (i - 256))
 
 abbrev pub classesFrom : ℕ → ℕ → List ℕ
 classesFrom a zero = []
@@ -52,3 +57,9 @@ pairOf (a ∷ b ∷ r) = isPair a b
 -- whether one stands at a position
 unfoldable pub pairAt : List ℕ → ℕ → Bool
 pairAt s i = pairOf (drop i s)
+
+-- v is what the byte at a position may begin
+pub record FirstAt (s : List ℕ) (i v : ℕ) : Type 0 where
+  pub inside : i < length s
+  pub byte : getD s i 0 < 256
+  pub is : v ≡ firstOf (getD s i 0)

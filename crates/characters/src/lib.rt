@@ -1,5 +1,5 @@
 // Characters and lines: a Shift_JIS character by row and cell, and the line that begins at a position, in one pass over its bytes.
-// Definitions: specs/Cells.antt, specs/Text.antt, specs/Rows.antt. The scan passes a pair by a table of bits (specs/Classes.antt), which is
+// Definitions: specs/Cells.antt, specs/Text.antt, specs/Rows.antt. The scan passes bytes and pairs by a table (specs/Classes.antt), which is
 // proved to agree with the cells; what it does not pass is put to `is_pair`, which decides over row and cell. A new kind of answer about
 // characters (as a script) moves Char and charOf there.
 ghost use mathlib.Core.Path.{_≡_};
@@ -8,7 +8,7 @@ ghost use lib.ListN.{length};
 ghost use Rattle.lists.specs.Lists.{within as isWithin};
 ghost use Rattle.characters.specs.Cells.{row2, row3, allowed, leadRow, trailCell, trailRow, isOne, isLead, isTrail, isPair};
 ghost use Rattle.characters.specs.Text.{isStop, ScanOf, Sixteen};
-ghost use Rattle.characters.specs.Classes.{Classes, leadOf, trailOf, pairAt};
+ghost use Rattle.characters.specs.Classes.{Classes, firstOf, trailOf, pairAt, FirstAt};
 ghost use Rattle.characters.specs.Rows.{LineOf};
 
 fn within(lo: u8, hi: u8, x: u8) -> bool
@@ -115,8 +115,40 @@ pub fn is_pair(a: u8, b: u8) -> bool
     is_lead(a) & is_trail(b) & allowed_cell(lead_row(a) + trail_row(b), trail_cell(b))
 }
 
-// The bits of each byte as a lead, then of each as a trail. Lent to the scan, since a constant array is made anew wherever it is named.
-pub const CLASSES: [u8; 512] = [
+// What each byte may begin, then what each may end. Lent to the scan, since a constant array is made anew wherever it is named.
+pub const CLASSES: [u16; 512] = [
+    256,
+    256,
+    256,
+    256,
+    256,
+    256,
+    256,
+    256,
+    256,
+    256,
+    256,
+    256,
+    256,
+    256,
+    256,
+    256,
+    256,
+    256,
+    256,
+    256,
+    256,
+    256,
+    256,
+    256,
+    256,
+    256,
+    256,
+    256,
+    256,
+    256,
+    256,
+    256,
     0,
     0,
     0,
@@ -129,6 +161,7 @@ pub const CLASSES: [u8; 512] = [
     0,
     0,
     0,
+    256,
     0,
     0,
     0,
@@ -211,48 +244,15 @@ pub const CLASSES: [u8; 512] = [
     0,
     0,
     0,
-    0,
-    0,
-    0,
-    0,
-    0,
-    0,
-    0,
-    0,
-    0,
-    0,
-    0,
-    0,
-    0,
-    0,
-    0,
-    0,
-    0,
-    0,
-    0,
-    0,
-    0,
-    0,
-    0,
-    0,
-    0,
-    0,
-    0,
-    0,
-    0,
-    0,
-    0,
-    0,
-    0,
-    0,
-    0,
+    256,
+    256,
     2,
     4,
     8,
     16,
-    0,
-    0,
-    0,
+    256,
+    256,
+    256,
     32,
     1,
     1,
@@ -277,7 +277,7 @@ pub const CLASSES: [u8; 512] = [
     1,
     1,
     1,
-    0,
+    256,
     0,
     0,
     0,
@@ -352,27 +352,27 @@ pub const CLASSES: [u8; 512] = [
     1,
     1,
     128,
-    0,
-    0,
-    0,
-    0,
-    0,
-    0,
-    0,
-    0,
-    0,
-    0,
-    0,
-    0,
-    0,
-    0,
-    0,
-    0,
-    0,
-    0,
-    0,
-    0,
-    0,
+    256,
+    256,
+    256,
+    256,
+    256,
+    256,
+    256,
+    256,
+    256,
+    256,
+    256,
+    256,
+    256,
+    256,
+    256,
+    256,
+    256,
+    256,
+    256,
+    256,
+    256,
     0,
     0,
     0,
@@ -638,16 +638,16 @@ fn wide(b: u8) -> usize
     b as usize
 }
 
-fn lead_of(classes: &[u8; 512], a: u8) -> u8
+fn first_of(classes: &[u16; 512], a: u8) -> u16
     requires { ⌜ Classes (now classes) ⌝ }
-    ensures { λ r. ⌜ r ≡ leadOf a ⌝ }
+    ensures { λ r. ⌜ r ≡ firstOf a ⌝ }
     ensures { λ _. ⌜ a < 256 ⌝ }
 {
     let i = wide(a);
     classes[i]
 }
 
-fn trail_of(classes: &[u8; 512], b: u8) -> u8
+fn trail_of(classes: &[u16; 512], b: u8) -> u16
     requires { ⌜ Classes (now classes) ⌝ }
     ensures { λ r. ⌜ r ≡ trailOf b ⌝ }
     ensures { λ _. ⌜ b < 256 ⌝ }
@@ -656,19 +656,18 @@ fn trail_of(classes: &[u8; 512], b: u8) -> u8
     classes[i]
 }
 
-// Whether the two bytes at a position share a bit, and so are a character.
-fn shares_bit(classes: &[u8; 512], s: &[u8], i: usize) -> bool
+// Whether the two bytes at a position share a bit, and so are a character; v: what the first may begin.
+fn shares_bit(classes: &[u16; 512], s: &[u8], i: usize, v: u16) -> bool
     requires { ⌜ Classes (now classes) ⌝ }
-    requires { ⌜ i < length (now s) ⌝ }
+    requires { ⌜ FirstAt (now s) i v ⌝ }
     ensures { λ r. ⌜ r ≡ pairAt (now (s .entry)) i ⌝ }
 {
     let next = i + 1;
     if s.len() <= next {
         return false;
     }
-    let lead = lead_of(classes, s[i]);
     let trail = trail_of(classes, s[next]);
-    lead & trail != 0
+    v & trail != 0
 }
 
 // The same by row and cell.
@@ -683,13 +682,6 @@ fn pair_at(s: &[u8], i: usize) -> bool
     is_pair(s[i], s[next])
 }
 
-// The bytes 2Dh to 7Eh, each a character and no comma: most bytes of a line that are not of a pair are told by this test alone.
-fn plain(b: u8) -> bool
-    ensures { λ r. ⌜ r ≡ isWithin 0x2d 0x7e b ⌝ }
-{
-    (0x2d <= b) & (b <= 0x7e)
-}
-
 pub struct Scan {
     pub end: usize,
     pub good: bool,
@@ -699,7 +691,7 @@ pub struct Scan {
 // Where the first 0Dh, 0Ah or 1Ah from a position stands, or the end; whether all before it is characters; and how many of them are
 // commas, the first sixteen with their places from the position on. None of the three is a character or a trail, so a step over a
 // character never passes one, behind a bad byte too.
-pub fn scan_text(classes: &[u8; 512], stops: &mut [usize; 16], s: &[u8], at: usize) -> Scan
+pub fn scan_text(classes: &[u16; 512], stops: &mut [usize; 16], s: &[u8], at: usize) -> Scan
     requires { ⌜ Classes (now classes) ⌝ }
     requires { ⌜ Sixteen (now stops) ⌝ }
     ensures { λ r. ⌜ ScanOf (now (s .entry)) at (now (stops .exit)) r ⌝ }
@@ -709,12 +701,9 @@ pub fn scan_text(classes: &[u8; 512], stops: &mut [usize; 16], s: &[u8], at: usi
     let mut commas = 0;
     while i < s.len() {
         let b = s[i];
-        if plain(b) {
+        let v = first_of(classes, b);
+        if v == 0 {
             i += 1;
-            continue;
-        }
-        if shares_bit(classes, s, i) {
-            i += 2;
             continue;
         }
         if b == 0x2c {
@@ -726,22 +715,24 @@ pub fn scan_text(classes: &[u8; 512], stops: &mut [usize; 16], s: &[u8], at: usi
                 commas += 1;
                 i += 1;
             }
-        } else if is_one(b) {
-            i += 1;
+            continue;
+        }
+        if shares_bit(classes, s, i, v) {
+            i += 2;
+            continue;
+        }
+        if is_stop(b) {
+            return Scan {
+                end: i,
+                good,
+                commas,
+            };
+        }
+        if pair_at(s, i) {
+            i += 2;
         } else {
-            if is_stop(b) {
-                return Scan {
-                    end: i,
-                    good,
-                    commas,
-                };
-            }
-            if pair_at(s, i) {
-                i += 2;
-            } else {
-                good = false;
-                i += 1;
-            }
+            good = false;
+            i += 1;
         }
     }
     Scan {
@@ -764,7 +755,7 @@ pub enum Line {
 }
 
 // The line that begins at a position; stops: the places of its commas, from its beginning.
-pub fn line_at(classes: &[u8; 512], stops: &mut [usize; 16], s: &[u8], at: usize) -> Line
+pub fn line_at(classes: &[u16; 512], stops: &mut [usize; 16], s: &[u8], at: usize) -> Line
     requires { ⌜ Classes (now classes) ⌝ }
     requires { ⌜ Sixteen (now stops) ⌝ }
     ensures { λ r. ⌜ LineOf (now (s .entry)) at (now (stops .exit)) r ⌝ }

@@ -41,7 +41,7 @@ fn put_entry(
 
 // The entries of the records from behind line 1 on.
 fn fill_records(
-    classes: &[u8; 512],
+    classes: &[u16; 512],
     codes: &[usize; 83],
     stops: &mut [usize; 16],
     provider: bool,

@@ -70,7 +70,7 @@ pub fn step_line(
 // The records of a file from behind line 1 on. The next line is found before the state is moved: what a call has just stored is read back
 // slowly.
 fn check_records(
-    classes: &[u8; 512],
+    classes: &[u16; 512],
     codes: &[usize; 83],
     stops: &mut [usize; 16],
     provider: bool,

@@ -4,7 +4,7 @@ use lib.ListN.{length}
 use Rattle.lines.specs.Codes.{codes}
 use Rattle.lines.proofs.LineLaws.{lent}
 use Rattle.characters.specs.Cells.{isPair, allowed, fullRow, partRow}
-use Rattle.characters.specs.Classes.{classOf, leadOf, trailOf}
+use Rattle.characters.specs.Classes.{classOf, firstOf, leadOf, trailOf}
 use Rattle.characters.proofs.TextLaws.{classes-lent}
 use Rattle.notebook.proofs.ReadLaws.{line-1-behind}
 use Rattle.notebook.proofs.LineFacts.{line-size}
@@ -22,7 +22,7 @@ returns : tie.Need-returns
 returns c = search (needs, into-laws)
 
 line-at-requires : tie.Need-line-at-requires
-unfolding classOf leadOf trailOf isPair allowed fullRow partRow
+unfolding classOf firstOf leadOf trailOf isPair allowed fullRow partRow
 line-at-requires c κs = search (needs, into-laws, classes-lent)
 
 enum-told : tie.Need-enum-told
@@ -56,7 +56,7 @@ add-from : tie.Need-add-from
 add-from c = search (needs, into-laws)
 
 write-records-requires : tie.Need-write-records-requires
-unfolding codes classOf leadOf trailOf isPair allowed fullRow partRow
+unfolding codes classOf firstOf leadOf trailOf isPair allowed fullRow partRow
 write-records-requires c κs = (search (needs, classes-lent), (search (needs, lent), (search (needs, line-size), (search (needs, line-1-behind), search needs))))
 
 returns-3 : tie.Need-returns-3

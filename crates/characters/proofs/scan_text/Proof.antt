@@ -6,10 +6,9 @@ use Rattle.characters.proofs.scan_text.Statement.{statement}
 use Rattle.characters.proofs.scan_text.Tie as tie
 use Rattle.characters.proofs.scan_text.Reads as reads
 use Rattle.characters.proofs.scan_text.Lts as lts
-use Rattle.characters.proofs.is_one.Reads as is-one-reads
+use Rattle.characters.proofs.first_of.Reads as first-of-reads
 use Rattle.characters.proofs.is_stop.Reads as is-stop-reads
 use Rattle.characters.proofs.pair_at.Reads as pair-at-reads
-use Rattle.characters.proofs.plain.Reads as plain-reads
 use Rattle.characters.proofs.shares_bit.Reads as shares-bit-reads
 
 abbrev Inv-loop : tie.InvT-loop
@@ -24,8 +23,8 @@ loop-holds c = search (needs, scan-laws)
 shared-slice-read-b : tie.Need-shared-slice-read-b Inv-loop μ-loop
 shared-slice-read-b c = search (needs, scan-laws)
 
-plain-requires : tie.Need-plain-requires Inv-loop μ-loop
-plain-requires c κs = search (needs, scan-laws)
+first-of-requires : tie.Need-first-of-requires Inv-loop μ-loop
+first-of-requires c κs = search (needs, scan-laws)
 
 add-i : tie.Need-add-i Inv-loop μ-loop
 add-i c = search (needs, scan-laws)
@@ -35,18 +34,6 @@ loop-less c = search (needs, scan-laws)
 
 loop-again : tie.Need-loop-again Inv-loop μ-loop
 loop-again c = search (needs, scan-laws)
-
-shares-bit-requires : tie.Need-shares-bit-requires Inv-loop μ-loop
-shares-bit-requires c κs = search (needs, scan-laws)
-
-add-i-2 : tie.Need-add-i-2 Inv-loop μ-loop
-add-i-2 c = search (needs, scan-laws)
-
-loop-less-2 : tie.Need-loop-less-2 Inv-loop μ-loop
-loop-less-2 c = search (needs, scan-laws)
-
-loop-again-2 : tie.Need-loop-again-2 Inv-loop μ-loop
-loop-again-2 c = search (needs, scan-laws)
 
 sub-stops : tie.Need-sub-stops Inv-loop μ-loop
 sub-stops c = search (needs, scan-laws)
@@ -60,8 +47,20 @@ element-write-stops c = search (needs, scan-laws)
 add-commas : tie.Need-add-commas Inv-loop μ-loop
 add-commas c = search (needs, scan-laws)
 
+add-i-2 : tie.Need-add-i-2 Inv-loop μ-loop
+add-i-2 c = search (needs, scan-laws)
+
+add-commas-2 : tie.Need-add-commas-2 Inv-loop μ-loop
+add-commas-2 c = search (needs, scan-laws)
+
 add-i-3 : tie.Need-add-i-3 Inv-loop μ-loop
 add-i-3 c = search (needs, scan-laws)
+
+loop-less-2 : tie.Need-loop-less-2 Inv-loop μ-loop
+loop-less-2 c = search (needs, scan-laws)
+
+loop-again-2 : tie.Need-loop-again-2 Inv-loop μ-loop
+loop-again-2 c = search (needs, scan-laws)
 
 loop-less-3 : tie.Need-loop-less-3 Inv-loop μ-loop
 loop-less-3 c = search (needs, scan-laws)
@@ -69,8 +68,8 @@ loop-less-3 c = search (needs, scan-laws)
 loop-again-3 : tie.Need-loop-again-3 Inv-loop μ-loop
 loop-again-3 c = search (needs, scan-laws)
 
-add-commas-2 : tie.Need-add-commas-2 Inv-loop μ-loop
-add-commas-2 c = search (needs, scan-laws)
+shares-bit-requires : tie.Need-shares-bit-requires Inv-loop μ-loop
+shares-bit-requires c κs = search (needs, scan-laws)
 
 add-i-4 : tie.Need-add-i-4 Inv-loop μ-loop
 add-i-4 c = search (needs, scan-laws)
@@ -79,19 +78,9 @@ loop-less-4 : tie.Need-loop-less-4 Inv-loop μ-loop
 loop-less-4 c = search (needs, scan-laws)
 
 loop-again-4 : tie.Need-loop-again-4 Inv-loop μ-loop
-loop-again-4 c = search (needs, scan-laws)
-
-is-one-requires : tie.Need-is-one-requires Inv-loop μ-loop
-is-one-requires c κs = search (needs, scan-laws)
-
-add-i-5 : tie.Need-add-i-5 Inv-loop μ-loop
-add-i-5 c = search (needs, scan-laws)
-
-loop-less-5 : tie.Need-loop-less-5 Inv-loop μ-loop
-loop-less-5 c = search (needs, scan-laws)
-
-loop-again-5 : tie.Need-loop-again-5 Inv-loop μ-loop
-loop-again-5 c = search (needs, scan-laws)
+loop-again-4 c =
+    scan-two (c .before .before .before .before .before .before .before .loop .inv) (c .before .before .before .before .before .before .loop-test .taken)
+    (c .before .shares-bit .ensures) (c .if4 .taken)
 
 is-stop-requires : tie.Need-is-stop-requires Inv-loop μ-loop
 is-stop-requires c κs = search (needs, scan-laws)
@@ -102,6 +91,17 @@ returns c = search (needs, scan-laws)
 pair-at-requires : tie.Need-pair-at-requires Inv-loop μ-loop
 pair-at-requires c κs = search (needs, scan-laws)
 
+add-i-5 : tie.Need-add-i-5 Inv-loop μ-loop
+add-i-5 c = search (needs, scan-laws)
+
+loop-less-5 : tie.Need-loop-less-5 Inv-loop μ-loop
+loop-less-5 c = search (needs, scan-laws)
+
+loop-again-5 : tie.Need-loop-again-5 Inv-loop μ-loop
+loop-again-5 c =
+    scan-two (c .before .before .before .before .before .before .before .before .before .before .before .loop .inv) (c .before .before .before .before .before .before .before .before .before .before .loop-test .taken)
+    (c .before .pair-at .ensures) (c .if6 .taken)
+
 add-i-6 : tie.Need-add-i-6 Inv-loop μ-loop
 add-i-6 c = search (needs, scan-laws)
 
@@ -110,21 +110,10 @@ loop-less-6 c = search (needs, scan-laws)
 
 loop-again-6 : tie.Need-loop-again-6 Inv-loop μ-loop
 loop-again-6 c =
-    scan-two (c .before .before .before .before .before .before .before .before .before .before .before .before .before .loop .inv) (c .before .before .before .before .before .before .before .before .before .before .before .before .loop-test .taken)
-    (c .before .pair-at .ensures) (c .if7 .taken)
-
-add-i-7 : tie.Need-add-i-7 Inv-loop μ-loop
-add-i-7 c = search (needs, scan-laws)
-
-loop-less-7 : tie.Need-loop-less-7 Inv-loop μ-loop
-loop-less-7 c = search (needs, scan-laws)
-
-loop-again-7 : tie.Need-loop-again-7 Inv-loop μ-loop
-loop-again-7 c =
-    scan-bad (c .before .before .before .before .before .before .before .before .before .before .before .before .before .loop .inv) (c .before .before .before .before .before .before .before .before .before .before .before .before .loop-test .taken)
-    (c .before .pair-at .ensures) (c .if7 .left)
-    (c .before .before .before .before .before .is-one .ensures) (c .before .before .before .before .if5 .left)
-    (c .before .before .before .is-stop .ensures) (c .before .before .if6 .left)
+    scan-bad (c .before .before .before .before .before .before .before .before .before .before .before .loop .inv) (c .before .before .before .before .before .before .before .before .before .before .loop-test .taken)
+    (c .before .before .before .before .before .before .before .before .first-of .ensures .0) (c .before .before .before .before .before .before .before .if1 .left) (c .before .before .before .before .before .before .if2 .left)
+    (c .before .pair-at .ensures) (c .if6 .left)
+    (c .before .before .before .is-stop .ensures) (c .before .before .if5 .left)
 
 returns-2 : tie.Need-returns-2 Inv-loop μ-loop
 returns-2 c = search (needs, scan-laws)
@@ -137,36 +126,32 @@ scan-text-spec =
     μ-loop
     loop-holds
     shared-slice-read-b
-    plain-requires
+    first-of-requires
     add-i
     loop-less
     loop-again
-    shares-bit-requires
-    add-i-2
-    loop-less-2
-    loop-again-2
     sub-stops
     mul-stops
     element-write-stops
     add-commas
+    add-i-2
+    add-commas-2
     add-i-3
+    loop-less-2
+    loop-again-2
     loop-less-3
     loop-again-3
-    add-commas-2
+    shares-bit-requires
     add-i-4
     loop-less-4
     loop-again-4
-    is-one-requires
-    add-i-5
-    loop-less-5
-    loop-again-5
     is-stop-requires
     returns
     pair-at-requires
+    add-i-5
+    loop-less-5
+    loop-again-5
     add-i-6
     loop-less-6
     loop-again-6
-    add-i-7
-    loop-less-7
-    loop-again-7
     returns-2)

@@ -14,6 +14,9 @@ wide-requires c κs = search needs
 add-i : tie.Need-add-i
 add-i c = search needs
 
+mul-result : tie.Need-mul-result
+mul-result c = search needs
+
 element-copy-out-result : tie.Need-element-copy-out-result
 element-copy-out-result c = search needs
 
@@ -21,4 +24,4 @@ returns : tie.Need-returns
 returns c = search (needs, trail-at, byte-small)
 
 pub trail-of-spec : {M : Type 1} → statement M
-trail-of-spec = tie.close (tie.spec wide-requires add-i element-copy-out-result returns)
+trail-of-spec = tie.close (tie.spec wide-requires add-i mul-result element-copy-out-result returns)

@@ -7,7 +7,7 @@ use Rattle.notebook.proofs.LineFacts.{line-size}
 use Rattle.lines.specs.Codes.{codes}
 use Rattle.lines.proofs.LineLaws.{lent}
 use Rattle.characters.specs.Cells.{isPair, allowed, fullRow, partRow}
-use Rattle.characters.specs.Classes.{classOf, leadOf, trailOf}
+use Rattle.characters.specs.Classes.{classOf, firstOf, leadOf, trailOf}
 use Rattle.characters.proofs.TextLaws.{classes-lent}
 use Rattle.index.proofs.FileLaws.{fill-laws, fill-room}
 use Rattle.index.proofs.fill.Statement.{statement}
@@ -19,7 +19,7 @@ use Rattle.index.proofs.fill_records.Reads as fill-records-reads
 use Rattle.notebook.proofs.direction.Reads as direction-reads
 
 line-at-requires : tie.Need-line-at-requires
-unfolding classOf leadOf trailOf isPair allowed fullRow partRow
+unfolding classOf firstOf leadOf trailOf isPair allowed fullRow partRow
 line-at-requires c κs = search (needs, check-laws, fill-laws, lent, classes-lent)
 
 enum-told : tie.Need-enum-told
@@ -50,7 +50,7 @@ add-from : tie.Need-add-from
 add-from c = search (needs, check-laws, fill-laws, lent, classes-lent)
 
 fill-records-requires : tie.Need-fill-records-requires
-unfolding codes classOf leadOf trailOf isPair allowed fullRow partRow
+unfolding codes classOf firstOf leadOf trailOf isPair allowed fullRow partRow
 fill-records-requires c κs = (search (needs, classes-lent), (search (needs, lent), (search (needs, line-size), (search (needs, line-1-behind), search (needs, fill-room)))))
 
 returns : tie.Need-returns

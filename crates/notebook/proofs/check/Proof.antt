@@ -7,7 +7,7 @@ use Rattle.notebook.proofs.ReadLaws.{line-1-behind}
 use Rattle.lines.specs.Codes.{codes}
 use Rattle.lines.proofs.LineLaws.{lent}
 use Rattle.characters.specs.Cells.{isPair, allowed, fullRow, partRow}
-use Rattle.characters.specs.Classes.{classOf, leadOf, trailOf}
+use Rattle.characters.specs.Classes.{classOf, firstOf, leadOf, trailOf}
 use Rattle.characters.proofs.TextLaws.{classes-lent}
 use Rattle.notebook.proofs.check.Statement.{statement}
 use Rattle.notebook.proofs.check.Tie as tie
@@ -21,7 +21,7 @@ returns : tie.Need-returns
 returns c = search (needs, check-laws, lent, classes-lent)
 
 line-at-requires : tie.Need-line-at-requires
-unfolding classOf leadOf trailOf isPair allowed fullRow partRow
+unfolding classOf firstOf leadOf trailOf isPair allowed fullRow partRow
 line-at-requires c κs = search (needs, check-laws, lent, classes-lent)
 
 enum-told : tie.Need-enum-told
@@ -61,14 +61,14 @@ add-from : tie.Need-add-from
 add-from c = search (needs, check-laws, lent, classes-lent)
 
 check-records-requires : tie.Need-check-records-requires
-unfolding codes classOf leadOf trailOf isPair allowed fullRow partRow
+unfolding codes classOf firstOf leadOf trailOf isPair allowed fullRow partRow
 check-records-requires c κs = (search (needs, classes-lent), (search (needs, lent), (search (needs, line-size), search (needs, line-1-behind))))
 
 returns-5 : tie.Need-returns-5
 returns-5 c = search (needs, check-laws, lent, classes-lent)
 
 check-records-requires-2 : tie.Need-check-records-requires-2
-unfolding codes classOf leadOf trailOf isPair allowed fullRow partRow
+unfolding codes classOf firstOf leadOf trailOf isPair allowed fullRow partRow
 check-records-requires-2 c κs = (search (needs, classes-lent), (search (needs, lent), (search (needs, line-size), search (needs, line-1-behind))))
 
 returns-6 : tie.Need-returns-6
