@@ -1,6 +1,7 @@
 -- What the rules come to for each record number: `of-N` is the refusal of a record of number N, in the order in which the code asks; a
 -- number that stands nowhere is refused by its place (`of-other`). Each goes by the part of the pattern that the place is in; a place in
--- one part is in no other (`off`). Assumes nothing.
+-- one part is in no other (`isnt`, `off`). Numbers that are asked the same share a law over where they may stand (`headed`, `fronted`,
+-- `kept`, `in-the-rest`, `closes`). Assumes nothing.
 use Prim.Native.Nat.{ℕ, _+_}
 use mathlib.Core.Path.{_≡_, refl, ap, sym, _∙_}
 use mathlib.Core.Logic.{_⊎_, inl, inr}
@@ -26,6 +27,10 @@ among xs p = oneOf p xs
 abbrev holdsAmong : (ℕ → Bool) → List ℕ → Bool
 holdsAmong Q [] = false
 holdsAmong Q (x ∷ xs) = Q x || holdsAmong Q xs
+
+-- the places of inRp
+abbrev rp : List ℕ
+rp = 201 ∷ 281 ∷ 291 ∷ 301 ∷ 311 ∷ 391 ∷ []
 
 neither : (a b : Bool) → (a || b) ≡ false → (a ≡ false) × (b ≡ false)
 neither true b e = absurd (false≢true (sym e))
@@ -64,75 +69,74 @@ as-number : (s : State) (r : Facts) (n : ℕ) → r .number ≡ n → refusalOf 
 unfolding refusalOf
 as-number s r n e = rw e
 
+ruleset bools = (and-true, and-false, or-true, or-false)
+
 module _ (s : State) (r : Facts) where
+  -- where Q holds of the place, and not of k, it isn't k
+  isnt : (Q : ℕ → Bool) (k : ℕ) → Q k ≡ false → Q (s .place) ≡ true → eqb (s .place) k ≡ false
+  isnt Q k = differs Q (s .place) k
+
   -- where Q holds of the place, and of none of xs, it is none of xs
   off : (Q : ℕ → Bool) (xs : List ℕ) → holdsAmong Q xs ≡ false → Q (s .place) ≡ true → oneOf (s .place) xs ≡ false
-  off Q xs n t = beyond Q false (s .place) xs refl n t
+  off Q xs = beyond Q false (s .place) xs refl
 
-  off-rp : (Q : ℕ → Bool) → holdsAmong Q (201 ∷ 281 ∷ 291 ∷ 301 ∷ 311 ∷ 391 ∷ []) ≡ false → Q (s .place) ≡ true → inRp (s .place) ≡ false
-  off-rp Q n t = off Q (201 ∷ 281 ∷ 291 ∷ 301 ∷ 311 ∷ 391 ∷ []) n t
+  -- direction 2, and record 1 doesn't stand
+  abbrev no1 : Bool
+  no1 = not (s .provider) && eqb (s .place) 0
+
+  -- direction 1, and the place is in an RP without 301
+  abbrev no301 : Bool
+  no301 = s .provider && inRp (s .place) && not (s .had .had301)
+
+  -- What the rules come to where the number settles the rest: 13 for the place, which isn't behind a 51 in direction 1; then 14, then `good`.
+  abbrev settled : Bool → Bool → ℕ → ℕ
+  settled stray lacks good = cond (stray || s .provider && eqb (s .place) 51) 13 (cond lacks 14 good)
 
   -- ---- before the prescriptions
 
+  -- a record of the head, which may stand where Q holds
+  headed : (Q : ℕ → Bool) (lacks : Bool) → Q 51 ≡ false → holdsAmong Q rp ≡ false
+      → settled (not (Q (s .place))) (lacks || no301) 0 ≡ cond (Q (s .place)) (cond lacks 14 0) 13
+  headed Q lacks e n = by-bool (Q (s .place)) (λ h. simp (h, isnt Q 51 e h, off Q rp n h, bools)) (λ h. simp h)
+
   pub of-1 : r .number ≡ 1 → refusalOf s r ≡ cond (eqb (s .place) 0) 0 13
   unfolding refusal pairBroken misplaced mayFollow continues closesRp missing valueWrong newerGroup
-  of-1 q =
-      rw (as-number s r 1 q)
-      (by-bool (eqb (s .place) 0)
-      (λ h. simp (h, off (among (0 ∷ [])) (51 ∷ []) refl h, off-rp (among (0 ∷ [])) refl h, and-true, and-false, or-false))
-      (λ h. simp h))
+  of-1 q = rw (as-number s r 1 q) (simp bools (headed (among (0 ∷ [])) false refl refl))
 
-  pub of-2 : r .number ≡ 2 → refusalOf s r ≡ cond (oneOf (s .place) (0 ∷ 1 ∷ 2 ∷ [])) (cond (not (s .provider) && eqb (s .place) 0) 14 0) 13
+  pub of-2 : r .number ≡ 2 → refusalOf s r ≡ cond (oneOf (s .place) (0 ∷ 1 ∷ 2 ∷ [])) (cond no1 14 0) 13
   unfolding refusal pairBroken misplaced mayFollow continues closesRp missing valueWrong newerGroup
-  of-2 q =
-      rw (as-number s r 2 q)
-      (by-bool (oneOf (s .place) (0 ∷ 1 ∷ 2 ∷ []))
-      (λ h. simp (h, off (among (0 ∷ 1 ∷ 2 ∷ [])) (51 ∷ []) refl h, off-rp (among (0 ∷ 1 ∷ 2 ∷ [])) refl h, and-true, and-false, or-false))
-      (λ h. simp h))
+  of-2 q = rw (as-number s r 2 q) (simp bools (headed (among (0 ∷ 1 ∷ 2 ∷ [])) no1 refl refl))
 
-  pub of-3 : r .number ≡ 3 → refusalOf s r ≡ cond (oneOf (s .place) (0 ∷ 1 ∷ 2 ∷ 3 ∷ [])) (cond (not (s .provider) && eqb (s .place) 0) 14 0) 13
+  pub of-3 : r .number ≡ 3 → refusalOf s r ≡ cond (oneOf (s .place) (0 ∷ 1 ∷ 2 ∷ 3 ∷ [])) (cond no1 14 0) 13
   unfolding refusal pairBroken misplaced mayFollow continues closesRp missing valueWrong newerGroup
-  of-3 q =
-      rw (as-number s r 3 q)
-      (by-bool (oneOf (s .place) (0 ∷ 1 ∷ 2 ∷ 3 ∷ []))
-      (λ h. simp (h, off (among (0 ∷ 1 ∷ 2 ∷ 3 ∷ [])) (51 ∷ []) refl h, off-rp (among (0 ∷ 1 ∷ 2 ∷ 3 ∷ [])) refl h, and-true, and-false, or-false))
-      (λ h. simp h))
+  of-3 q = rw (as-number s r 3 q) (simp bools (headed (among (0 ∷ 1 ∷ 2 ∷ 3 ∷ [])) no1 refl refl))
 
-  pub of-4 : r .number ≡ 4 → refusalOf s r ≡ cond (oneOf (s .place) (0 ∷ 1 ∷ 2 ∷ 3 ∷ 4 ∷ [])) (cond (not (s .provider) && eqb (s .place) 0) 14 0) 13
+  pub of-4 : r .number ≡ 4 → refusalOf s r ≡ cond (inHead (s .place)) (cond no1 14 0) 13
   unfolding refusal pairBroken misplaced mayFollow continues closesRp missing valueWrong newerGroup
-  of-4 q =
-      rw (as-number s r 4 q)
-      (by-bool (oneOf (s .place) (0 ∷ 1 ∷ 2 ∷ 3 ∷ 4 ∷ []))
-      (λ h. simp (h, off (among (0 ∷ 1 ∷ 2 ∷ 3 ∷ 4 ∷ [])) (51 ∷ []) refl h, off-rp (among (0 ∷ 1 ∷ 2 ∷ 3 ∷ 4 ∷ [])) refl h, and-true, and-false, or-false))
-      (λ h. simp h))
+  of-4 q = rw (as-number s r 4 q) (simp bools (headed inHead no1 refl refl))
+
+  -- a record of the front behind a 5, which may stand where Q holds and it isn't barred
+  fronted : (Q : ℕ → Bool) (barred : Bool) → Q 0 ≡ false → Q 51 ≡ false → holdsAmong Q rp ≡ false
+      → settled (not (Q (s .place)) || barred) (no1 || no301) 0 ≡ cond (Q (s .place)) (cond barred 13 0) 13
+  fronted Q barred z e n =
+      by-bool (Q (s .place))
+      (λ h. simp (h, isnt Q 0 z h, isnt Q 51 e h, off Q rp n h, and-false, or-false barred))
+      (λ h. simp h)
 
   pub of-11 : r .number ≡ 11 → refusalOf s r ≡ cond (eqb (s .place) 5) 0 13
   unfolding refusal pairBroken misplaced mayFollow continues closesRp missing valueWrong newerGroup
-  of-11 q =
-      rw (as-number s r 11 q)
-      (by-bool (eqb (s .place) 5)
-      (λ h. let Q : ℕ → Bool = among (5 ∷ []) in
-      simp (h, off Q (0 ∷ []) refl h, off Q (51 ∷ []) refl h, off-rp (among (5 ∷ [])) refl h, and-true, and-false, or-false))
-      (λ h. simp h))
+  of-11 q = rw (as-number s r 11 q) (simp bools (simp bools at (fronted (among (5 ∷ [])) false refl refl refl)))
 
   pub of-15 : r .number ≡ 15 → refusalOf s r ≡ cond (oneOf (s .place) (5 ∷ 11 ∷ [])) 0 13
   unfolding refusal pairBroken misplaced mayFollow continues closesRp missing valueWrong newerGroup
-  of-15 q =
-      rw (as-number s r 15 q)
-      (by-bool (oneOf (s .place) (5 ∷ 11 ∷ []))
-      (λ h. let Q : ℕ → Bool = among (5 ∷ 11 ∷ []) in
-      simp (h, off Q (0 ∷ []) refl h, off Q (51 ∷ []) refl h, off-rp (among (5 ∷ 11 ∷ [])) refl h, and-true, and-false, or-false))
-      (λ h. simp h))
+  of-15 q = rw (as-number s r 15 q) (simp bools (simp bools at (fronted (among (5 ∷ 11 ∷ [])) false refl refl refl)))
 
   pub of-51 : r .number ≡ 51 → refusalOf s r ≡ cond (oneOf (s .place) (5 ∷ 11 ∷ 15 ∷ []))
       (cond (s .provider && oneOf (s .had .schedule) (1 ∷ 3 ∷ [])) 13 0) 13
   unfolding refusal pairBroken misplaced mayFollow continues closesRp missing valueWrong newerGroup
   of-51 q =
       rw (as-number s r 51 q)
-      (by-bool (oneOf (s .place) (5 ∷ 11 ∷ 15 ∷ []))
-      (λ h. let Q : ℕ → Bool = among (5 ∷ 11 ∷ 15 ∷ []) in
-      simp (h, off Q (0 ∷ []) refl h, off Q (51 ∷ []) refl h, off-rp (among (5 ∷ 11 ∷ 15 ∷ [])) refl h, and-true, and-false, or-true, or-false))
-      (λ h. simp h))
+      (simp bools (fronted (among (5 ∷ 11 ∷ 15 ∷ [])) (s .provider && oneOf (s .had .schedule) (1 ∷ 3 ∷ [])) refl refl refl))
 
   pub of-55 : r .number ≡ 55 → refusalOf s r ≡ cond (inRp (s .place))
       (cond (eqb (s .had .doctor) 0 || s .provider && oneOf (s .had .schedule) (1 ∷ 3 ∷ [])) 13
@@ -142,18 +146,16 @@ module _ (s : State) (r : Facts) where
   of-55 q =
       rw (as-number s r 55 q)
       (by-bool (inRp (s .place))
-      (λ h. simp (h, off inRp (0 ∷ []) refl h, off inRp (51 ∷ []) refl h, and-true, and-false, or-true, or-false))
+      (λ h. simp (h, isnt inRp 0 refl h, isnt inRp 51 refl h, bools))
       (λ g. by-bool (inFront (s .place))
-      (λ h. simp (g, h, off inFront (0 ∷ []) refl h, and-true, and-false, or-true, or-false))
-      (λ h. simp (g, h, and-true, and-false, or-true, or-false))))
+      (λ h. simp (g, h, isnt inFront 0 refl h, bools))
+      (λ h. simp (g, h, bools))))
 
   -- ---- a prescription
 
   pub of-201-on : r .number ≡ 201 → inDrugs (s .place) ≡ true → eqb (r .rp) (s .had .rp) ≡ true → refusalOf s r ≡ 0
   unfolding refusal pairBroken misplaced mayFollow continues closesRp missing valueWrong newerGroup
-  of-201-on q h e =
-      rw (as-number s r 201 q)
-      (simp (h, e, off inDrugs (0 ∷ []) refl h, and-false, or-true, or-false))
+  of-201-on q h e = rw (as-number s r 201 q) (simp (h, e, isnt inDrugs 0 refl h, bools))
 
   pub of-201-new : r .number ≡ 201 → (inDrugs (s .place) && eqb (r .rp) (s .had .rp)) ≡ false → refusalOf s r ≡ cond (inRp (s .place))
       (cond (s .provider && not (s .had .had301)) 14 (cond (not (eqb (r .rp) (s .had .rp + 1))) 15 0))
@@ -162,38 +164,30 @@ module _ (s : State) (r : Facts) where
   of-201-new q c =
       rw (as-number s r 201 q)
       (by-bool (inRp (s .place))
-      (λ h. simp (h, c, off inRp (0 ∷ []) refl h, and-true, and-false, or-true, or-false))
+      (λ h. simp (h, c, isnt inRp 0 refl h, bools))
       (λ g. by-bool (inFront (s .place) || eqb (s .place) 55)
-      (λ h. simp (g, h, c, off (λ p. inFront p || eqb p 55) (0 ∷ []) refl h, and-true, and-false, or-false))
-      (λ h. simp (g, h, and-true, and-false, or-false))))
+      (λ h. simp (g, h, c, isnt (λ p. inFront p || eqb p 55) 0 refl h, bools))
+      (λ h. simp (g, h, bools))))
 
   -- a record of the open RP but a 201; placed: it may stand here
   abbrev keptRp : Bool → ℕ
   keptRp placed = cond placed (cond (not (eqb (r .rp) (s .had .rp))) 15 0) 13
 
+  kept : (Q : ℕ → Bool) → Q 0 ≡ false → Q 51 ≡ false
+      → settled (not (Q (s .place))) no1 (cond (not (eqb (r .rp) (s .had .rp))) 15 0) ≡ keptRp (Q (s .place))
+  kept Q z e = by-bool (Q (s .place)) (λ h. simp (h, isnt Q 0 z h, isnt Q 51 e h, bools)) (λ h. simp h)
+
   pub of-281 : r .number ≡ 281 → refusalOf s r ≡ keptRp (oneOf (s .place) (201 ∷ 281 ∷ []))
   unfolding refusal pairBroken misplaced mayFollow continues closesRp missing valueWrong newerGroup
-  of-281 q =
-      rw (as-number s r 281 q)
-      (by-bool (oneOf (s .place) (201 ∷ 281 ∷ []))
-      (λ h. simp (h, off (among (201 ∷ 281 ∷ [])) (0 ∷ []) refl h, off (among (201 ∷ 281 ∷ [])) (51 ∷ []) refl h, and-true, and-false, or-false))
-      (λ h. simp (h)))
+  of-281 q = rw (as-number s r 281 q) (simp bools (kept (among (201 ∷ 281 ∷ [])) refl refl))
 
   pub of-291 : r .number ≡ 291 → refusalOf s r ≡ keptRp (inDrugs (s .place))
   unfolding refusal pairBroken misplaced mayFollow continues closesRp missing valueWrong newerGroup
-  of-291 q =
-      rw (as-number s r 291 q)
-      (by-bool (inDrugs (s .place))
-      (λ h. simp (h, off inDrugs (0 ∷ []) refl h, off inDrugs (51 ∷ []) refl h, and-true, and-false, or-false))
-      (λ h. simp (h)))
+  of-291 q = rw (as-number s r 291 q) (simp bools (kept inDrugs refl refl))
 
   pub of-301-named : r .number ≡ 301 → r .named ≡ true → refusalOf s r ≡ keptRp (inDrugs (s .place))
   unfolding refusal pairBroken misplaced mayFollow continues closesRp missing valueWrong newerGroup
-  of-301-named q e =
-      rw (as-number s r 301 q)
-      (by-bool (inDrugs (s .place))
-      (λ h. simp (h, e, off inDrugs (0 ∷ []) refl h, off inDrugs (51 ∷ []) refl h, and-true, and-false, or-false))
-      (λ h. simp (e, h)))
+  of-301-named q e = rw (as-number s r 301 q) (simp (e, bools) (kept inDrugs refl refl))
 
   -- whether a 301 has to have a usage name
   abbrev pub namedHere : Bool
@@ -201,33 +195,19 @@ module _ (s : State) (r : Facts) where
 
   pub of-301-unnamed : r .number ≡ 301 → r .named ≡ false → namedHere ≡ true → refusalOf s r ≡ 12
   unfolding refusal pairBroken misplaced mayFollow continues closesRp missing valueWrong newerGroup
-  of-301-unnamed q e g =
-      rw (as-number s r 301 q)
-      (simp (e, g))
+  of-301-unnamed q e g = rw (as-number s r 301 q) (simp (e, g))
 
   pub of-301-free : r .number ≡ 301 → r .named ≡ false → namedHere ≡ false → refusalOf s r ≡ keptRp (inDrugs (s .place))
   unfolding refusal pairBroken misplaced mayFollow continues closesRp missing valueWrong newerGroup
-  of-301-free q e g =
-      rw (as-number s r 301 q)
-      (by-bool (inDrugs (s .place))
-      (λ h. simp (h, e, g, off inDrugs (0 ∷ []) refl h, off inDrugs (51 ∷ []) refl h, and-true, and-false, or-false))
-      (λ h. simp (e, g, h)))
+  of-301-free q e g = rw (as-number s r 301 q) (simp (e, g, bools) (kept inDrugs refl refl))
 
   pub of-311 : r .number ≡ 311 → refusalOf s r ≡ keptRp (oneOf (s .place) (301 ∷ 311 ∷ []))
   unfolding refusal pairBroken misplaced mayFollow continues closesRp missing valueWrong newerGroup
-  of-311 q =
-      rw (as-number s r 311 q)
-      (by-bool (oneOf (s .place) (301 ∷ 311 ∷ []))
-      (λ h. simp (h, off (among (301 ∷ 311 ∷ [])) (0 ∷ []) refl h, off (among (301 ∷ 311 ∷ [])) (51 ∷ []) refl h, and-true, and-false, or-false))
-      (λ h. simp (h)))
+  of-311 q = rw (as-number s r 311 q) (simp bools (kept (among (301 ∷ 311 ∷ [])) refl refl))
 
   pub of-391 : r .number ≡ 391 → refusalOf s r ≡ keptRp (inRp (s .place))
   unfolding refusal pairBroken misplaced mayFollow continues closesRp missing valueWrong newerGroup
-  of-391 q =
-      rw (as-number s r 391 q)
-      (by-bool (inRp (s .place))
-      (λ h. simp (h, off inRp (0 ∷ []) refl h, off inRp (51 ∷ []) refl h, and-true, and-false, or-false))
-      (λ h. simp (h)))
+  of-391 q = rw (as-number s r 391 q) (simp bools (kept inRp refl refl))
 
   -- ---- behind the prescriptions
 
@@ -236,108 +216,73 @@ module _ (s : State) (r : Facts) where
   inTheRest behind = cond (inRp (s .place)) (cond (s .provider && not (s .had .had301)) 14 0) (cond (inFront (s .place))
       (cond (s .provider && eqb (s .place) 51) 13 0) (cond behind 0 13))
 
+  in-the-rest : (Q : ℕ → Bool) → Q 0 ≡ false
+      → settled (not (inFront (s .place) || inRp (s .place) || Q (s .place))) (no1 || no301) 0 ≡ inTheRest (Q (s .place))
+  in-the-rest Q z =
+      by-bool (inRp (s .place))
+      (λ h. simp (h, isnt inRp 0 refl h, isnt inRp 51 refl h, bools))
+      (λ g. by-bool (inFront (s .place))
+      (λ h. simp (g, h, isnt inFront 0 refl h, bools))
+      (λ f. let m = neither (oneOf (s .place) (5 ∷ 11 ∷ 15 ∷ [])) (eqb (s .place) 51) f in
+      by-bool (Q (s .place)) (λ h. simp (g, m .0, m .1, h, isnt Q 0 z h, bools)) (λ h. simp (g, f, h))))
+
   pub of-401 : r .number ≡ 401 → refusalOf s r ≡ cond (s .provider && eqb (s .had .rp) 0) 13 (inTheRest (oneOf (s .place) (401 ∷ [])))
   unfolding refusal pairBroken misplaced mayFollow continues closesRp missing valueWrong newerGroup
   of-401 q =
       rw (as-number s r 401 q)
       (by-bool (s .provider && eqb (s .had .rp) 0)
-      (λ z. simp (z, and-true, or-true))
-      (λ z. by-bool (inRp (s .place))
-      (λ h. simp (h, z, off inRp (0 ∷ []) refl h, off inRp (51 ∷ []) refl h, and-true, and-false, or-true, or-false))
-      (λ g. by-bool (inFront (s .place))
-      (λ h. simp (g, h, z, off inFront (0 ∷ []) refl h, and-true, and-false, or-false))
-      (λ f. by-bool (oneOf (s .place) (401 ∷ []))
-      (λ h. let Q : ℕ → Bool = among (401 ∷ []) in
-      let o : (k : ℕ) → Q k ≡ false → eqb (s .place) k ≡ false = λ k e. differs Q (s .place) k e h in
-      simp (g, h, z, o 0 refl, o 5 refl, o 11 refl, o 15 refl, o 51 refl, and-true, and-false, or-false))
-      (λ h. simp (g, f, h, z, and-true, and-false, or-false))))))
+      (λ z. simp (z, bools))
+      (λ z. simp (z, bools) (in-the-rest (among (401 ∷ [])) refl)))
 
   pub of-411 : r .number ≡ 411 → refusalOf s r ≡ inTheRest (oneOf (s .place) (401 ∷ 411 ∷ []))
   unfolding refusal pairBroken misplaced mayFollow continues closesRp missing valueWrong newerGroup
-  of-411 q =
-      rw (as-number s r 411 q)
-      (by-bool (inRp (s .place))
-      (λ h. simp (h, off inRp (0 ∷ []) refl h, off inRp (51 ∷ []) refl h, and-true, and-false, or-true, or-false))
-      (λ g. by-bool (inFront (s .place))
-      (λ h. simp (g, h, off inFront (0 ∷ []) refl h, and-true, and-false, or-false))
-      (λ f. by-bool (oneOf (s .place) (401 ∷ 411 ∷ []))
-      (λ h. let Q : ℕ → Bool = among (401 ∷ 411 ∷ []) in
-      let o : (k : ℕ) → Q k ≡ false → eqb (s .place) k ≡ false = λ k e. differs Q (s .place) k e h in
-      simp (g, h, o 0 refl, o 5 refl, o 11 refl, o 15 refl, o 51 refl, and-true, and-false, or-false))
-      (λ h. simp (g, f, h, and-true, and-false, or-false)))))
+  of-411 q = rw (as-number s r 411 q) (simp bools (in-the-rest (among (401 ∷ 411 ∷ [])) refl))
 
   pub of-501 : r .number ≡ 501 → refusalOf s r ≡ inTheRest (oneOf (s .place) (401 ∷ 411 ∷ 501 ∷ []))
   unfolding refusal pairBroken misplaced mayFollow continues closesRp missing valueWrong newerGroup
-  of-501 q =
-      rw (as-number s r 501 q)
-      (by-bool (inRp (s .place))
-      (λ h. simp (h, off inRp (0 ∷ []) refl h, off inRp (51 ∷ []) refl h, and-true, and-false, or-true, or-false))
-      (λ g. by-bool (inFront (s .place))
-      (λ h. simp (g, h, off inFront (0 ∷ []) refl h, and-true, and-false, or-false))
-      (λ f. by-bool (oneOf (s .place) (401 ∷ 411 ∷ 501 ∷ []))
-      (λ h. let Q : ℕ → Bool = among (401 ∷ 411 ∷ 501 ∷ []) in
-      let o : (k : ℕ) → Q k ≡ false → eqb (s .place) k ≡ false = λ k e. differs Q (s .place) k e h in
-      simp (g, h, o 0 refl, o 5 refl, o 11 refl, o 15 refl, o 51 refl, and-true, and-false, or-false))
-      (λ h. simp (g, f, h, and-true, and-false, or-false)))))
+  of-501 q = rw (as-number s r 501 q) (simp bools (in-the-rest (among (401 ∷ 411 ∷ 501 ∷ [])) refl))
 
-  pub of-601 : r .number ≡ 601 → refusalOf s r ≡ inTheRest (oneOf (s .place) (401 ∷ 411 ∷ 501 ∷ 601 ∷ []))
+  pub of-601 : r .number ≡ 601 → refusalOf s r ≡ inTheRest (inRest (s .place))
   unfolding refusal pairBroken misplaced mayFollow continues closesRp missing valueWrong newerGroup
-  of-601 q =
-      rw (as-number s r 601 q)
-      (by-bool (inRp (s .place))
-      (λ h. simp (h, off inRp (0 ∷ []) refl h, off inRp (51 ∷ []) refl h, and-true, and-false, or-true, or-false))
-      (λ g. by-bool (inFront (s .place))
-      (λ h. simp (g, h, off inFront (0 ∷ []) refl h, and-true, and-false, or-false))
-      (λ f. by-bool (oneOf (s .place) (401 ∷ 411 ∷ 501 ∷ 601 ∷ []))
-      (λ h. let Q : ℕ → Bool = among (401 ∷ 411 ∷ 501 ∷ 601 ∷ []) in
-      let o : (k : ℕ) → Q k ≡ false → eqb (s .place) k ≡ false = λ k e. differs Q (s .place) k e h in
-      simp (g, h, o 0 refl, o 5 refl, o 11 refl, o 15 refl, o 51 refl, and-true, and-false, or-false))
-      (λ h. simp (g, f, h, and-true, and-false, or-false)))))
+  of-601 q = rw (as-number s r 601 q) (simp bools (in-the-rest inRest refl))
 
   -- ---- what closes a group
 
-  pub of-5 : r .number ≡ 5 → refusalOf s r ≡ cond (inRp (s .place))
-      (cond (s .provider && not (s .had .had301) || s .provider && lacking (beforeOf s)) 14
-      (cond (not (eqb (s .groups) 0) && ltb (s .day) (r .day)) 16 0)) (cond (inFront (s .place) || inRest (s .place))
-      (cond (s .provider && eqb (s .place) 51) 13 (cond (s .provider && lacking (beforeOf s)) 14
-      (cond (not (eqb (s .groups) 0) && ltb (s .day) (r .day)) 16 0))) (cond (inHead (s .place))
-      (cond (not (s .provider) && eqb (s .place) 0) 14 (cond (not (eqb (s .groups) 0) && ltb (s .day) (r .day)) 16 0)) 13))
-  unfolding refusal pairBroken misplaced mayFollow continues closesRp missing valueWrong newerGroup inGroup
-  of-5 q =
-      rw (as-number s r 5 q)
-      (by-bool (inRp (s .place))
-      (λ h. simp (h, off inRp (0 ∷ []) refl h, off inRp (51 ∷ []) refl h, and-true, and-false, or-true, or-false))
-      (λ g. by-bool (inFront (s .place) || inRest (s .place))
-      (λ h. let Q : ℕ → Bool = λ p. inFront p || inRest p in
-      let o : (k : ℕ) → Q k ≡ false → eqb (s .place) k ≡ false = λ k e. differs Q (s .place) k e h in
-      simp (g, h, o 1 refl, o 2 refl, o 3 refl, o 4 refl, o 0 refl, o 55 refl, and-true, and-false, or-true, or-false))
-      (λ f. by-bool (inHead (s .place))
-      (λ h. let Q : ℕ → Bool = inHead in
-      let o : (k : ℕ) → Q k ≡ false → eqb (s .place) k ≡ false = λ k e. differs Q (s .place) k e h in
-      simp (g, h, o 51 refl, o 55 refl, o 5 refl, o 11 refl, o 15 refl, off Q (401 ∷ 411 ∷ 501 ∷ 601 ∷ []) refl h, and-true, and-false, or-true, or-false))
-      (λ h. simp (g, f, h, and-true, and-false, or-true, or-false)))))
+  -- a record that closes the RP and the group before it, or stands outside of groups; `lacks` adds to what may be missing
+  abbrev closing : Bool → (Bool → Bool) → ℕ → ℕ
+  closing outside lacks good = cond (inRp (s .place))
+      (cond (lacks (s .provider && not (s .had .had301) || s .provider && lacking (beforeOf s))) 14 good)
+      (cond (inFront (s .place) || inRest (s .place))
+      (cond (s .provider && eqb (s .place) 51) 13 (cond (lacks (s .provider && lacking (beforeOf s))) 14 good))
+      (cond outside (cond (lacks no1) 14 good) 13))
 
-  pub of-701 : r .number ≡ 701 → refusalOf s r ≡ cond (inRp (s .place))
-      (cond (s .provider && not (s .had .had301) || s .provider && lacking (beforeOf s) || s .provider && eqb (s .groups) 0) 14 (0))
-      (cond (inFront (s .place) || inRest (s .place)) (cond (s .provider && eqb (s .place) 51) 13
-      (cond (s .provider && lacking (beforeOf s) || s .provider && eqb (s .groups) 0) 14 (0)))
-      (cond (inHead (s .place) || eqb (s .place) 701)
-      (cond (not (s .provider) && eqb (s .place) 0 || s .provider && eqb (s .groups) 0) 14 (0)) 13))
-  unfolding refusal pairBroken misplaced mayFollow continues closesRp missing valueWrong newerGroup inGroup
-  of-701 q =
-      rw (as-number s r 701 q)
-      (by-bool (inRp (s .place))
-      (λ h. simp (h, off inRp (0 ∷ []) refl h, off inRp (51 ∷ []) refl h, and-true, and-false, or-true, or-false))
+  -- such a record, which may stand in a group, in the head or after xs
+  closes : (xs : List ℕ) (lacks : Bool → Bool) (good : ℕ) → orOneOf true (s .place) xs ≡ true → orOneOf (inHead 55) 55 xs ≡ false
+      → settled (not (orOneOf (inHead (s .place) || inFront (s .place) || inRp (s .place) || inRest (s .place)) (s .place) xs))
+      (lacks (no1 || no301 || s .provider && inGroup (s .place) && lacking (beforeOf s))) good
+      ≡ closing (orOneOf (inHead (s .place)) (s .place) xs) lacks good
+  unfolding inGroup
+  closes xs lacks good u w =
+      by-bool (inRp (s .place))
+      (λ h. simp (h, u, isnt inRp 0 refl h, isnt inRp 51 refl h, bools))
       (λ g. by-bool (inFront (s .place) || inRest (s .place))
       (λ h. let Q : ℕ → Bool = λ p. inFront p || inRest p in
-      let o : (k : ℕ) → Q k ≡ false → eqb (s .place) k ≡ false = λ k e. differs Q (s .place) k e h in
-      simp (g, h, o 1 refl, o 2 refl, o 3 refl, o 4 refl, o 0 refl, o 55 refl, o 701 refl, and-true, and-false, or-true, or-false))
-      (λ f. by-bool (inHead (s .place) || eqb (s .place) 701)
-      (λ h. let Q : ℕ → Bool = λ p. inHead p || eqb p 701 in
-      let o : (k : ℕ) → Q k ≡ false → eqb (s .place) k ≡ false = λ k e. differs Q (s .place) k e h in
-      simp (g, h, o 51 refl, o 55 refl, o 5 refl, o 11 refl, o 15 refl, off Q (401 ∷ 411 ∷ 501 ∷ 601 ∷ []) refl h, and-true, and-false, or-true, or-false))
-      (λ h. let n = neither (inFront (s .place)) (inRest (s .place)) f in let m = neither (inHead (s .place)) (eqb (s .place) 701) h in
-      simp (g, n .0, n .1, m .0, m .1)))))
+      simp (g, h, u, isnt Q 0 refl h, off Q (1 ∷ 2 ∷ 3 ∷ 4 ∷ []) refl h, isnt Q 55 refl h, bools))
+      (λ f. let n = neither (inFront (s .place)) (inRest (s .place)) f in
+      let m = neither (oneOf (s .place) (5 ∷ 11 ∷ 15 ∷ [])) (eqb (s .place) 51) (n .0) in
+      by-bool (orOneOf (inHead (s .place)) (s .place) xs)
+      (λ h. simp (g, m .0, m .1, n .1, h, isnt (λ p. orOneOf (inHead p) p xs) 55 w h, bools))
+      (λ h. simp (g, m .0, m .1, n .1, h, bools))))
+
+  pub of-5 : r .number ≡ 5
+      → refusalOf s r ≡ closing (inHead (s .place)) (λ b. b) (cond (not (eqb (s .groups) 0) && ltb (s .day) (r .day)) 16 0)
+  unfolding refusal pairBroken misplaced mayFollow continues closesRp missing valueWrong newerGroup
+  of-5 q = rw (as-number s r 5 q) (simp bools (closes [] (λ b. b) (cond (not (eqb (s .groups) 0) && ltb (s .day) (r .day)) 16 0) refl refl))
+
+  pub of-701 : r .number ≡ 701
+      → refusalOf s r ≡ closing (inHead (s .place) || eqb (s .place) 701) (λ b. b || s .provider && eqb (s .groups) 0) 0
+  unfolding refusal pairBroken misplaced mayFollow continues closesRp missing valueWrong newerGroup
+  of-701 q = rw (as-number s r 701 q) (simp bools (closes (701 ∷ []) (λ b. b || s .provider && eqb (s .groups) 0) 0 refl refl))
 
 pub of-other : (s : State) (r : Facts) → mayFollow (s .place) (r .number) ≡ false → eqb (r .number) 301 ≡ false → refusalOf s r ≡ 13
 unfolding refusalOf refusal pairBroken misplaced

@@ -8,7 +8,8 @@ use Rattle.order.specs.Run.{ended, onward, runOf}
 use Rattle.order.specs.Examples.{holds, cases, doctors, twoGroups, theirDoctors}
 
 pub cases-hold : holds cases ≡ true
-unfolding inGroup mayFollow pairBroken misplaced continues closesRp lacking missing valueWrong newerGroup refusal unfinished none start hadAfter advance refusalOf stepOf finishOf ended onward runOf
+unfolding inGroup mayFollow pairBroken misplaced continues closesRp lacking missing valueWrong newerGroup refusal unfinished
+    none start hadAfter advance refusalOf stepOf finishOf ended onward runOf
 cases-hold = refl
 
 pub doctors-hold : doctors (start false) twoGroups ≡ theirDoctors

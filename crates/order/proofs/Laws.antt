@@ -193,7 +193,8 @@ past (here e f) = omega arith
 past (there h) = omega (arith, past h)
 
 -- what holds of 0, of the doctor now and of each 55 to come holds of the doctor behind them
-pub doctor-after : (P : ℕ → Type 0) (rs : List Facts) (s : State) → P 0 → P (s .had .doctor) → ((d : ℕ) → LineOf55 d (s .line) rs → P d) → P (after s rs .had .doctor)
+pub doctor-after : (P : ℕ → Type 0) (rs : List Facts) (s : State) → P 0 → P (s .had .doctor)
+    → ((d : ℕ) → LineOf55 d (s .line) rs → P d) → P (after s rs .had .doctor)
 unfolding after advance hadAfter
 doctor-after P [] s z p f = p
 doctor-after P (r ∷ rs) s z p f =
@@ -203,7 +204,8 @@ doctor-after P (r ∷ rs) s z p f =
 
 -- a doctor never reaches into the next group: behind a 5, whatever records rs follow, the doctor handed to a record q is none or the line
 -- of a 55 among rs
-pub never-into-next : (s : State) (r : Facts) (rs : List Facts) (q : Facts) → r .number ≡ 5 → (doctorOf (after (advance s r) rs) q ≡ 0) ⊎ LineOf55 (doctorOf (after (advance s r) rs) q) (s .line + 1) rs
+pub never-into-next : (s : State) (r : Facts) (rs : List Facts) (q : Facts) → r .number ≡ 5
+    → (doctorOf (after (advance s r) rs) q ≡ 0) ⊎ LineOf55 (doctorOf (after (advance s r) rs) q) (s .line + 1) rs
 unfolding advance doctorOf
 never-into-next s r rs q e =
     let P : ℕ → Type 0 = λ d. (d ≡ 0) ⊎ LineOf55 d (s .line + 1) rs in
