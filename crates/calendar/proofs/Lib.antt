@@ -1,3 +1,4 @@
 pub mod Steps
 pub mod Eras
 pub mod Laws
+pub mod EraForm

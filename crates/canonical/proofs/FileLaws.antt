@@ -4,10 +4,11 @@ use Prim.Native.Nat.{ℕ, _+_, _-_, _≤_}
 use native.Mathlib.Omega.{arith}
 use mathlib.Core.Path.{_≡_, refl, sym, ap, _∙_, subst}
 use mathlib.Core.Bool.{Bool, true, false, cond}
+use mathlib.Core.Logic.{⊎-elim}
 use mathlib.Core.List.{List, [], _++_, append-assoc}
 use borrow.Author.Tests.{eq-eqb, ne-eqb}
 use mir.Val.{Fits}
-use mir.Syntax.{w32}
+use mir.Syntax.{w32, w64}
 use lib.Dec.{eqb}
 use lib.ListN.{length, take, drop, length-append}
 use lib.Seq.{sets, length-sets, drop-drop, drop-at}
@@ -29,13 +30,17 @@ use Rattle.buffers.proofs.Runs.{sets-append}
 use Rattle.notebook.specs.Notebook.{stepLine, prepend, closed, onward, recordsFrom}
 use Rattle.notebook.specs.Check.{Behind, Closing}
 use Rattle.notebook.proofs.StepLaws.{Placed, placed, place-number}
-use Rattle.notebook.proofs.LineFacts.{line-facts, whole-line, whole-length, records-end, records-mark, records-broken, records-on}
+use Rattle.notebook.specs.declared.Turn.{Turn}
+use Rattle.notebook.specs.declared.Turn.the-variants.{Over, Refused as TurnRefused, On as TurnOn}
+use Rattle.notebook.specs.Turns.{StepAt, RefusedAt, broken, faulty, TurnOf}
+use Rattle.notebook.proofs.TurnLaws.{turn-facts, turn-over, turn-refused, turn-step, turn-fits}
+use Rattle.notebook.proofs.LineFacts.{whole-line, whole-length, records-end, records-mark, records-broken, records-on}
 use Rattle.canonical.specs.declared.Canonical.{Canonical}
 use Rattle.canonical.specs.declared.Canonical.the-variants.{Written, Refused}
 use Rattle.canonical.specs.Canonical.{recordRow, recordRows}
 use Rattle.canonical.specs.declared.Run.{Run}
 use Rattle.canonical.specs.Writing.{ahead, reach, Ready, Passed, Sound, Ended, Output, poured, PouredMeans, Poured, closing, Finished}
-use Rattle.canonical.proofs.PartLaws.{part-length}
+use Rattle.lists.proofs.Parts.{part-length}
 
 -- ---- the end
 
@@ -63,12 +68,12 @@ pour-record d at r (ok rs) =
     let l : at + length (recordRow r ++ flat (recordRows rs)) ≡ at + length (recordRow r) + length (flat (recordRows rs)) = omega (arith, length-append (recordRow r) (flat (recordRows rs))) in
     cc
 
-pour-end : (d : List ℕ) (st : State) (at : ℕ) {r : Canonical} → at ≤ 65536 → r ≡ closing st at → PouredMeans (poured d at (closed st)) d r
+pour-end : (d : List ℕ) (st : State) (at : ℕ) {r : Canonical} → at ≤ 65536 → at ≤ length d → r ≡ closing st at → PouredMeans (poured d at (closed st)) d r
 unfolding poured closed closing recordRows
-pour-end d st at h e = subst (λ (r : Canonical). PouredMeans (poured d at (closed st)) d r) (sym e) (go (eqb (finishOf st) 0))
+pour-end d st at h i e = subst (λ (r : Canonical). PouredMeans (poured d at (closed st)) d r) (sym e) (go (eqb (finishOf st) 0))
   where
     go : (b : Bool) → PouredMeans (poured d at (cond b (ok []) (refused (finishOf st) (st .line + 1)))) d (cond b (Written at) (Refused (finishOf st) (st .line + 1)))
-    go true = (ap (λ (n : ℕ). ok (record { buffer = d; end = n })) (omega arith), h)
+    go true = (ap (λ (n : ℕ). ok (record { buffer = d; end = n })) (omega arith), h, i)
     go false = refl
 
 -- ---- one line
@@ -99,7 +104,7 @@ line-ended {s} {at} {e} w =
 pub record Pouring (provider : Bool) (s : List ℕ) (from : ℕ) (d : List ℕ) (st : State) (at : ℕ) (d′ : List ℕ) (next : ℕ) : Type 0 where
   pub left : poured d from (recordsFrom (start provider) (rows (drop from s))) ≡ poured d′ next (recordsFrom st (rows (drop at s)))
   pub size : length d′ ≡ length d
-  pub full : length d ≡ 65536
+  pub full : length s ≤ length d
   pub behind : next ≤ at
   pub room : Countable st
   pub low : 1 ≤ st .line
@@ -107,7 +112,7 @@ pub record Pouring (provider : Bool) (s : List ℕ) (from : ℕ) (d : List ℕ) 
   pub high : at ≤ length s
   pub small : length s ≤ 65536
 
-pouring-start : (provider : Bool) (s : List ℕ) (from : ℕ) (d : List ℕ) {st : State} → Behind s from → length d ≡ 65536 → st ≡ start provider
+pouring-start : (provider : Bool) (s : List ℕ) (from : ℕ) (d : List ℕ) {st : State} → Behind s from → length s ≤ length d → st ≡ start provider
     → Pouring provider s from d st from d from
 pouring-start provider s from d b z e =
     subst (λ (x : State). Pouring provider s from d x from d from) (sym e) (record {
@@ -129,35 +134,38 @@ module _ {provider : Bool} {s : List ℕ} {from : ℕ} {d : List ℕ} {st : Stat
   pouring-end : next ≤ 65536
   pouring-end = omega (arith, v .behind, v .high, v .small)
 
+  pouring-inside : next ≤ length d′
+  pouring-inside = omega (arith, v .behind, v .high, v .full, v .size)
+
   pouring-fits : Fits w32 (st .line + 1)
   pouring-fits = omega (arith, v .line, v .high, v .small)
 
   -- the answer, if what is left answers it
-  answer : {r : Canonical} → PouredMeans (poured d′ next (recordsFrom st (rows (drop at s)))) d′ r → Poured (poured d from (recordsFrom (start provider) (rows (drop from s)))) d′ r
-  answer {r} m = record { means = subst (λ (x : Res Output). PouredMeans x d′ r) (sym (v .left)) m; size = v .size ∙ v .full }
+  answer : {r : Canonical} → PouredMeans (poured d′ next (recordsFrom st (rows (drop at s)))) d′ r → Poured (length d) (poured d from (recordsFrom (start provider) (rows (drop from s)))) d′ r
+  answer {r} m = record { means = subst (λ (x : Res Output). PouredMeans x d′ r) (sym (v .left)) m; size = v .size }
 
   module _ {stops : List ℕ} {k : Line} (w : LineOf s at stops k) where
-    ends : {r : Canonical} → recordsFrom st (rows (drop at s)) ≡ closed st → r ≡ closing st next → Poured (poured d from (recordsFrom (start provider) (rows (drop from s)))) d′ r
-    ends {r} q e = answer (subst (λ (x : Res (List Record)). PouredMeans (poured d′ next x) d′ r) (sym q) (pour-end d′ st next pouring-end e))
+    ends : {r : Canonical} → recordsFrom st (rows (drop at s)) ≡ closed st → r ≡ closing st next → Poured (length d) (poured d from (recordsFrom (start provider) (rows (drop from s)))) d′ r
+    ends {r} q e = answer (subst (λ (x : Res (List Record)). PouredMeans (poured d′ next x) d′ r) (sym q) (pour-end d′ st next pouring-end pouring-inside e))
 
-    poured-end : {r : Canonical} → k ≡ End → r ≡ closing st next → Poured (poured d from (recordsFrom (start provider) (rows (drop from s)))) d′ r
+    poured-end : {r : Canonical} → k ≡ End → r ≡ closing st next → Poured (length d) (poured d from (recordsFrom (start provider) (rows (drop from s)))) d′ r
     poured-end e q = ends (records-end w st e) q
 
-    poured-mark : {r : Canonical} → k ≡ Mark → r ≡ closing st next → Poured (poured d from (recordsFrom (start provider) (rows (drop from s)))) d′ r
+    poured-mark : {r : Canonical} → k ≡ Mark → r ≡ closing st next → Poured (length d) (poured d from (recordsFrom (start provider) (rows (drop from s)))) d′ r
     poured-mark e q = ends (records-mark w st e) q
 
-    refusal : {n : ℕ} → recordsFrom st (rows (drop at s)) ≡ refused n (st .line + 1) → Poured (poured d from (recordsFrom (start provider) (rows (drop from s)))) d′ (Refused n (st .line + 1))
+    refusal : {n : ℕ} → recordsFrom st (rows (drop at s)) ≡ refused n (st .line + 1) → Poured (length d) (poured d from (recordsFrom (start provider) (rows (drop from s)))) d′ (Refused n (st .line + 1))
     unfolding poured
     refusal {n} q = answer {r = Refused n (st .line + 1)} (ap (poured d′ next) q)
 
-    poured-broken : k ≡ Broken → Poured (poured d from (recordsFrom (start provider) (rows (drop from s)))) d′ (Refused 2 (st .line + 1))
+    poured-broken : k ≡ Broken → Poured (length d) (poured d from (recordsFrom (start provider) (rows (drop from s)))) d′ (Refused 2 (st .line + 1))
     poured-broken e = refusal (records-broken w st e)
 
     module _ {e : ℕ} {good : Bool} {commas : ℕ} (q : k ≡ Whole e good commas) where
       onwards : Moved → Res (List Record)
       onwards = onward (st .line + 1) (recordOf (part s at e)) (λ t. recordsFrom t (rows (drop (e + 2) s)))
 
-      poured-refused : {j : ℕ} → stepLine st (part s at e) ≡ StepRefused j → Poured (poured d from (recordsFrom (start provider) (rows (drop from s)))) d′ (Refused j (st .line + 1))
+      poured-refused : {j : ℕ} → stepLine st (part s at e) ≡ StepRefused j → Poured (length d) (poured d from (recordsFrom (start provider) (rows (drop from s)))) d′ (Refused j (st .line + 1))
       unfolding onward onwards
       poured-refused u = refusal (records-on w q st ∙ ap onwards u)
 
@@ -188,18 +196,18 @@ module _ {provider : Bool} {s : List ℕ} {from : ℕ} {d : List ℕ} {st : Stat
 pub record Running (provider : Bool) (s : List ℕ) (from : ℕ) (d : List ℕ) (st : State) (at : ℕ) (d′ : List ℕ) (run : Run) : Type 0 where
   pub pouring : Pouring provider s from (sets d 0 (part s 0 from)) st at (ahead s d′ run at) (reach run at)
   pub low : run .from ≤ at
-  pub size : length d′ ≡ 65536
+  pub hold : length s ≤ length d′
   pub same : length d′ ≡ length d
 
-pub running-start : (provider : Bool) (s : List ℕ) (from : ℕ) (d : List ℕ) {st : State} → Behind s from → length d ≡ 65536 → st ≡ start provider
+pub running-start : (provider : Bool) (s : List ℕ) (from : ℕ) (d : List ℕ) {st : State} → Behind s from → length s ≤ length d → st ≡ start provider
     → Running provider s from d st from d (record { from = 0; at = 0 })
 running-start provider s from d {st} b z e =
     let n : from ≡ 0 + (from - 0) = omega arith in
     record {
       pouring = subst (λ (k : ℕ). Pouring provider s from (sets d 0 (part s 0 from)) st from (sets d 0 (part s 0 from)) k) n
-          (pouring-start provider s from (sets d 0 (part s 0 from)) b (length-sets d 0 (part s 0 from) ∙ z) e);
+          (pouring-start provider s from (sets d 0 (part s 0 from)) b (omega (arith, length-sets d 0 (part s 0 from))) e);
       low = omega arith;
-      size = z;
+      hold = z;
       same = refl;
     }
 
@@ -220,57 +228,70 @@ module _ {provider : Bool} {s : List ℕ} {from : ℕ} {d : List ℕ} {st : Stat
   running-small = v .pouring .small
 
   pub running-ready : Ready d′ run at []
-  running-ready = record { low = v .low; room = omega (arith, v .pouring .behind, v .pouring .high, v .pouring .small, v .size) }
+  running-ready = record { low = v .low; room = omega (arith, v .pouring .behind, v .pouring .high, v .hold) }
 
-  pub running-full : length d′ ≡ 65536
-  running-full = v .size
+  pub running-reach : reach run at ≤ 65536
+  running-reach = pouring-end (v .pouring)
 
-  module _ {stops : List ℕ} {k : Line} (w : LineOf s at stops k) where
-    finished : {d″ : List ℕ} {r : Canonical} → Finished st s at d′ d″ run r → Poured (poured (sets d 0 (part s 0 from)) from (recordsFrom (start provider) (rows (drop from s)))) (ahead s d′ run at) r
-        → Poured (poured (sets d 0 (part s 0 from)) from (recordsFrom (start provider) (rows (drop from s)))) d″ r
-    finished {d″} {r} f p = subst (λ (y : List ℕ). Poured (poured (sets d 0 (part s 0 from)) from (recordsFrom (start provider) (rows (drop from s)))) y r) (sym (f .buffer)) p
+  -- the answer with an array and a reply
+  abbrev Answer : List ℕ → Canonical → Type 0
+  Answer d″ r = Poured (length d) (poured (sets d 0 (part s 0 from)) from (recordsFrom (start provider) (rows (drop from s)))) d″ r
 
-    pub running-end : {d″ : List ℕ} {r : Canonical} → k ≡ End → Finished st s at d′ d″ run r
-        → Poured (poured (sets d 0 (part s 0 from)) from (recordsFrom (start provider) (rows (drop from s)))) d″ r
-    running-end e f = finished f (poured-end (v .pouring) w e (f .answer))
+  -- the same for the array as it will be when the run is copied
+  abbrev Ahead : Canonical → Type 0
+  Ahead r = Poured (length (sets d 0 (part s 0 from))) (poured (sets d 0 (part s 0 from)) from (recordsFrom (start provider) (rows (drop from s)))) (ahead s d′ run at) r
 
-    pub running-mark : {d″ : List ℕ} {r : Canonical} → k ≡ Mark → Finished st s at d′ d″ run r
-        → Poured (poured (sets d 0 (part s 0 from)) from (recordsFrom (start provider) (rows (drop from s)))) d″ r
-    running-mark e f = finished f (poured-mark (v .pouring) w e (f .answer))
+  finished : {d″ : List ℕ} {r : Canonical} → Finished st s at d′ d″ run r → Ahead r → Answer d″ r
+  finished {d″} {r} f p = record {
+    means = subst (λ (y : List ℕ). PouredMeans (poured (sets d 0 (part s 0 from)) from (recordsFrom (start provider) (rows (drop from s)))) y r) (sym (f .buffer)) (p .means);
+    size = f .size ∙ v .same;
+  }
 
-    -- a refusal says nothing of the array
-    kept : {n line : ℕ} → Poured (poured (sets d 0 (part s 0 from)) from (recordsFrom (start provider) (rows (drop from s)))) (ahead s d′ run at) (Refused n line)
-        → Poured (poured (sets d 0 (part s 0 from)) from (recordsFrom (start provider) (rows (drop from s)))) d′ (Refused n line)
-    kept p = record { means = p .means; size = v .size }
+  -- a refusal says nothing of the array
+  kept : {n line : ℕ} → Ahead (Refused n line) → Answer d′ (Refused n line)
+  kept p = record { means = p .means; size = v .same }
 
-    pub running-broken : k ≡ Broken → Poured (poured (sets d 0 (part s 0 from)) from (recordsFrom (start provider) (rows (drop from s)))) d′ (Refused 2 (st .line + 1))
-    running-broken e = kept (poured-broken (v .pouring) w e)
+  module _ {stops : List ℕ} {k : Turn} (w : TurnOf st s at stops k) where
+    pub running-over : {d″ : List ℕ} {r : Canonical} → k ≡ Over → Finished st s at d′ d″ run r → Poured (length d) (poured (sets d 0 (part s 0 from)) from (recordsFrom (start provider) (rows (drop from s)))) d″ r
+    running-over q f = finished f (⊎-elim (λ l. poured-end (v .pouring) l refl (f .answer)) (λ l. poured-mark (v .pouring) l refl (f .answer)) (turn-over w q))
 
-    module _ {e : ℕ} {good : Bool} {commas : ℕ} (q : k ≡ Whole e good commas) where
+    pub running-stopped : {n : ℕ} → k ≡ TurnRefused n → Poured (length d) (poured (sets d 0 (part s 0 from)) from (recordsFrom (start provider) (rows (drop from s)))) d′ (Refused n (st .line + 1))
+    running-stopped {n} q = kept (go (turn-refused w q))
+      where
+        go : RefusedAt st s at stops n → Ahead (Refused n (st .line + 1))
+        go (broken l e) = subst (λ (j : ℕ). Ahead (Refused j (st .line + 1))) (sym e) (poured-broken (v .pouring) l refl)
+        go (faulty e m x) = poured-refused (v .pouring) (x .line) refl (sym (x .step))
+
+    module _ {after : State} {rp doctor e commas : ℕ} (q : k ≡ TurnOn after rp doctor e commas) where
+      here : StepAt st s at stops e commas (On after rp doctor)
+      here = turn-step w q
+
+      whole : WholeLine s at e (here .good)
+      whole = whole-line (here .line) refl
+
       pub running-ended : Ended s at e
-      running-ended = line-ended (whole-line w q)
+      running-ended = line-ended whole
 
-      module _ {m : Moved} (o : m ≡ stepLine st (take (e - at) (drop at s))) where
-        pub running-refused : {n : ℕ} → m ≡ StepRefused n → Poured (poured (sets d 0 (part s 0 from)) from (recordsFrom (start provider) (rows (drop from s)))) d′ (Refused n (st .line + 1))
-        running-refused u = kept (poured-refused (v .pouring) w q (sym o ∙ u))
+      pub running-within : Fits w64 (e + 2)
+      running-within = turn-fits w q running-small
 
-        module _ {after : State} {rp doctor : ℕ} (u : m ≡ On after rp doctor) where
-          pub running-sound : Sound (after .place) (take (e - at) (drop at s))
-          running-sound = line-sound st (part s at e) o u
+      pub running-sound : Sound (after .place) (take (e - at) (drop at s))
+      running-sound = line-sound st (part s at e) (here .step) refl
 
-          pub running-room : Ready d′ run at (recordRow (recordOf (take (e - at) (drop at s))))
-          running-room =
-              let p : Placed st (part s at e) after rp doctor = placed st (part s at e) after rp doctor (sym o ∙ u) in
-              record {
-                low = v .low;
-                room = omega (arith, v .pouring .behind, v .pouring .small, v .size, whole-line w q .high, whole-line w q .low, whole-length w q, row-length st (part s at e) (p .sound));
-              }
+      pub running-room : Ready d′ run at (recordRow (recordOf (take (e - at) (drop at s))))
+      running-room =
+          let p : Placed st (part s at e) after rp doctor = placed st (part s at e) after rp doctor (sym (here .step)) in
+          let n : length (recordRow (recordOf (part s at e))) ≤ length (part s at e) + 2 = row-length st (part s at e) (p .sound) in
+          record {
+            low = v .low;
+            room = omega (arith, v .pouring .behind, v .hold, whole .high, whole .low, whole-length (here .line) refl, n);
+          }
 
-          pub running-on : {d″ : List ℕ} {r : Run} → Passed s d′ d″ run r at (e + 2) (recordRow (recordOf (take (e - at) (drop at s)))) → Running provider s from d after (e + 2) d″ r
-          running-on x = record { pouring = pouring-on (v .pouring) w q (sym o ∙ u) (x .wrote); low = x .low; size = x .size ∙ v .size; same = x .size ∙ v .same }
+      pub running-on : {d″ : List ℕ} {r : Run} → Passed s d′ d″ run r at (e + 2) (recordRow (recordOf (take (e - at) (drop at s)))) → Running provider s from d after (e + 2) d″ r
+      running-on x = record { pouring = pouring-on (v .pouring) (here .line) refl (sym (here .step)) (x .wrote); low = x .low; hold = omega (arith, x .size, v .hold); same = x .size ∙ v .same }
 
 pub ruleset running-laws = (
-  line-facts,
+  turn-facts,
   running-start,
   running-countable,
   running-closing,
@@ -278,12 +299,11 @@ pub ruleset running-laws = (
   running-inside,
   running-small,
   running-ready,
-  running-full,
-  running-end,
-  running-mark,
-  running-broken,
+  running-reach,
+  running-over,
+  running-stopped,
   running-ended,
-  running-refused,
+  running-within,
   running-sound,
   running-room,
   running-on,
@@ -299,8 +319,8 @@ module _ (st : State) (s : List ℕ) (at : ℕ) (d : List ℕ) (run : Run) (i : 
   finish-room = omega (arith, r .room, r .low, part-length s (run .from) at (r .low) i)
 
   module _ {d₁ : List ℕ} {n : ℕ} (x : Wrote d d₁ (run .at) n (take (at - run .from) (drop (run .from) s))) where
-    pub finish-small : length d ≡ 65536 → n ≤ 65536
-    finish-small z = omega (arith, x .high, z)
+    pub finish-small : reach run at ≤ 65536 → n ≤ 65536
+    finish-small z = omega (arith, x .next, z, part-length s (run .from) at (r .low) i)
 
     pub finish-done : {c : Canonical} → c ≡ closing st n → Finished st s at d d₁ run c
     finish-done e = record {

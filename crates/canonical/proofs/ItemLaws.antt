@@ -25,8 +25,8 @@ use Rattle.records.specs.Records.{itemValue}
 use Rattle.items.specs.Codes.{setOf, kindOf}
 use Rattle.buffers.specs.Buffers.{Room, Wrote}
 use Rattle.buffers.proofs.Runs.{then}
-use Rattle.canonical.specs.Writing.{postalBytes, numberBytes, dayBytes, itemBytes, Spellable, oneSpelling, OwnUnless}
-use Rattle.canonical.proofs.DayLaws.{own-day}
+use Rattle.canonical.specs.Writing.{postalBytes, numberBytes, dayBytes, itemBytes, Spellable, oneSpelling, OwnUnless, Stays}
+use Rattle.calendar.proofs.EraForm.{own-day}
 
 -- nothing is written
 pub wrote-none : (d : List ℕ) (at : ℕ) (w : List ℕ) → Room d at w → w ≡ [] → Wrote d d at at w
@@ -288,3 +288,20 @@ module _ (c : ℕ) (s : List ℕ) (g : Spellable c s) where
       go false p false q h = item-kept c s (eqb-false _ _ p) n (eqb-false _ _ q)
 
 pub ruleset own-laws = (own-number, own-other)
+
+-- a number that begins with no zero
+pub own-plain : (c : ℕ) (s : List ℕ) → Spellable c s → c / 4 % 16 ≡ 7 → (getD s 0 0 ≡ 48 → ⊥) → itemBytes c s ≡ s
+own-plain c s g e h = own-number c s g e refl .own (ne-eqb (getD s 0 0) 48 h)
+
+-- it is known by the byte behind its comma at p
+pub stays-number : (c : ℕ) (s : List ℕ) (p : ℕ) {b : ℕ} → c / 4 % 16 ≡ 7 → b ≡ getD s (p + 1) 0 → Stays (not (eqb b 48)) c s p
+stays-number c s p {b} e q = record { kind = λ f. e; first = λ f z. go (eqb b 48) refl f z }
+  where
+    go : (x : Bool) → eqb b 48 ≡ x → not x ≡ true → getD s (p + 1) 0 ≡ 48 → ⊥
+    go true h f z = false≢true f
+    go false h f z = eqb-false _ _ h (q ∙ z)
+
+pub stays-not : (c : ℕ) (s : List ℕ) (p : ℕ) → Stays false c s p
+stays-not c s p = record { kind = λ f. absurd (false≢true f); first = λ f z. false≢true f }
+
+pub ruleset stays-laws = (stays-number, stays-not)

@@ -1,7 +1,5 @@
-pub mod PartLaws
 pub mod RunLaws
 pub mod SpotLaws
-pub mod DayLaws
 pub mod ItemLaws
 pub mod LineLaws
 pub mod FileLaws

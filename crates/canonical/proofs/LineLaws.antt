@@ -29,7 +29,7 @@ use Rattle.buffers.proofs.Runs.{carry}
 use Rattle.canonical.specs.Canonical.{recordRow}
 use Rattle.canonical.specs.declared.Run.{Run}
 use Rattle.canonical.specs.Writing.{itemBytes, Spellable, oneSpelling, ahead, reach, Ready, Passed, spot, tailOf, AllSpellable, Items, spotsFrom, spotsOf, Sound, LineIn, begins, itemAt, tailAt, ItemOf, Ended}
-use Rattle.canonical.proofs.PartLaws.{part-length, part-part}
+use Rattle.lists.proofs.Parts.{part-length, part-part}
 use Rattle.canonical.proofs.RunLaws.{passes, waits}
 use Rattle.canonical.proofs.SpotLaws.{spot-sum, spot-first, last-spot, pass-own}
 use Rattle.canonical.proofs.ItemLaws.{own-kind}

@@ -11,7 +11,7 @@ use Rattle.buffers.specs.Buffers.{Room, Wrote}
 use Rattle.buffers.proofs.Runs.{sets-append, then}
 use Rattle.canonical.specs.declared.Run.{Run}
 use Rattle.canonical.specs.Writing.{itemBytes, OwnUnless, ahead, reach, Ready, Passed, Stands}
-use Rattle.canonical.proofs.PartLaws.{part-length, part-none, part-join}
+use Rattle.lists.proofs.Parts.{part-length, part-none, part-join}
 
 -- one after another
 pub passes : {s d d₁ d₂ : List ℕ} {run r t : Run} {p m e : ℕ} {v w : List ℕ} → Passed s d d₁ run r p m v → Passed s d₁ d₂ r t m e w → Passed s d d₂ run t p e (v ++ w)

@@ -2,11 +2,12 @@
 use Prim.Native.Nat.{ℕ, zero, suc, _+_, _-_, _≤_, _<_}
 use native.Mathlib.Omega.{arith}
 use mathlib.Core.Path.{_≡_, refl, sym, ap, ap₂, _∙_, subst}
+use mathlib.Core.Bool.{Bool, true}
 use mathlib.Core.List.{List, [], _∷_, _++_, append-assoc, append-nil, head-eq-of-cons-eq}
 use mir.Val.{Fits}
 use mir.Syntax.{w64}
 use lib.ListN.{length, getD, take, drop, length-append, length-drop}
-use lib.Seq.{drop-at, take-at}
+use lib.Seq.{drop-at, take-at, getD-take, getD-drop}
 use Rattle.lists.specs.Lists.{part}
 use Rattle.lists.proofs.Cuts.{drop-step, drop-end}
 use Rattle.records.specs.Split.{itemsOf, joined}
@@ -15,8 +16,9 @@ use Rattle.lines.specs.Codes.{Spanned, SpanAt}
 use Rattle.lines.specs.declared.Span.{Span}
 use Rattle.lines.proofs.SplitLaws.{items-count, span-mid, span-last}
 use Rattle.canonical.specs.declared.Run.{Run}
-use Rattle.canonical.specs.Writing.{itemBytes, Spellable, Ready, Passed, Stands, spelledTail, spot, LineIn, begins, itemAt, ItemOf}
-use Rattle.canonical.proofs.PartLaws.{part-length, part-part, part-first, part-others}
+use Rattle.canonical.specs.Writing.{itemBytes, Spellable, Ready, Passed, Stands, spelledTail, spot, LineIn, begins, itemAt, ItemOf, Stays}
+use Rattle.lists.proofs.Parts.{part-length, part-part, part-first, part-others}
+use Rattle.canonical.proofs.ItemLaws.{own-plain}
 use Rattle.canonical.proofs.RunLaws.{waits}
 
 -- ---- a line is its first item and the others, each with its comma
@@ -163,6 +165,16 @@ module _ {s stops : List ℕ} {at e n j : ℕ} (v : LineIn s at e stops n) (k : 
   pub item-is : part s (at + spot (part s at e) j + 1) (at + spot (part s at e) (j + 1)) ≡ getD (itemsOf (part s at e)) j []
   item-is = part-others s _ _ item-low ∙ ap (drop 1) item-whole
 
+-- a part that has no zero where it begins does not begin with one, even where it is empty
+first-other : (s : List ℕ) (a e : ℕ) → (getD s a 0 ≡ 0x30 → ⊥) → getD (part s a e) 0 0 ≡ 0x30 → ⊥
+first-other s a e h = go (e - a)
+  where
+    go : (n : ℕ) → getD (take n (drop a s)) 0 0 ≡ 0x30 → ⊥
+    go zero z = omega (arith, z)
+    go (suc n) z =
+        let i : a + 0 ≡ a = omega arith in
+        h (sym (getD-take (suc n) (drop a s) 0 0 (omega arith) ∙ getD-drop a s 0 0 ∙ ap (λ (x : ℕ). getD s x 0) i) ∙ z)
+
 -- ---- the ways through pass_item
 
 module _ (s : List ℕ) (at e j : ℕ) {stops : List ℕ} {n : ℕ} (v : LineIn s at e stops n) (k : ItemOf j n) where
@@ -183,6 +195,21 @@ module _ (s : List ℕ) (at e j : ℕ) {stops : List ℕ} {n : ℕ} (v : LineIn 
 
     pub pass-fits : Fits w64 e → Fits w64 (at + r)
     pass-fits h = omega (arith, first, item-low v k, item-high v k)
+
+    pub pass-comma : at + r < length s
+    pass-comma = omega (arith, first, item-low v k, item-high v k, v .high)
+
+    -- a number that begins with no zero waits
+    pub pass-stays : (c : ℕ) {d : List ℕ} {run : Run} {t : Bool} → Stays t c s (at + r) → t ≡ true → Spellable c (itemAt s at e j)
+        → Ready d run (begins s at e j) (0x2c ∷ itemBytes c (itemAt s at e j))
+        → Passed s d d run run (begins s at e j) (begins s at e (j + 1)) (0x2c ∷ itemBytes c (itemAt s at e j))
+    pass-stays c {d} {run} m f g y = pass-own d run c (own-plain c (itemAt s at e j) g (m .kind f) plain) y
+      where
+        other : getD s (begins s at e j + 1) 0 ≡ 0x30 → ⊥
+        other z = m .first f (ap (λ (x : ℕ). getD s (x + 1) 0) first ∙ z)
+
+        plain : getD (itemAt s at e j) 0 0 ≡ 0x30 → ⊥
+        plain z = first-other s (begins s at e j + 1) (begins s at e (j + 1)) other (ap (λ (x : List ℕ). getD x 0 0) (item-is v k) ∙ z)
 
     module _ {q : ℕ} (b : q ≡ spot (take (e - at) (drop at s)) (j + 1)) where
       last : at + q ≡ at + spot (part s at e) (j + 1)
@@ -210,4 +237,4 @@ module _ (s : List ℕ) (at e j : ℕ) {stops : List ℕ} {n : ℕ} (v : LineIn 
           (subst (λ (x : ℕ). Passed s d d′ run t x (at + spot (part s at e) (j + 1)) (0x2c ∷ itemBytes c (part s (at + r + 1) (at + q)))) first
           (subst (λ (x : ℕ). Passed s d d′ run t (at + r) x (0x2c ∷ itemBytes c (part s (at + r + 1) (at + q)))) last y))
 
-pub ruleset pass-laws = (pass-fits, pass-fits-behind, pass-stands, pass-spellable, pass-ready, pass-done)
+pub ruleset pass-laws = (pass-fits, pass-fits-behind, pass-comma, pass-stays, pass-stands, pass-spellable, pass-ready, pass-done)

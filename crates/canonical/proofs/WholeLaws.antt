@@ -25,27 +25,27 @@ use Rattle.notebook.proofs.CheckLaws.{zeros-size}
 use Rattle.canonical.specs.declared.Canonical.{Canonical}
 use Rattle.canonical.specs.declared.Canonical.the-variants.{Written, Refused}
 use Rattle.canonical.specs.Canonical.{headRow, recordRows, canonicalBytes, answered, canonicalOf, bytesOf, bufferAfter, canonicalBuffer}
-use Rattle.canonical.specs.Writing.{Output, poured, Poured, fileBytes, MadeMeans, MadeOf}
+use Rattle.canonical.specs.Writing.{Output, poured, Poured, fileBytes, MadeMeans, MadeOf, Holds}
 
 -- ---- the array
 
 -- line 1, and the records poured behind it
-made : (s d d₁ d₂ : List ℕ) (e r : ℕ) (provider : Bool) (x : Res (List Record)) (c : Canonical) → Wrote d d₁ 0 r (headRow provider) → r ≡ e + 2 → length d ≡ 65536
-    → readFile s ≡ notebookOf provider x → Poured (poured d₁ (e + 2) x) d₂ c → MadeOf (fileBytes (readFile s)) d₂ c
+made : (s d d₁ d₂ : List ℕ) (e r : ℕ) (provider : Bool) (x : Res (List Record)) (c : Canonical) → Wrote d d₁ 0 r (headRow provider) → r ≡ e + 2
+    → readFile s ≡ notebookOf provider x → Poured (length d) (poured d₁ (e + 2) x) d₂ c → MadeOf (length d) (fileBytes (readFile s)) d₂ c
 unfolding poured canonicalBytes
-made s d d₁ d₂ e r provider (refused n line) (Refused m l) w g z q v = record { means = ap fileBytes q ∙ (let y : _≡_ {A = Res (List ℕ)} (refused n line) (refused m l) = cc in y); size = v .size }
+made s d d₁ d₂ e r provider (refused n line) (Refused m l) w g q v = record { means = ap fileBytes q ∙ (let y : _≡_ {A = Res (List ℕ)} (refused n line) (refused m l) = cc in y); size = v .size }
   where
     u : _≡_ {A = Res Output} (refused n line) (refused m l)
     u = v .means
-made s d d₁ d₂ e r provider (refused n line) (Written t) w g z q v = absurd (no (v .means .0))
+made s d d₁ d₂ e r provider (refused n line) (Written t) w g q v = absurd (no (v .means .0))
   where
     no : _≡_ {A = Res Output} (refused n line) (ok (record { buffer = d₂; end = t })) → ⊥
     no f = let y : _≡_ {A = ℕ} 0 1 = cc in omega arith
-made s d d₁ d₂ e r provider (ok rs) (Refused m l) w g z q v = absurd (no (v .means))
+made s d d₁ d₂ e r provider (ok rs) (Refused m l) w g q v = absurd (no (v .means))
   where
     no : _≡_ {A = Res Output} (ok (record { buffer = sets d₁ (e + 2) (flat (recordRows rs)); end = e + 2 + length (flat (recordRows rs)) })) (refused m l) → ⊥
     no f = let y : _≡_ {A = ℕ} 0 1 = cc in omega arith
-made s d d₁ d₂ e r provider (ok rs) (Written t) w g z q v = record { means = (ap fileBytes q ∙ ap ok (sym all), omega (arith, v .means .1, v .size)); size = v .size }
+made s d d₁ d₂ e r provider (ok rs) (Written t) w g q v = record { means = (ap fileBytes q ∙ ap ok (sym all), v .means .2); size = v .size }
   where
     rest : List ℕ
     rest = flat (recordRows rs)
@@ -63,29 +63,32 @@ made s d d₁ d₂ e r provider (ok rs) (Written t) w g z q v = record { means =
         record {
           next = omega (arith, n, g);
           list = sym (ap (λ (k : ℕ). sets d₁ k rest) g ∙ b);
-          size = v .size ∙ sym (w .size ∙ z);
-          high = omega (arith, v .means .1, w .size, z);
+          size = v .size ∙ sym (w .size);
+          high = omega (arith, v .means .2, v .size, w .size);
         }
 
     all : take t d₂ ≡ headRow provider ++ rest
     all = front (then w behind) (omega (arith, then w behind .high, then w behind .next))
 
-refused-so : (s d : List ℕ) {n line : ℕ} → length d ≡ 65536 → readFile s ≡ refused n line → MadeOf (fileBytes (readFile s)) d (Refused n line)
-refused-so s d z e = record { means = ap fileBytes e; size = z }
+refused-so : (s d : List ℕ) {n line : ℕ} → readFile s ≡ refused n line → MadeOf (length d) (fileBytes (readFile s)) d (Refused n line)
+refused-so s d e = record { means = ap fileBytes e; size = refl }
 
-module _ (s d : List ℕ) (z : length d ≡ 65536) where
-  pub into-large : 65536 < length s → MadeOf (fileBytes (readFile s)) d (Refused 1 0)
-  into-large h = refused-so s d z (read-large s h)
+module _ (s d : List ℕ) (z : Holds s d) where
+  pub into-room : length s ≤ 65536 → length s ≤ length d
+  into-room h = z .room h
+
+  pub into-large : 65536 < length s → MadeOf (length d) (fileBytes (readFile s)) d (Refused 1 0)
+  into-large h = refused-so s d (read-large s h)
 
   module _ (h : length s ≤ 65536) {stops : List ℕ} {k : Line} (w : LineOf s 0 stops k) where
-    pub into-end : k ≡ End → MadeOf (fileBytes (readFile s)) d (Refused 2 1)
-    into-end e = refused-so s d z (read-end s h w e)
+    pub into-end : k ≡ End → MadeOf (length d) (fileBytes (readFile s)) d (Refused 2 1)
+    into-end e = refused-so s d (read-end s h w e)
 
-    pub into-mark : k ≡ Mark → MadeOf (fileBytes (readFile s)) d (Refused 2 1)
-    into-mark e = refused-so s d z (read-mark s h w e)
+    pub into-mark : k ≡ Mark → MadeOf (length d) (fileBytes (readFile s)) d (Refused 2 1)
+    into-mark e = refused-so s d (read-mark s h w e)
 
-    pub into-broken : k ≡ Broken → MadeOf (fileBytes (readFile s)) d (Refused 2 1)
-    into-broken e = refused-so s d z (read-broken s h w e)
+    pub into-broken : k ≡ Broken → MadeOf (length d) (fileBytes (readFile s)) d (Refused 2 1)
+    into-broken e = refused-so s d (read-broken s h w e)
 
     module _ {e : ℕ} {good : Bool} {n : ℕ} (q : k ≡ Whole e good n) where
       line : WholeLine s 0 e good
@@ -99,8 +102,8 @@ module _ (s d : List ℕ) (z : length d ≡ 65536) where
           ap (take (e + 2 - 0)) a ∙ take-at (part s 0 e ++ lineEnd) (flat (rows (drop (e + 2) s))) (e + 2 - 0) l
 
       module _ {f : ℕ} (p : f ≡ directionOf (take (e - 0) (drop 0 s))) where
-        pub into-version : f ≡ 0 → MadeOf (fileBytes (readFile s)) d (Refused 3 1)
-        into-version o = refused-so s d z (read-version s h w q p o)
+        pub into-version : f ≡ 0 → MadeOf (length d) (fileBytes (readFile s)) d (Refused 3 1)
+        into-version o = refused-so s d (read-version s h w q p o)
 
         -- the array with line 1
         with-first : List ℕ
@@ -115,26 +118,26 @@ module _ (s d : List ℕ) (z : length d ≡ 65536) where
             subst (λ (x : List ℕ). Wrote d (sets d 0 (part s 0 (e + 2))) 0 (e + 2) x) (first-row ∙ ap (λ (l : List ℕ). l ++ lineEnd) a) the-wrote
           where
             the-wrote : Wrote d (sets d 0 (part s 0 (e + 2))) 0 (e + 2) (part s 0 (e + 2))
-            the-wrote = record { next = omega (arith, first-length); list = refl; size = length-sets d 0 (part s 0 (e + 2)); high = omega (arith, line .high, h, z) }
+            the-wrote = record { next = omega (arith, first-length); list = refl; size = length-sets d 0 (part s 0 (e + 2)); high = omega (arith, line .high, z .room h) }
 
-        pub into-whole : {d₂ : List ℕ} {c : Canonical} → (f ≡ 0 → ⊥) → Poured (poured (sets d 0 (part s 0 (e + 2))) (e + 2) (recordsFrom (start (eqb f 1)) (rows (drop (e + 2) s)))) d₂ c
-            → MadeOf (fileBytes (readFile s)) d₂ c
+        pub into-whole : {d₂ : List ℕ} {c : Canonical} → (f ≡ 0 → ⊥) → Poured (length d) (poured (sets d 0 (part s 0 (e + 2))) (e + 2) (recordsFrom (start (eqb f 1)) (rows (drop (e + 2) s)))) d₂ c
+            → MadeOf (length d) (fileBytes (readFile s)) d₂ c
         unfolding with-first
         into-whole {d₂} {c} o v = go (eqb f 1) refl v
           where
             by : (provider : Bool) → part s 0 e ≡ header provider → readFile s ≡ notebookOf provider (recordsFrom (start provider) (rows (drop (e + 2) s)))
-                → Poured (poured (sets d 0 (part s 0 (e + 2))) (e + 2) (recordsFrom (start provider) (rows (drop (e + 2) s)))) d₂ c → MadeOf (fileBytes (readFile s)) d₂ c
-            by provider a b v = made s d with-first d₂ e (e + 2) provider (recordsFrom (start provider) (rows (drop (e + 2) s))) c (first-wrote provider a) refl z b v
+                → Poured (length d) (poured (sets d 0 (part s 0 (e + 2))) (e + 2) (recordsFrom (start provider) (rows (drop (e + 2) s)))) d₂ c → MadeOf (length d) (fileBytes (readFile s)) d₂ c
+            by provider a b v = made s d with-first d₂ e (e + 2) provider (recordsFrom (start provider) (rows (drop (e + 2) s))) c (first-wrote provider a) refl b v
 
-            go : (b : Bool) → eqb f 1 ≡ b → Poured (poured (sets d 0 (part s 0 (e + 2))) (e + 2) (recordsFrom (start b) (rows (drop (e + 2) s)))) d₂ c → MadeOf (fileBytes (readFile s)) d₂ c
+            go : (b : Bool) → eqb f 1 ≡ b → Poured (length d) (poured (sets d 0 (part s 0 (e + 2))) (e + 2) (recordsFrom (start b) (rows (drop (e + 2) s)))) d₂ c → MadeOf (length d) (fileBytes (readFile s)) d₂ c
             go true g v = let y = read-provider s h w q p (eqb-true f 1 g) in by true (y .0) (y .1) v
             go false g v = let y = read-patient s h w q p o (eqb-false f 1 g) in by false (y .0) (y .1) v
 
-pub ruleset into-laws = (line-size, zeros-size, line-1-high, line-1-fits, line-1-behind, into-large, into-end, into-mark, into-broken, into-version, into-whole)
+pub ruleset into-laws = (into-room, line-size, zeros-size, line-1-high, line-1-fits, line-1-behind, into-large, into-end, into-mark, into-broken, into-version, into-whole)
 
 -- ---- the output
 
-module _ (s d a : List ℕ) {c : Canonical} (m : MadeOf (fileBytes (readFile s)) a c) where
+module _ (s d a : List ℕ) {l : ℕ} {c : Canonical} (m : MadeOf l (fileBytes (readFile s)) a c) where
   means : {j : Canonical} → c ≡ j → MadeMeans (fileBytes (readFile s)) a j
   means e = subst (MadeMeans (fileBytes (readFile s)) a) e (m .means)
 

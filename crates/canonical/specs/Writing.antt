@@ -2,7 +2,7 @@
 -- file from a row on.
 use Prim.Native.Nat.{ℕ, _+_, _-_, _*_, _/_, _%_, _≤_, _<_}
 use mathlib.Core.Path.{_≡_}
-use mathlib.Core.Bool.{Bool, cond, false, not, _&&_}
+use mathlib.Core.Bool.{Bool, cond, true, false, not, _&&_}
 use mathlib.Core.List.{List, [], _∷_, _++_}
 use lib.Dec.{eqb}
 use lib.ListN.{length, getD, take, drop}
@@ -150,6 +150,11 @@ pub record ItemOf (j n : ℕ) : Type 0 where
   pub low : 1 ≤ j
   pub high : j ≤ n
 
+-- where r says so, an item behind its comma at p is a number, and no zero stands behind the comma
+pub record Stays (r : Bool) (c : ℕ) (s : List ℕ) (p : ℕ) : Type 0 where
+  pub kind : r ≡ true → c / 4 % 16 ≡ 7
+  pub first : r ≡ true → getD s (p + 1) 0 ≡ 0x30 → ⊥
+
 -- a line from at to e of a file, and its line end
 pub record Ended (s : List ℕ) (at e : ℕ) : Type 0 where
   pub low : at ≤ e
@@ -167,12 +172,13 @@ poured d at (ok rs) = ok (record { buffer = sets d at (flat (recordRows rs)); en
 poured d at (refused n line) = refused n line
 
 abbrev pub PouredMeans : Res Output → List ℕ → Canonical → Type 0
-PouredMeans x d (Written t) = (x ≡ ok (record { buffer = d; end = t })) × (t ≤ 65536)
+PouredMeans x d (Written t) = (x ≡ ok (record { buffer = d; end = t })) × (t ≤ 65536) × (t ≤ length d)
 PouredMeans x d (Refused n line) = x ≡ refused n line
 
-pub record Poured (x : Res Output) (d : List ℕ) (r : Canonical) : Type 0 where
+-- m: the array's length
+pub record Poured (m : ℕ) (x : Res Output) (d : List ℕ) (r : Canonical) : Type 0 where
   pub means : PouredMeans x d r
-  pub size : length d ≡ 65536
+  pub size : length d ≡ m
 
 -- the end: what is missing there, or the bytes
 unfoldable pub closing : State → ℕ → Canonical
@@ -184,7 +190,10 @@ pub record Finished (st : State) (s : List ℕ) (at : ℕ) (d d′ : List ℕ) (
   pub buffer : d′ ≡ ahead s d run at
   pub size : length d′ ≡ length d
 
--- ---- the canonical file in an array of 65,536 bytes
+-- ---- the canonical file in an array that can hold the file
+
+pub record Holds (s d : List ℕ) : Type 0 where
+  pub room : length s ≤ 65536 → length s ≤ length d
 
 -- the canonical file, or the refusal
 abbrev pub fileBytes : Res Notebook → Res (List ℕ)
@@ -195,6 +204,6 @@ abbrev pub MadeMeans : Res (List ℕ) → List ℕ → Canonical → Type 0
 MadeMeans x d (Written t) = (x ≡ ok (take t d)) × (t ≤ length d)
 MadeMeans x d (Refused n line) = x ≡ refused n line
 
-pub record MadeOf (x : Res (List ℕ)) (d : List ℕ) (r : Canonical) : Type 0 where
+pub record MadeOf (m : ℕ) (x : Res (List ℕ)) (d : List ℕ) (r : Canonical) : Type 0 where
   pub means : MadeMeans x d r
-  pub size : length d ≡ 65536
+  pub size : length d ≡ m

@@ -3,7 +3,7 @@
 // Definitions: specs/Canonical.antt; the same as the code writes it: specs/Writing.antt.
 ghost use mathlib.Core.Path.{_≡_};
 ghost use mathlib.Core.List.{[], _∷_};
-ghost use Prim.Native.Nat.{_+_, _≤_};
+ghost use Prim.Native.Nat.{_+_, _≤_, _<_};
 ghost use lib.ListN.{length, drop};
 ghost use lib.Seq.{sets};
 ghost use Rattle.lists.specs.Lists.{part};
@@ -18,7 +18,8 @@ ghost use Rattle.notebook.specs.Notebook.{recordsFrom, readFile};
 ghost use Rattle.notebook.specs.Check.{Behind, Closing};
 ghost use Rattle.canonical.specs.Canonical.{recordRow, canonicalOf, canonicalBuffer};
 ghost use Rattle.canonical.specs.Writing.{postalBytes, numberBytes, dayBytes, itemBytes, Spellable, OwnUnless, Items, Sound};
-ghost use Rattle.canonical.specs.Writing.{spot, Stands, Ready, Passed, spotsOf, LineIn, begins, itemAt, tailAt, ItemOf, Ended, Finished, poured, Poured, closing, fileBytes, MadeOf};
+ghost use Rattle.canonical.specs.Writing.{spot, Stands, Ready, Passed, spotsOf, LineIn, begins, itemAt, tailAt, ItemOf, Stays, Ended};
+ghost use Rattle.canonical.specs.Writing.{reach, Finished, poured, Poured, closing, fileBytes, MadeOf, Holds};
 
 // How many bytes of the output's front the canonical file takes; or a refusal's number and line, and the output as it was.
 pub enum Canonical {
@@ -138,6 +139,19 @@ fn comma_at(stops: &[usize; 16], n: usize, line: &[u8], i: usize) -> usize
     line.len()
 }
 
+// Whether an item behind its comma at p is surely its own spelling: a number that begins with no zero. So most numbers are passed, and where
+// they end need not be known: behind the comma of an empty one stands the next comma or the line's end, which is no zero.
+fn stays(c: usize, s: &[u8], p: usize) -> bool
+    requires { ⌜ p < length (now s) ⌝ }
+    ensures { λ r. ⌜ Stays r c (now (s .entry)) p ⌝ }
+{
+    if c / 4 % 16 == 7 {
+        let first = lists::byte_at(s, p + 1);
+        return first != 0x30;
+    }
+    false
+}
+
 // Item number j of the line from at to end, behind the items before it; c: the item of the table, as one number.
 fn pass_item(
     c: usize,
@@ -158,6 +172,9 @@ fn pass_item(
 {
     let before = j - 1;
     let p = at + comma_at(stops, n, &s[at..end], before);
+    if stays(c, s, p) {
+        return run;
+    }
     let e = at + comma_at(stops, n, &s[at..end], j);
     respell(c, s, p, e, out, run)
 }
@@ -261,7 +278,7 @@ fn finish(st: order::State, s: &[u8], at: usize, out: &mut [u8], run: Run) -> Ca
     requires { ⌜ Closing st ⌝ }
     requires { ⌜ at ≤ length (now s) ⌝ }
     requires { ⌜ Ready (now out) run at [] ⌝ }
-    requires { ⌜ length (now out) ≡ 65536 ⌝ }
+    requires { ⌜ reach run at ≤ 65536 ⌝ }
     ensures { λ r. ⌜ Finished st (now (s .entry)) at (now (out .entry)) (now (out .exit)) run r ⌝ }
 {
     let from = run.from;
@@ -284,42 +301,33 @@ fn write_records(
     requires { ⌜ Lent (now codes) ⌝ }
     requires { ⌜ Sixteen (now stops) ⌝ }
     requires { ⌜ Behind (now s) from ⌝ }
-    requires { ⌜ length (now out) ≡ 65536 ⌝ }
-    ensures { λ r. ⌜ Poured (poured (sets (now (out .entry)) 0 (part (now (s .entry)) 0 from)) from (recordsFrom (start provider) (rows (drop from (now (s .entry)))))) (now (out .exit)) r ⌝ }
+    requires { ⌜ length (now s) ≤ length (now out) ⌝ }
+    ensures { λ r. ⌜ Poured (length (now (out .entry))) (poured (sets (now (out .entry)) 0 (part (now (s .entry)) 0 from)) from (recordsFrom (start provider) (rows (drop from (now (s .entry)))))) (now (out .exit)) r ⌝ }
 {
     let mut st = order::State::new(provider);
     let mut at = from;
     let mut run = Run { from: 0, at: 0 };
     loop {
-        match characters::line_at(classes, stops, s, at) {
-            characters::Line::End => return finish(st, s, at, out, run),
-            characters::Line::Mark => return finish(st, s, at, out, run),
-            characters::Line::Broken => {
+        match notebook::read_record(classes, codes, stops, st, s, at) {
+            notebook::Turn::Over => return finish(st, s, at, out, run),
+            notebook::Turn::Refused(n) => {
                 let line = st.line + 1;
-                return Canonical::Refused(2, line);
+                return Canonical::Refused(n, line);
             }
-            characters::Line::Whole(end, good, commas) => {
-                match notebook::step_line(codes, st, good, commas, stops, &s[at..end]) {
-                    order::Moved::Refused(n) => {
-                        let line = st.line + 1;
-                        return Canonical::Refused(n, line);
-                    }
-                    order::Moved::On(after, _, _) => {
-                        let number = after.place;
-                        run = put_record(number, stops, commas, s, at, end, out, run);
-                        st = after;
-                        at = end + 2;
-                    }
-                }
+            notebook::Turn::On(after, _, _, end, commas) => {
+                let number = after.place;
+                run = put_record(number, stops, commas, s, at, end, out, run);
+                st = after;
+                at = end + 2;
             }
         }
     }
 }
 
-// The canonical file of an accepted file at the front of an array that holds any; or the one refusal.
+// The canonical file of an accepted file at the front of an array that holds the file; or the one refusal.
 pub fn canonical_into(s: &[u8], out: &mut [u8]) -> Canonical
-    requires { ⌜ length (now out) ≡ 65536 ⌝ }
-    ensures { λ r. ⌜ MadeOf (fileBytes (readFile (now (s .entry)))) (now (out .exit)) r ⌝ }
+    requires { ⌜ Holds (now s) (now out) ⌝ }
+    ensures { λ r. ⌜ MadeOf (length (now (out .entry))) (fileBytes (readFile (now (s .entry)))) (now (out .exit)) r ⌝ }
 {
     let len = s.len();
     if 65536 < len {
@@ -344,13 +352,13 @@ pub fn canonical_into(s: &[u8], out: &mut [u8]) -> Canonical
     }
 }
 
-// The canonical file of an accepted file, or the one refusal.
-pub fn canonical_file(s: &[u8], out: &mut [u8]) -> Canonical
+// The canonical file of an accepted file, or the one refusal; file: an array for it, so that a refusal leaves the output as it was.
+fn canonical_by(s: &[u8], file: &mut [u8], out: &mut [u8]) -> Canonical
+    requires { ⌜ Holds (now s) (now file) ⌝ }
     ensures answer { λ r. ⌜ r ≡ canonicalOf (now (s .entry)) (length (now (out .entry))) ⌝ }
     ensures buffer { λ _. ⌜ now (out .exit) ≡ canonicalBuffer (now (s .entry)) (now (out .entry)) ⌝ }
 {
-    let mut file = [0u8; 65536];
-    match canonical_into(s, &mut file) {
+    match canonical_into(s, file) {
         Canonical::Refused(number, line) => Canonical::Refused(number, line),
         Canonical::Written(bytes) => {
             let start = 0;
@@ -362,4 +370,22 @@ pub fn canonical_file(s: &[u8], out: &mut [u8]) -> Canonical
             Canonical::Written(bytes)
         }
     }
+}
+
+// The same with an array of its own, of a length that the file asks for: clearing one for any file takes longer than to read a short one.
+pub fn canonical_file(s: &[u8], out: &mut [u8]) -> Canonical
+    ensures answer { λ r. ⌜ r ≡ canonicalOf (now (s .entry)) (length (now (out .entry))) ⌝ }
+    ensures buffer { λ _. ⌜ now (out .exit) ≡ canonicalBuffer (now (s .entry)) (now (out .entry)) ⌝ }
+{
+    let len = s.len();
+    if len <= 2048 {
+        let mut file = [0u8; 2048];
+        return canonical_by(s, &mut file, out);
+    }
+    if len <= 16384 {
+        let mut file = [0u8; 16384];
+        return canonical_by(s, &mut file, out);
+    }
+    let mut file = [0u8; 65536];
+    canonical_by(s, &mut file, out)
 }

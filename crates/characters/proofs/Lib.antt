@@ -1,3 +1,4 @@
 pub mod PairLaws
 pub mod TextLaws
 pub mod RowLaws
+pub mod RunLaws

@@ -60,7 +60,7 @@ chars-clean (a ∷ b ∷ r) e = go (isOne a) refl (isPair a b) refl (chars-clean
 
 -- ---- one character of a text, as `char_at` tells it
 
-one-char : (a : ℕ) (l : List ℕ) → isOne a ≡ true → allChars (a ∷ l) ≡ allChars l
+pub one-char : (a : ℕ) (l : List ℕ) → isOne a ≡ true → allChars (a ∷ l) ≡ allChars l
 one-char a [] h = h
 one-char a (b ∷ r) h = simp h
 
@@ -73,25 +73,25 @@ one-text : (a : ℕ) (l : List ℕ) → isOne a ≡ true → Leaves (a ∷ l) l 
 one-text a l o = record { size = simp (one-go a o) (omega arith); chars = simp (one-go a o) (one-char a (text l) o) }
 
 -- a lead is no comma, and neither is a trail
-lead-high : (a : ℕ) → isLead a ≡ true → 0x81 ≤ a
+pub lead-high : (a : ℕ) → isLead a ≡ true → 0x81 ≤ a
 lead-high a e =
     ⊎-elim
     (λ h. leb-true 0x81 a (both (leb 0x81 a) (leb a 0x9f) h .0))
     (λ h. omega (arith, leb-true 0xe0 a (both (leb 0xe0 a) (leb a 0xef) h .0)))
     (either (within 0x81 0x9f a) (within 0xe0 0xef a) e)
 
-trail-high : (b : ℕ) → isTrail b ≡ true → 0x40 ≤ b
+pub trail-high : (b : ℕ) → isTrail b ≡ true → 0x40 ≤ b
 trail-high b e =
     ⊎-elim
     (λ h. leb-true 0x40 b (both (leb 0x40 b) (leb b 0x7e) h .0))
     (λ h. omega (arith, leb-true 0x80 b (both (leb 0x80 b) (leb b 0xfc) h .0)))
     (either (within 0x40 0x7e b) (within 0x80 0xfc b) e)
 
-no-comma : (b : ℕ) → 0x40 ≤ b → eqb b 0x2c ≡ false
+pub no-comma : (b : ℕ) → 0x40 ≤ b → eqb b 0x2c ≡ false
 no-comma b h = ne-eqb b 0x2c (λ e. omega arith)
 
 -- a lead is no character of one byte
-lead-no-one : (a : ℕ) → isLead a ≡ true → isOne a ≡ false
+pub lead-no-one : (a : ℕ) → isLead a ≡ true → isOne a ≡ false
 lead-no-one a e =
     ⊎-elim
     (λ h. let p = both (leb 0x81 a) (leb a 0x9f) h in outside (leb-true 0x81 a (p .0)) (inl (leb-true a 0x9f (p .1))))
@@ -130,7 +130,7 @@ bad-text a (b ∷ r) s h = go (isOne a) refl (isPair a b) refl (isStop b) refl h
 -- ---- the loop of scan_text: the text's end, its goodness and its commas, as told by what is left from i on
 
 -- the commas of the whole text from its beginning, and those that are left, into the places behind the n first
-abbrev kept : List ℕ → ℕ → List ℕ → List ℕ
+abbrev pub kept : List ℕ → ℕ → List ℕ → List ℕ
 kept a n w = sets a n (take (16 - n) w)
 
 pub record Scanned (s : List ℕ) (at : ℕ) (a₀ a : List ℕ) (i : ℕ) (good : Bool) (n : ℕ) : Type 0 where

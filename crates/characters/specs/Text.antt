@@ -1,11 +1,11 @@
 -- Characters of a list of bytes, and the text up to a line's end. Document 01, "Lines and characters"; refusals 2 and 4; 15-106 3.2.4.
-use Prim.Native.Nat.{ℕ, suc, _+_, _<_}
+use Prim.Native.Nat.{ℕ, suc, _+_, _≤_, _<_}
 use mathlib.Core.Path.{_≡_}
 use mathlib.Core.Bool.{Bool, true, false, cond, not, _&&_, _||_}
 use mathlib.Core.List.{List, [], _∷_}
 use lib.Dec.{eqb}
 use lib.ListN.{length, drop, getD}
-use Rattle.lists.specs.Lists.{all, upTo}
+use Rattle.lists.specs.Lists.{all, part, upTo}
 use Rattle.characters.specs.Cells.{isOne, isPair}
 use Rattle.characters.specs.declared.Scan.{Scan}
 
@@ -66,3 +66,10 @@ pub record ScanOf (s : List ℕ) (at : ℕ) (stops : List ℕ) (r : Scan) : Type
   pub commas : r .commas ≡ commaCount (text (drop at s))
   pub places : Stops (text (drop at s)) stops
   pub size : Sixteen stops
+
+-- from a to e stand characters, none of them a comma
+pub record RunOf (s : List ℕ) (a e : ℕ) : Type 0 where
+  pub low : a ≤ e
+  pub high : e ≤ length s
+  pub chars : allChars (part s a e) ≡ true
+  pub plain : commaCount (part s a e) ≡ 0

@@ -3,11 +3,11 @@
 // proved to agree with the cells; what it does not pass is put to `is_pair`, which decides over row and cell. A new kind of answer about
 // characters (as a script) moves Char and charOf there.
 ghost use mathlib.Core.Path.{_≡_};
-ghost use Prim.Native.Nat.{_≤_, _<_};
+ghost use Prim.Native.Nat.{_+_, _≤_, _<_};
 ghost use lib.ListN.{length};
 ghost use Rattle.lists.specs.Lists.{within as isWithin};
 ghost use Rattle.characters.specs.Cells.{row2, row3, allowed, leadRow, trailCell, trailRow, isOne, isLead, isTrail, isPair};
-ghost use Rattle.characters.specs.Text.{isStop, ScanOf, Sixteen};
+ghost use Rattle.characters.specs.Text.{isStop, ScanOf, Sixteen, RunOf};
 ghost use Rattle.characters.specs.Classes.{Classes, firstOf, trailOf, pairAt, FirstAt};
 ghost use Rattle.characters.specs.Rows.{LineOf};
 
@@ -657,6 +657,18 @@ fn trail_of(classes: &[u16; 512], b: u8) -> u16
 }
 
 // Whether the two bytes at a position share a bit, and so are a character; v: what the first may begin.
+fn share_bit(classes: &[u16; 512], s: &[u8], i: usize, v: u16) -> bool
+    requires { ⌜ Classes (now classes) ⌝ }
+    requires { ⌜ FirstAt (now s) i v ⌝ }
+    requires { ⌜ i + 1 < length (now s) ⌝ }
+    ensures { λ r. ⌜ r ≡ pairAt (now (s .entry)) i ⌝ }
+{
+    let next = i + 1;
+    let trail = trail_of(classes, s[next]);
+    v & trail != 0
+}
+
+// The same where there may be one byte only.
 fn shares_bit(classes: &[u16; 512], s: &[u8], i: usize, v: u16) -> bool
     requires { ⌜ Classes (now classes) ⌝ }
     requires { ⌜ FirstAt (now s) i v ⌝ }
@@ -666,8 +678,7 @@ fn shares_bit(classes: &[u16; 512], s: &[u8], i: usize, v: u16) -> bool
     if s.len() <= next {
         return false;
     }
-    let trail = trail_of(classes, s[next]);
-    v & trail != 0
+    share_bit(classes, s, i, v)
 }
 
 // The same by row and cell.
@@ -680,6 +691,31 @@ fn pair_at(s: &[u8], i: usize) -> bool
         return false;
     }
     is_pair(s[i], s[next])
+}
+
+// How far a run of characters that are no comma goes from a position on. It may end early, at the last byte of all.
+pub fn run_end(classes: &[u16; 512], s: &[u8], from: usize) -> usize
+    requires { ⌜ Classes (now classes) ⌝ }
+    requires { ⌜ from ≤ length (now s) ⌝ }
+    ensures { λ r. ⌜ RunOf (now (s .entry)) from r ⌝ }
+{
+    let len = s.len();
+    if len == 0 {
+        return from;
+    }
+    let last = len - 1;
+    let mut i = from;
+    while i < last {
+        let v = first_of(classes, s[i]);
+        if v == 0 {
+            i += 1;
+        } else if share_bit(classes, s, i, v) {
+            i += 2;
+        } else {
+            return i;
+        }
+    }
+    i
 }
 
 pub struct Scan {

@@ -67,7 +67,7 @@ id-length : (id : List ℕ) → validID id ≡ true → length id ≡ 14
 unfolding validID
 id-length id e = eqb-true (length id) 14 (both (eqb (length id) 14) (all isDigit id) e .0)
 
-module _ (f : List ℕ) (c : ℕ) (id d : List ℕ) {buf : List ℕ} {m : Canonical} (p : MadeOf (fileBytes (readFile f)) buf m) where
+module _ (f : List ℕ) (c : ℕ) (id d : List ℕ) {buf : List ℕ} {l : ℕ} {m : Canonical} (p : MadeOf l (fileBytes (readFile f)) buf m) where
   -- a refusal leaves the output as it was
   kept : {n line : ℕ} → Refused n line ≡ cutOf f c id (length d) → d ≡ cutBuffer f c id d
   unfolding cutBuffer

@@ -8,6 +8,7 @@ ghost use Prim.Native.Nat.{_≤_};
 ghost use lib.ListN.{length};
 ghost use Rattle.buffers.specs.Buffers.{Wrote};
 ghost use Rattle.packing.specs.Widths.{digitsOf, serves};
+ghost use Rattle.canonical.specs.Writing.{Holds};
 ghost use Rattle.pieces.specs.Marks.{markRow};
 ghost use Rattle.cut.specs.Cut.{cutOf, cutBuffer};
 ghost use Rattle.cut.specs.Loops.{OverOf, RunAt, Small, chosen, MarkRoom, pieceAs, PieceRoom, poured, Ready, Given, CutBytes};
@@ -202,13 +203,14 @@ fn cut_bytes(s: &[u8], capacity: u64, id: &[u8], out: &mut [u8]) -> Cutting
     }
 }
 
-// Cuts a file into pieces of at most the capacity, one after another from the output's start on; or the one refusal.
-pub fn cut(file: &[u8], capacity: u64, id: &[u8], out: &mut [u8]) -> Cutting
+// Cuts a file into pieces of at most the capacity, one after another from the output's start on; or the one refusal. bytes: an array for the
+// canonical file.
+fn cut_by(file: &[u8], bytes: &mut [u8], capacity: u64, id: &[u8], out: &mut [u8]) -> Cutting
+    requires { ⌜ Holds (now file) (now bytes) ⌝ }
     ensures answer { λ r. ⌜ r ≡ cutOf (now (file .entry)) capacity (now (id .entry)) (length (now (out .entry))) ⌝ }
     ensures buffer { λ _. ⌜ now (out .exit) ≡ cutBuffer (now (file .entry)) capacity (now (id .entry)) (now (out .entry)) ⌝ }
 {
-    let mut bytes = [0u8; 65536];
-    match canonical::canonical_into(file, &mut bytes) {
+    match canonical::canonical_into(file, bytes) {
         canonical::Canonical::Refused(number, line) => Cutting::Refused(number, line),
         canonical::Canonical::Written(count) => {
             if pieces::valid_id(id) {
@@ -219,4 +221,22 @@ pub fn cut(file: &[u8], capacity: u64, id: &[u8], out: &mut [u8]) -> Cutting
             Cutting::Refused(17, 0)
         }
     }
+}
+
+// The same with an array of its own, of a length that the file asks for.
+pub fn cut(file: &[u8], capacity: u64, id: &[u8], out: &mut [u8]) -> Cutting
+    ensures answer { λ r. ⌜ r ≡ cutOf (now (file .entry)) capacity (now (id .entry)) (length (now (out .entry))) ⌝ }
+    ensures buffer { λ _. ⌜ now (out .exit) ≡ cutBuffer (now (file .entry)) capacity (now (id .entry)) (now (out .entry)) ⌝ }
+{
+    let len = file.len();
+    if len <= 2048 {
+        let mut bytes = [0u8; 2048];
+        return cut_by(file, &mut bytes, capacity, id, out);
+    }
+    if len <= 16384 {
+        let mut bytes = [0u8; 16384];
+        return cut_by(file, &mut bytes, capacity, id, out);
+    }
+    let mut bytes = [0u8; 65536];
+    cut_by(file, &mut bytes, capacity, id, out)
 }

@@ -4,6 +4,7 @@ use Prim.Native.Nat.{ℕ, _+_, _-_, _≤_, _<_}
 use native.Mathlib.Omega.{arith}
 use mathlib.Core.Path.{_≡_, refl, sym, ap, _∙_, subst}
 use mathlib.Core.Bool.{Bool, true, false, cond}
+use mathlib.Core.Logic.{⊎-elim}
 use mathlib.Core.List.{List, [], _∷_, _++_}
 use borrow.Author.Tests.{ne-eqb, eqb-true}
 use mir.Val.{Fits}
@@ -12,10 +13,8 @@ use lib.Dec.{eqb}
 use lib.ListN.{length, take, drop, length-append, length-drop}
 use lib.Seq.{sets, length-take-le}
 use Rattle.lists.specs.Lists.{part}
-use Rattle.characters.specs.declared.Line.{Line}
 use Rattle.characters.specs.declared.Line.the-variants.{Whole, Mark, End, Broken}
-use Rattle.characters.specs.Text.{Stops, Sixteen}
-use Rattle.characters.specs.Rows.{rows, isLine, lineEnd, WholeLine, ScannedLine, BrokenRow, LineMeans, LineOf}
+use Rattle.characters.specs.Rows.{rows, isLine, lineEnd, WholeLine, BrokenRow, LineOf}
 use Rattle.characters.proofs.RowLaws.{line-is, line-text}
 use Rattle.records.specs.Records.{faultWhere, lineFault, recordOf}
 use Rattle.order.specs.declared.State.{State}
@@ -25,13 +24,16 @@ use Rattle.order.specs.declared.Moved.the-variants.{Refused, On}
 use Rattle.order.specs.State.{start, advance, stepOf, groupOf, drugOf, Room as Countable}
 use Rattle.order.proofs.Laws.{taken, next-line, room, room-start, line-start}
 use Rattle.lines.specs.Facts.{factsOf}
-use Rattle.lines.specs.Codes.{Commas}
 use Rattle.buffers.specs.Buffers.{Room, Wrote, six}
 use Rattle.buffers.proofs.Runs.{carry}
 use Rattle.notebook.specs.Notebook.{stepLine}
-use Rattle.notebook.specs.Check.{Judged, Behind}
+use Rattle.notebook.specs.Check.{Behind}
 use Rattle.notebook.proofs.StepLaws.{Placed, placed, place-number}
-use Rattle.notebook.proofs.LineFacts.{line-facts, line-means, whole-line, whole-fits, whole-length}
+use Rattle.notebook.specs.declared.Turn.{Turn}
+use Rattle.notebook.specs.declared.Turn.the-variants.{Over, Refused as TurnRefused, On as TurnOn}
+use Rattle.notebook.specs.Turns.{StepAt, RefusedAt, broken, faulty, TurnOf}
+use Rattle.notebook.proofs.TurnLaws.{turn-facts, turn-over, turn-refused, turn-step, turn-fits}
+use Rattle.notebook.proofs.LineFacts.{whole-line, whole-length}
 use Rattle.index.specs.Index.{Entry, entryOf, entered, entriesFrom, numbers, Spanned}
 
 -- ---- one entry
@@ -86,79 +88,102 @@ module _ {provider : Bool} {s : List ℕ} {from : ℕ} {d : List ℕ} {st : Stat
     high = omega (arith, v .count, v .hold);
   }
 
-  module _ {stops : List ℕ} {k : Line} (w : LineOf s at stops k) where
-    pub filling-end : k ≡ End → Wrote d d′ 0 next (rest s (start provider) from)
+  -- where no record is left
+  module _ {stops : List ℕ} where
+    filling-end : LineOf s at stops End → entriesFrom st at (rows (drop at s)) ≡ []
     unfolding entriesFrom
-    filling-end e = all-written (ap (entriesFrom st at) (line-means w e))
+    filling-end w = ap (entriesFrom st at) (w .means)
 
-    pub filling-mark : k ≡ Mark → Wrote d d′ 0 next (rest s (start provider) from)
+    filling-mark : LineOf s at stops Mark → entriesFrom st at (rows (drop at s)) ≡ []
     unfolding entriesFrom isLine
-    filling-mark e = all-written (ap (entriesFrom st at) (line-means w e))
+    filling-mark w = ap (entriesFrom st at) (w .means)
 
-    pub filling-broken : k ≡ Broken → Wrote d d′ 0 next (rest s (start provider) from)
+    filling-broken : LineOf s at stops Broken → entriesFrom st at (rows (drop at s)) ≡ []
     unfolding entriesFrom
-    filling-broken e = all-written (go (rows (drop at s)) (line-means w e))
+    filling-broken w = go (rows (drop at s)) (w .means)
       where
         go : (rs : List (List ℕ)) → BrokenRow rs → entriesFrom st at rs ≡ []
         go [] b = absurd b
         go (r ∷ rs) b = rw (b .0)
 
-    module _ {e : ℕ} {good : Bool} {commas : ℕ} (q : k ≡ Whole e good commas) where
+  module _ {stops : List ℕ} {e : ℕ} {good : Bool} {commas : ℕ} (w : LineOf s at stops (Whole e good commas)) where
+    line : WholeLine s at e good
+    line = whole-line w refl
+
+    -- the entries of the line here and of those behind it
+    here : Moved → List Entry
+    here = entered at (part s at e) (λ t. entriesFrom t (e + 2) (rows (drop (e + 2) s)))
+
+    line-entries : entriesFrom st at (rows (drop at s)) ≡ here (stepLine st (part s at e))
+    unfolding entriesFrom here
+    line-entries =
+        let n : at + length (part s at e ++ lineEnd) ≡ e + 2 = rw (length-append, whole-length w refl) (omega (arith, line .low)) in
+        rw (line .cut, line-is (part s at e) (line .clear), line-text (part s at e) (line .clear), n)
+
+    filling-faulty : {n : ℕ} → Refused n ≡ stepLine st (part s at e) → entriesFrom st at (rows (drop at s)) ≡ []
+    unfolding here entered
+    filling-faulty u = line-entries ∙ ap here (sym u)
+
+  module _ {stops : List ℕ} {k : Turn} (w : TurnOf st s at stops k) where
+    pub filling-over : k ≡ Over → Wrote d d′ 0 next (rest s (start provider) from)
+    filling-over q = all-written (⊎-elim filling-end filling-mark (turn-over w q))
+
+    pub filling-stopped : {n : ℕ} → k ≡ TurnRefused n → Wrote d d′ 0 next (rest s (start provider) from)
+    filling-stopped {n} q = all-written (go (turn-refused w q))
+      where
+        go : RefusedAt st s at stops n → entriesFrom st at (rows (drop at s)) ≡ []
+        go (broken l e) = filling-broken l
+        go (faulty e m x) = filling-faulty (x .line) (x .step)
+
+    module _ {after : State} {rp doctor e commas : ℕ} (q : k ≡ TurnOn after rp doctor e commas) where
+      found : StepAt st s at stops e commas (On after rp doctor)
+      found = turn-step w q
+
+      whole : WholeLine s at e (found .good)
+      whole = whole-line (found .line) refl
+
       pub filling-fits : Fits w64 (e + 2)
-      filling-fits = whole-fits w q (v .small)
+      filling-fits = turn-fits w q (v .small)
 
       pub filling-span : Spanned at e
-      filling-span = record { low = whole-line w q .low; small = omega (arith, whole-line w q .high, v .small) }
+      filling-span = record { low = whole .low; small = omega (arith, whole .high, v .small) }
 
-      -- the entries of the line here and of those behind it
-      here : Moved → List Entry
-      here = entered at (part s at e) (λ t. entriesFrom t (e + 2) (rows (drop (e + 2) s)))
+      taken-here : Placed st (part s at e) after rp doctor
+      taken-here = placed st (part s at e) after rp doctor (sym (found .step))
 
-      line-entries : entriesFrom st at (rows (drop at s)) ≡ here (stepLine st (part s at e))
-      unfolding entriesFrom here
-      line-entries =
-          let n : at + length (part s at e ++ lineEnd) ≡ e + 2 = rw (length-append, whole-length w q) (omega (arith, whole-line w q .low)) in
-          rw (whole-line w q .cut, line-is (part s at e) (whole-line w q .clear), line-text (part s at e) (whole-line w q .clear), n)
+      own : List ℕ
+      own = six (after .place) at (e - at) (groupOf after) doctor (drugOf after)
 
-      module _ {m : Moved} (o : m ≡ stepLine st (take (e - at) (drop at s))) where
-        pub filling-refused : {n : ℕ} → m ≡ Refused n → Wrote d d′ 0 next (rest s (start provider) from)
-        unfolding here entered
-        filling-refused u = all-written (line-entries ∙ ap here (sym o ∙ u))
+      -- the record's own numbers, and those behind it
+      written : rest s st at ≡ own ++ rest s after (e + 2)
+      unfolding numbers here entered entryOf own
+      written = ap numbers (line-entries (found .line) ∙ ap (here (found .line)) (sym (found .step))) ∙ rw (place-number taken-here, whole-length (found .line) refl)
 
-        module _ {after : State} {rp doctor : ℕ} (u : m ≡ On after rp doctor) where
-          taken-here : Placed st (part s at e) after rp doctor
-          taken-here = placed st (part s at e) after rp doctor (sym o ∙ u)
+      count-on : length (rest s st at) ≡ length own + length (rest s after (e + 2))
+      count-on = ap length written ∙ length-append own (rest s after (e + 2))
 
-          own : List ℕ
-          own = six (after .place) at (e - at) (groupOf after) doctor (drugOf after)
+      pub filling-room : Room d′ next (six (after .place) at (e - at) (groupOf after) doctor (drugOf after))
+      unfolding own
+      filling-room = omega (arith, v .count, v .hold, v .size, count-on)
 
-          -- the record's own numbers, and those behind it
-          written : rest s st at ≡ own ++ rest s after (e + 2)
-          unfolding numbers here entered entryOf own
-          written = ap numbers (line-entries ∙ ap here (sym o ∙ u)) ∙ rw (place-number taken-here, whole-length w q)
+      pub filling-on : {behind : ℕ} {d″ : List ℕ} → Wrote d′ d″ next behind (six (after .place) at (e - at) (groupOf after) doctor (drugOf after))
+          → Filling provider s from d after (e + 2) d″ behind
+      unfolding own
+      filling-on x =
+          let y : stepOf st (factsOf (recordOf (part s at e))) ≡ On after rp doctor = taken-here .step in
+          let l : after .line ≡ st .line + 1 = next-line st (factsOf (recordOf (part s at e))) after rp doctor y in
+          record {
+            left = carry (rest s after (e + 2)) x (rw written at (v .left));
+            count = omega (arith, x .next, v .count, count-on);
+            hold = v .hold;
+            size = x .size ∙ v .size;
+            room = room st (factsOf (recordOf (part s at e))) after rp doctor y (v .room) (omega (arith, l, v .line, v .high, v .small));
+            line = omega (arith, l, v .line, whole .low);
+            high = whole .high;
+            small = v .small;
+          }
 
-          count-on : length (rest s st at) ≡ length own + length (rest s after (e + 2))
-          count-on = ap length written ∙ length-append own (rest s after (e + 2))
+  pub filling-countable : Countable st
+  filling-countable = v .room
 
-          pub filling-room : Room d′ next (six (after .place) at (e - at) (groupOf after) doctor (drugOf after))
-          unfolding own
-          filling-room = omega (arith, v .count, v .hold, v .size, count-on)
-
-          pub filling-on : {behind : ℕ} {d″ : List ℕ} → Wrote d′ d″ next behind (six (after .place) at (e - at) (groupOf after) doctor (drugOf after))
-              → Filling provider s from d after (e + 2) d″ behind
-          unfolding own
-          filling-on x =
-              let y : stepOf st (factsOf (recordOf (part s at e))) ≡ On after rp doctor = taken-here .step in
-              let l : after .line ≡ st .line + 1 = next-line st (factsOf (recordOf (part s at e))) after rp doctor y in
-              record {
-                left = carry (rest s after (e + 2)) x (rw written at (v .left));
-                count = omega (arith, x .next, v .count, count-on);
-                hold = v .hold;
-                size = x .size ∙ v .size;
-                room = room st (factsOf (recordOf (part s at e))) after rp doctor y (v .room) (omega (arith, l, v .line, v .high, v .small));
-                line = omega (arith, l, v .line, whole-line w q .low);
-                high = whole-line w q .high;
-                small = v .small;
-              }
-
-pub ruleset filling-laws = (line-facts, filling-start, filling-end, filling-mark, filling-broken, filling-fits, filling-span, filling-refused, filling-room, filling-on)
+pub ruleset filling-laws = (turn-facts, filling-start, filling-countable, filling-over, filling-stopped, filling-fits, filling-span, filling-room, filling-on)

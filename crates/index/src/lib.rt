@@ -60,19 +60,13 @@ fn fill_records(
     let mut at = from;
     let mut next = 0;
     loop {
-        match characters::line_at(classes, stops, s, at) {
-            characters::Line::End => return next,
-            characters::Line::Mark => return next,
-            characters::Line::Broken => return next,
-            characters::Line::Whole(end, good, commas) => {
-                match notebook::step_line(codes, st, good, commas, stops, &s[at..end]) {
-                    order::Moved::Refused(_) => return next,
-                    order::Moved::On(after, _, doctor) => {
-                        next = put_entry(out, next, at, end, after, doctor);
-                        st = after;
-                        at = end + 2;
-                    }
-                }
+        match notebook::read_record(classes, codes, stops, st, s, at) {
+            notebook::Turn::Over => return next,
+            notebook::Turn::Refused(_) => return next,
+            notebook::Turn::On(after, _, doctor, end, _) => {
+                next = put_entry(out, next, at, end, after, doctor);
+                st = after;
+                at = end + 2;
             }
         }
     }

@@ -2,8 +2,10 @@
 // Definitions: `fault` in records, specs/Items.antt; the numbers of kinds: specs/Codes.antt. A new kind is a function here, an arm
 // of `kind_fault` and a clause of `kindOf`.
 ghost use mathlib.Core.Path.{_≡_};
-ghost use mathlib.Core.Bool.{not, _&&_};
+ghost use mathlib.Core.Bool.{cond, not, _&&_};
+ghost use Prim.Native.Nat.{_≤_, _/_, _%_};
 ghost use lib.Dec.{leb, eqb};
+ghost use lib.ListN.{length};
 ghost use mathlib.Core.List.{[], _∷_};
 ghost use Rattle.lists.specs.Lists.{all, member as memberOf, unless as unlessOf};
 ghost use Rattle.digits.specs.Digits.{isDigit, number};
@@ -12,7 +14,9 @@ ghost use Rattle.calendar.specs.Era.{readDay};
 ghost use Rattle.records.specs.Table.{required as requiredOf};
 ghost use Rattle.records.specs.Items.{isCode, allPairs, endsWide, oneWidth as oneWidthOf, edge as edgeOf, seven as sevenOf, unhyphened, postal as postalOf, prefecture as prefectureOf, whole as wholeOf, places as placesOf, fraction as fractionOf, decimal as decimalOf, sized as sizedOf, fault as faultOf, numberFault, dayFault};
 ghost use Rattle.records.specs.Records.{itemFault};
+ghost use Rattle.characters.specs.Classes.{Classes};
 ghost use Rattle.items.specs.Codes.{setOf, kindOf, needOf, itemOf};
+ghost use Rattle.items.specs.Ends.{EndOf, SpelledAt, CodeRun, DigitAt, DigitFits};
 
 fn is_code(b: u8) -> bool
     ensures { λ r. ⌜ r ≡ isCode b ⌝ }
@@ -306,4 +310,194 @@ pub fn item_fault(c: usize, provider: bool, s: &[u8]) -> u8
         return unless(!need, 8);
     }
     kind_fault(c / 4 % 16, c / 64, s)
+}
+
+// ---- items at a position
+
+// How far the bytes that a code may have go from a position on.
+fn code_end(s: &[u8], from: usize) -> usize
+    requires { ⌜ from ≤ length (now s) ⌝ }
+    ensures { λ r. ⌜ CodeRun (now (s .entry)) from r ⌝ }
+{
+    let mut i = from;
+    while i < s.len() {
+        let b = s[i];
+        if digits::is_digit(b) {
+            i += 1;
+        } else if is_code(b) {
+            i += 1;
+        } else {
+            return i;
+        }
+    }
+    i
+}
+
+// Where an empty item ends: where it begins, unless it must not be empty.
+fn blank_end(c: usize, provider: bool, from: usize) -> usize
+    ensures { λ r. ⌜ r ≡ cond (requiredOf (provider) (needOf (c % 4))) 0 from ⌝ }
+{
+    if required(c % 4, provider) { 0 } else { from }
+}
+
+// Kind N: too long, then an edge.
+fn text_item(classes: &[u16; 512], c: usize, provider: bool, s: &[u8], from: usize) -> usize
+    requires { ⌜ Classes (now classes) ⌝ }
+    requires { ⌜ from ≤ length (now s) ⌝ }
+    requires { ⌜ c / 4 % 16 ≡ 0 ⌝ }
+    ensures { λ r. ⌜ EndOf (provider) c (now (s .entry)) from r ⌝ }
+{
+    let end = characters::run_end(classes, s, from);
+    if end == from {
+        return blank_end(c, provider, from);
+    }
+    if c / 64 < end - from {
+        return 0;
+    }
+    let a = s[from];
+    let z = s[end - 1];
+    if inner(a, 0x81) & inner(z, 0x40) {
+        return end;
+    }
+    if edge(&s[from..end]) { 0 } else { end }
+}
+
+// Kind X: a code has no edge, so its length and whether it must not be empty are all that is left to look at.
+fn code_item(c: usize, provider: bool, s: &[u8], from: usize) -> usize
+    requires { ⌜ from ≤ length (now s) ⌝ }
+    requires { ⌜ c / 4 % 16 ≡ 2 ⌝ }
+    ensures { λ r. ⌜ EndOf (provider) c (now (s .entry)) from r ⌝ }
+{
+    let end = code_end(s, from);
+    if end == from {
+        return blank_end(c, provider, from);
+    }
+    if c / 64 < end - from { 0 } else { end }
+}
+
+// Any other kind: the run, then its fault.
+fn other_item(classes: &[u16; 512], c: usize, provider: bool, s: &[u8], from: usize) -> usize
+    requires { ⌜ Classes (now classes) ⌝ }
+    requires { ⌜ from ≤ length (now s) ⌝ }
+    ensures { λ r. ⌜ EndOf (provider) c (now (s .entry)) from r ⌝ }
+{
+    let end = characters::run_end(classes, s, from);
+    let f = item_fault(c, provider, &s[from..end]);
+    if f == 0 { end } else { 0 }
+}
+
+// The value of a digit with a comma or 0Dh behind it, which is an item of one byte; else 10.
+fn digit_at(s: &[u8], from: usize) -> u32
+    requires { ⌜ from ≤ length (now s) ⌝ }
+    ensures { λ r. ⌜ DigitAt (now (s .entry)) from r ⌝ }
+{
+    let next = from + 1;
+    if s.len() <= next {
+        return 10;
+    }
+    let b = s[next];
+    if (b == 0x2c) | (b == 0x0d) {
+        let a = s[from];
+        if digits::is_digit(a) {
+            return digits::wide(a - 48);
+        }
+    }
+    10
+}
+
+// Whether an item of one digit has no fault, by the number of its kind and its set. False says nothing.
+fn digit_fits(k: usize, m: usize, d: u32) -> bool
+    ensures { λ r. ⌜ DigitFits k m d r ⌝ }
+{
+    match k {
+        3 => member(7, d),
+        8 => true,
+        9 => true,
+        0 | 1 | 2 | 4 | 5 | 6 | 7 | 10 => false,
+        _ => member(m, d),
+    }
+}
+
+// One to three digits from a position on: where they end, and their value.
+pub struct Spelled {
+    pub end: usize,
+    pub value: u32,
+}
+
+// None is told of the last two bytes of all, which end no record.
+pub fn spelled_at(s: &[u8], at: usize) -> Spelled
+    requires { ⌜ at ≤ length (now s) ⌝ }
+    ensures { λ r. ⌜ SpelledAt (now (s .entry)) at r ⌝ }
+{
+    let second = at + 1;
+    let third = at + 2;
+    if s.len() <= third {
+        return Spelled { end: at, value: 0 };
+    }
+    let a = s[at];
+    if !digits::is_digit(a) {
+        return Spelled { end: at, value: 0 };
+    }
+    let one = digits::wide(a - 48);
+    let b = s[second];
+    if !digits::is_digit(b) {
+        return Spelled {
+            end: second,
+            value: one,
+        };
+    }
+    let two = 10 * one + digits::wide(b - 48);
+    let c = s[third];
+    if !digits::is_digit(c) {
+        return Spelled {
+            end: third,
+            value: two,
+        };
+    }
+    Spelled {
+        end: at + 3,
+        value: 10 * two + digits::wide(c - 48),
+    }
+}
+
+// For kind R.
+fn number_item(classes: &[u16; 512], c: usize, provider: bool, s: &[u8], from: usize) -> usize
+    requires { ⌜ Classes (now classes) ⌝ }
+    requires { ⌜ from ≤ length (now s) ⌝ }
+    requires { ⌜ c / 4 % 16 ≡ 7 ⌝ }
+    ensures { λ r. ⌜ EndOf (provider) c (now (s .entry)) from r ⌝ }
+{
+    let r = spelled_at(s, from);
+    let end = r.end;
+    let v = r.value;
+    if v != 0 {
+        return end;
+    }
+    other_item(classes, c, provider, s, from)
+}
+
+// Where the item that begins at a position ends, if it has no fault; else 0. c: the item of the table, as one number. 0 says nothing of
+// the item: the line that it stands in is then read another way.
+pub fn item_end(classes: &[u16; 512], c: usize, provider: bool, s: &[u8], from: usize) -> usize
+    requires { ⌜ Classes (now classes) ⌝ }
+    requires { ⌜ from ≤ length (now s) ⌝ }
+    ensures { λ r. ⌜ EndOf (provider) c (now (s .entry)) from r ⌝ }
+{
+    let kind = c / 4 % 16;
+    if kind == 0 {
+        return text_item(classes, c, provider, s, from);
+    }
+    if kind == 2 {
+        return code_item(c, provider, s, from);
+    }
+    if kind == 7 {
+        return number_item(classes, c, provider, s, from);
+    }
+    let d = digit_at(s, from);
+    if d <= 9 {
+        if digit_fits(kind, c / 64, d) {
+            return from + 1;
+        }
+    }
+    other_item(classes, c, provider, s, from)
 }

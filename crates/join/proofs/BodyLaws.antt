@@ -18,7 +18,7 @@ use Rattle.characters.specs.Text.{isStop, text}
 use Rattle.characters.specs.Rows.{rows, flat, lineEnd, isLine, endMark}
 use Rattle.records.specs.Records.{isMark}
 use Rattle.canonical.specs.Canonical.{headRow}
-use Rattle.canonical.proofs.PartLaws.{part-length, part-none, part-join, part-part}
+use Rattle.lists.proofs.Parts.{part-length, part-none, part-join, part-part}
 use Rattle.pieces.specs.declared.Row.{Row}
 use Rattle.pieces.specs.declared.Row.the-variants.{Head, EndHead, Body, End, Broken}
 use Rattle.pieces.specs.declared.Numbers.{Numbers}

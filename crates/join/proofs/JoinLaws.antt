@@ -35,7 +35,7 @@ use Rattle.join.specs.declared.Joining.{Joining}
 use Rattle.join.specs.declared.Joining.the-variants.{Joined, Refused}
 use Rattle.join.specs.Join.{unmarked, Part, partOf, with, partsOf, agree, gather, whole, joinParts, joinPieces, orSet, joinSplit, joinedFile, checkedFile, thenChecked, joinFile, held, joinOf, bytesOf, bufferAfter, joinBuffer}
 use Rattle.join.specs.Spans.{unbroken, sound, Opened, Ended, NextMeans, NextIs, OpenedFirst, FirstMeans, FirstIs, PlainLines, partBy, identAt, MarkedLines, WrongLines, LinesMean, LinesAre, like, isSet, Blank, Collected, CollectMeans, CollectIs, taken, spans, FillMeans, FillIs, MadeMeans, MadeIs, SoundMeans, SoundIs, Given, GivenSet, First, Input}
-use Rattle.canonical.proofs.PartLaws.{part-length}
+use Rattle.lists.proofs.Parts.{part-length}
 use Rattle.join.proofs.SoundLaws.{sound-line, line-sound}
 use Rattle.join.proofs.SetLaws.{agree-self, Gathers, gathers}
 

@@ -23,7 +23,7 @@ use Rattle.join.specs.declared.Member.the-variants.{Of, Foreign}
 use Rattle.join.specs.declared.Filled.the-variants.{Full, Large}
 use Rattle.join.specs.Join.{Part, partOf, with, partsOf, agree, find, behind, gather}
 use Rattle.join.specs.Spans.{unbroken, goesOn, partBy, Opened, Ended, NextMeans, NextIs, like, agreed, isSet, Within, MemberAt, MemberMeans, MemberIs, Sizes, Bounds, Slot, Slots, Blank, Stored, CollectMeans, CollectIs, taken, spans, FillIs, FillRoom}
-use Rattle.canonical.proofs.PartLaws.{part-length}
+use Rattle.lists.proofs.Parts.{part-length}
 use Rattle.join.proofs.BodyLaws.{flat-append}
 
 -- ---- storing

@@ -5,3 +5,5 @@ pub mod PairLaws
 pub mod DetailLaws
 pub mod FactLaws
 pub mod LineLaws
+pub mod FindLaws
+pub mod QuickLaws

@@ -6,14 +6,14 @@ use mathlib.Core.List.{List, [], _∷_}
 use native.Mathlib.Omega.{arith}
 use borrow.Author.Tests.{le-leb, lt-leb, eq-eqb, ne-eqb}
 use lib.Dec.{leb, eqb}
-use lib.ListN.{length, take, drop}
+use lib.ListN.{length, take, drop, getD}
 use Rattle.lists.specs.Lists.{same, part, findFrom, unless, _orElse_}
 use Rattle.lists.proofs.Tests.{or-stops, not-false′}
 use Rattle.lists.proofs.Loops.{find-high}
 use Rattle.digits.specs.Digits.{spell}
 use Rattle.digits.specs.Short.{plainNumber}
 use Rattle.digits.proofs.Spelling.{same-spell}
-use Rattle.characters.specs.Text.{Stops, Sixteen}
+use Rattle.characters.specs.Text.{commaCount, Stops, Sixteen}
 use Rattle.order.specs.declared.Facts.{Facts}
 use Rattle.records.specs.Split.{itemsOf, itemsFrom}
 use Rattle.records.specs.Table.{Row, table}
@@ -21,9 +21,11 @@ use Rattle.records.specs.Records.{t911, rowOf, recordFrom, recordOf, itemsValue
 use Rattle.lines.specs.declared.Details.{Details}
 use Rattle.lines.specs.declared.LineRead.{LineRead}
 use Rattle.lines.specs.declared.LineRead.the-variants.{Fault, Fine}
+use Rattle.lines.specs.declared.Numbered.{Numbered}
 use Rattle.lines.specs.Facts.{factsOf, lineRead}
+use Rattle.lines.specs.Found.{Sound, Told, NumberedAs}
 use Rattle.lines.specs.Codes.{codes, sliceOf, placeOf, placeIn, Lent, Commas, InCodes, Spanned, pairsRaw, factsRaw, detailsRaw}
-use Rattle.lines.proofs.SplitLaws.{items-all, item-cut, items-count}
+use Rattle.lines.proofs.SplitLaws.{items-all, item-cut, items-count, items-some}
 use Rattle.lines.proofs.TableLaws.{rowBy, RowAt, row-of, row-of-number, slice-length}
 use Rattle.lines.proofs.FactLaws.{pairs-is, facts-is}
 
@@ -31,13 +33,13 @@ pub lent : Lent codes
 lent = record { is = refl }
 
 -- what the code has found: the first item, its number, its row's place, the other items
-record Found (s h : List ℕ) (ss : List (List ℕ)) (n place : ℕ) : Type 0 where
+record Cut (s h : List ℕ) (ss : List (List ℕ)) (n place : ℕ) : Type 0 where
   cut : itemsOf s ≡ h ∷ ss
   number : n ≡ plainNumber h
   place-is : place ≡ placeOf n
   inside : InCodes place
 
-module _ {s h : List ℕ} {ss : List (List ℕ)} {n place : ℕ} (f : Found s h ss n place) where
+module _ {s h : List ℕ} {ss : List (List ℕ)} {n place : ℕ} (f : Cut s h ss n place) where
   row : RowAt n (rowOf h) place
   row = subst (λ (x : ℕ). RowAt n (rowOf h) x) (sym (f .place-is)) (subst (λ (x : ℕ). RowAt x (rowOf h) (placeOf x)) (sym (f .number)) (row-of h))
 
@@ -79,91 +81,147 @@ module _ {s h : List ℕ} {ss : List (List ℕ)} {n place : ℕ} (f : Found s h 
         (ap (λ (r : Row). r .items) (sym by-n) ∙ row .items)
         (l ∙ sym (slice-length place (f .inside)))
 
--- ---- the ways
+-- ---- the ways through number_of
 
 -- a fault is what is read
 read-fault : (g b : Bool) (s : List ℕ) (k : ℕ) → (k ≡ 0 → ⊥) → faultWhere g b s ≡ k → Fault k ≡ lineRead g b s
 unfolding lineRead
 read-fault g b s k z e = rw (e, ne-eqb k 0 z)
 
+faulty : (g b : Bool) (s : List ℕ) (k : ℕ) → (k ≡ 0 → ⊥) → faultWhere g b s ≡ k → NumberedAs b g s (record { fault = k; number = 0 })
+faulty g b s k z e = record { faulty = λ _. read-fault g b s k z e; sound = λ o. absurd (z o) }
+
 pub first-inside : (s : List ℕ) {e : ℕ} → e ≡ findFrom 0x2c s 0 → e ≤ length s
 first-inside s q = omega (arith, q, find-high 0x2c s 0 (omega arith))
 
-pub read-chars : (s : List ℕ) (b g : Bool) → not g ≡ true → Fault 4 ≡ lineRead g b s
+pub numbered-chars : (s : List ℕ) (b g : Bool) → not g ≡ true → NumberedAs b g s (record { fault = 4; number = 0 })
 unfolding faultWhere
-read-chars s b true e = absurd (false≢true e)
-read-chars s b false e = read-fault false b s 4 (λ z. omega arith) refl
+numbered-chars s b true e = absurd (false≢true e)
+numbered-chars s b false e = faulty false b s 4 (λ z. omega arith) refl
+
+past : (s : List ℕ) (b g : Bool) → g ≡ true → (k : ℕ) → faultFrom b (itemsOf s) ≡ k → faultWhere g b s ≡ k
+unfolding faultWhere
+past s b g t k h = rw t h
 
 module _ (s : List ℕ) (b g : Bool) {e n : ℕ} (t : not g ≡ false) (q : e ≡ findFrom 0x2c s 0) (m : n ≡ plainNumber (take (e - 0) (drop 0 s))) where
-  found : {place : ℕ} → place ≡ placeOf n → InCodes place → Found s (take (e - 0) (drop 0 s)) (drop 1 (itemsOf s)) n place
-  found p i =
+  first-cut : itemsOf s ≡ take (e - 0) (drop 0 s) ∷ drop 1 (itemsOf s)
+  first-cut =
       let c : itemsOf s ≡ take (e - 0) (drop 0 s) ∷ itemsFrom s (e + 1) = items-all s ∙ item-cut s 0 (omega arith) q in
-      record { cut = c ∙ ap (λ (x : List (List ℕ)). take (e - 0) (drop 0 s) ∷ x) (sym (ap (λ (x : List (List ℕ)). drop 1 x) c)); number = m; place-is = p; inside = i }
+      c ∙ ap (λ (x : List (List ℕ)). take (e - 0) (drop 0 s) ∷ x) (sym (ap (λ (x : List (List ℕ)). drop 1 x) c))
 
-  past : (k : ℕ) → faultFrom b (itemsOf s) ≡ k → faultWhere g b s ≡ k
-  unfolding faultWhere
-  past k h = rw (not-false′ g t) h
+  cut-at : {place : ℕ} → place ≡ placeOf n → InCodes place → Cut s (take (e - 0) (drop 0 s)) (drop 1 (itemsOf s)) n place
+  cut-at p i = record { cut = first-cut; number = m; place-is = p; inside = i }
 
-  pub read-mark : n ≡ 911 → Fault 6 ≡ lineRead g b s
+  past-chars : (k : ℕ) → faultFrom b (itemsOf s) ≡ k → faultWhere g b s ≡ k
+  past-chars = past s b g (not-false′ g t)
+
+  pub numbered-mark : n ≡ 911 → NumberedAs b g s (record { fault = 6; number = 0 })
   unfolding placeOf placeIn
-  read-mark h =
-      let f = found {place = 0} (ap placeOf (sym h)) (record { inside = omega arith }) in
-      read-fault g b s 6 (λ z. omega arith) (past 6 (fault-is f b ∙ rw (eq-eqb n 911 h)))
+  numbered-mark h =
+      let f = cut-at {place = 0} (ap placeOf (sym h)) (record { inside = omega arith }) in
+      faulty g b s 6 (λ z. omega arith) (past-chars 6 (fault-is f b ∙ rw (eq-eqb n 911 h)))
 
   module _ {place : ℕ} (x : n ≡ 911 → ⊥) (p : place ≡ placeOf n) (i : InCodes place) where
-    pub read-unlisted : place ≡ 0 → Fault 5 ≡ lineRead g b s
-    read-unlisted z = read-fault g b s 5 (λ z. omega arith) (past 5 (fault-is (found p i) b ∙ rw (ne-eqb n 911 x, lt-leb 1 place (omega arith))))
+    pub numbered-unlisted : place ≡ 0 → NumberedAs b g s (record { fault = 5; number = 0 })
+    numbered-unlisted z = faulty g b s 5 (λ z. omega arith) (past-chars 5 (fault-is (cut-at p i) b ∙ rw (ne-eqb n 911 x, lt-leb 1 place (omega arith))))
 
     module _ {commas : ℕ} (z : place ≡ 0 → ⊥) (k : Commas s commas) where
       pub read-spanned : {stops : List ℕ} → Stops s stops → Sixteen stops → commas ≡ place % 16 → Spanned s stops commas
       read-spanned v y w = record { places = v; commas = k; few = omega arith; size = y }
 
       counted : commas ≡ length (drop 1 (itemsOf s))
-      counted = omega (arith, k .is, items-count s, ap length (found p i .cut))
+      counted = omega (arith, k .is, items-count s, ap length first-cut)
 
-      pub read-count : (commas ≡ place % 16 → ⊥) → Fault 7 ≡ lineRead g b s
-      read-count w =
-          read-fault g b s 7 (λ z. omega arith) (past 7 (fault-is (found p i) b ∙ rw (
+      pub numbered-count : (commas ≡ place % 16 → ⊥) → NumberedAs b g s (record { fault = 7; number = 0 })
+      numbered-count w =
+          faulty g b s 7 (λ z. omega arith) (past-chars 7 (fault-is (cut-at p i) b ∙ rw (
             ne-eqb n 911 x,
             le-leb 1 place (omega arith),
             ne-eqb (length (drop 1 (itemsOf s))) (place % 16) (λ y. w (omega (arith, counted, y))),
           )))
 
       module _ {f : ℕ} (w : commas ≡ place % 16) (v : f ≡ itemsFault b (sliceOf place) (drop 1 (itemsOf s))) where
-        length-is : length (drop 1 (itemsOf s)) ≡ place % 16
-        length-is = omega (arith, counted, w)
-
-        left : faultFrom b (itemsOf s) ≡ f orElse unless (pairsRaw n (drop 1 (itemsOf s))) 12
-        left =
-            fault-is (found p i) b ∙ rw (
+        items-left : faultFrom b (itemsOf s) ≡ f orElse unless (pairs (recordFrom (take (e - 0) (drop 0 s) ∷ drop 1 (itemsOf s)))) 12
+        items-left =
+            fault-is (cut-at p i) b ∙ rw (
               ne-eqb n 911 x,
               le-leb 1 place (omega arith),
-              eq-eqb (length (drop 1 (itemsOf s))) (place % 16) length-is,
-              pairs-of (found p i) z length-is,
+              eq-eqb (length (drop 1 (itemsOf s))) (place % 16) (omega (arith, counted, w)),
               ← v,
             )
 
-        pub read-items : (f ≡ 0 → ⊥) → Fault f ≡ lineRead g b s
-        read-items y = read-fault g b s f y (past f (left ∙ or-stops f _ y))
+        pub numbered-items : NumberedAs b g s (record { fault = f; number = n })
+        numbered-items = record {
+          faulty = λ y. read-fault g b s f y (past-chars f (items-left ∙ or-stops f _ y));
+          sound = λ o. record {
+            chars = not-false′ g t;
+            number = m ∙ ap (λ (x : List (List ℕ)). plainNumber (getD x 0 [])) (sym first-cut);
+            inside = subst InCodes p i;
+            listed = λ y. z (p ∙ y);
+            count = omega (arith, k .is, w, ap (λ (x : ℕ). x % 16) p);
+            items = ap (λ (x : ℕ). itemsFault b (sliceOf x) (drop 1 (itemsOf s))) (sym p) ∙ sym v ∙ o;
+          };
+        }
 
-        module _ (o : f ≡ 0) {d : Details} (h : d ≡ detailsRaw n (drop 1 (itemsOf s))) where
-          paired-is : d .paired ≡ pairsRaw n (drop 1 (itemsOf s))
-          unfolding detailsRaw
-          paired-is = ap (λ (y : Details). y .paired) h
+pub ruleset numbered-laws = (numbered-chars, first-inside, numbered-mark, numbered-unlisted, numbered-count, read-spanned, numbered-items)
 
-          facts-found : d .facts ≡ factsOf (recordOf s)
-          unfolding detailsRaw
-          facts-found = ap (λ (y : Details). y .facts) h ∙ sym (facts-of (found p i) z length-is)
+-- where the number is known
+pub numbered-known : (s : List ℕ) (b g : Bool) {n : ℕ} → Told b g s n → (n ≡ 0 → ⊥) → NumberedAs b g s (record { fault = 0; number = n })
+numbered-known s b g t z = record { faulty = λ o. absurd (o refl); sound = λ _. t .sound z }
 
-          by-pairs : (y : Bool) → d .paired ≡ y → faultWhere g b s ≡ unless y 12
-          by-pairs y r =
-              past (unless y 12) (left ∙ ap (λ (c : ℕ). c orElse unless (pairsRaw n (drop 1 (itemsOf s))) 12) o ∙ ap (λ (c : Bool). unless c 12) (sym paired-is ∙ r))
+-- ---- the ways through read_line
 
-          pub read-fine : d .paired ≡ true → Fine (d .facts) ≡ lineRead g b s
-          unfolding lineRead
-          read-fine r = rw (by-pairs true r) (ap Fine facts-found)
+module _ (s : List ℕ) (b g : Bool) {r : Numbered} (v : NumberedAs b g s r) where
+  pub read-faulty : (r .fault ≡ 0 → ⊥) → Fault (r .fault) ≡ lineRead g b s
+  read-faulty z = v .faulty z
 
-          pub read-pairs : d .paired ≡ false → Fault 12 ≡ lineRead g b s
-          read-pairs r = read-fault g b s 12 (λ z. omega arith) (by-pairs false r)
+  module _ (o : r .fault ≡ 0) where
+    abbrev n : ℕ
+    n = r .number
 
-pub ruleset read-laws = (read-chars, first-inside, read-mark, read-unlisted, read-count, read-spanned, read-items, read-fine, read-pairs)
+    known : Sound b g s n
+    known = v .sound o
+
+    pub read-known : {commas : ℕ} {stops : List ℕ} → Commas s commas → Stops s stops → Sixteen stops → Spanned s stops commas
+    read-known k p y = record { places = p; commas = k; few = omega (arith, k .is, known .count); size = y }
+
+    cut : Cut s (getD (itemsOf s) 0 []) (drop 1 (itemsOf s)) n (placeOf n)
+    cut = record { cut = items-some s; number = known .number; place-is = refl; inside = known .inside }
+
+    length-is : length (drop 1 (itemsOf s)) ≡ placeOf n % 16
+    length-is = omega (arith, known .count, items-count s, ap length (items-some s))
+
+    no-mark : n ≡ 911 → ⊥
+    unfolding placeOf placeIn
+    no-mark e = known .listed (ap placeOf e)
+
+    left : faultFrom b (itemsOf s) ≡ unless (pairsRaw n (drop 1 (itemsOf s))) 12
+    left =
+        fault-is cut b ∙ rw (
+          ne-eqb n 911 no-mark,
+          le-leb 1 (placeOf n) (omega (arith, known .listed)),
+          eq-eqb (length (drop 1 (itemsOf s))) (placeOf n % 16) length-is,
+          known .items,
+          pairs-of cut (known .listed) length-is,
+        )
+
+    module _ {d : Details} (h : d ≡ detailsRaw n (drop 1 (itemsOf s))) where
+      paired-is : d .paired ≡ pairsRaw n (drop 1 (itemsOf s))
+      unfolding detailsRaw
+      paired-is = ap (λ (y : Details). y .paired) h
+
+      facts-found : d .facts ≡ factsOf (recordOf s)
+      unfolding detailsRaw
+      facts-found = ap (λ (y : Details). y .facts) h ∙ sym (facts-of cut (known .listed) length-is)
+
+      by-pairs : (y : Bool) → d .paired ≡ y → faultWhere g b s ≡ unless y 12
+      by-pairs y r = past s b g (known .chars) (unless y 12) (left ∙ ap (λ (c : Bool). unless c 12) (sym paired-is ∙ r))
+
+      pub read-fine : d .paired ≡ true → Fine (d .facts) ≡ lineRead g b s
+      unfolding lineRead
+      read-fine r = rw (by-pairs true r) (ap Fine facts-found)
+
+      pub read-pairs : d .paired ≡ false → Fault 12 ≡ lineRead g b s
+      read-pairs r = read-fault g b s 12 (λ z. omega arith) (by-pairs false r)
+
+pub ruleset read-laws = (read-faulty, read-known, read-fine, read-pairs)

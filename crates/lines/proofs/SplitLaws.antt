@@ -3,7 +3,7 @@ use Prim.Native.Nat.{ℕ, zero, suc, _+_, _-_, _≤_, _<_}
 use native.Mathlib.Nat.{add-sub-cancel-left}
 use mathlib.Core.Path.{_≡_, refl, sym, ap, ap₂, _∙_, subst}
 use mathlib.Core.Bool.{Bool, true, false, cond}
-use mathlib.Core.List.{List, [], _∷_, map}
+use mathlib.Core.List.{List, [], _∷_, _++_, map}
 use native.Mathlib.Omega.{arith}
 use native.Mathlib.Decide.{decLt}
 use borrow.Author.Tests.{le-leb, lt-leb, leb-true, leb-false}
@@ -50,6 +50,31 @@ items-from s at h =
 pub items-all : (s : List ℕ) → itemsOf s ≡ itemsFrom s 0
 unfolding itemsFrom
 items-all s = rw (leb·zero (length s))
+
+-- without a comma there is one item
+pub items-plain : (t : List ℕ) → commaCount t ≡ 0 → itemsOf t ≡ t ∷ []
+items-plain [] e = refl
+items-plain (a ∷ t) e = go (isComma a) (items-plain t) e
+  where
+    go : (b : Bool) → (commaCount t ≡ 0 → itemsOf t ≡ t ∷ []) → cond b 1 0 + commaCount t ≡ 0 → cond b ([] ∷ itemsOf t) (consItem a (itemsOf t)) ≡ (a ∷ t) ∷ []
+    go true i e = absurd (omega arith)
+    go false i e = ap (consItem a) (i (omega arith))
+
+-- an item more behind a comma
+pub items-snoc : (x t : List ℕ) → commaCount t ≡ 0 → itemsOf (x ++ 0x2c ∷ t) ≡ itemsOf x ++ t ∷ []
+items-snoc [] t e = ap (λ (y : List (List ℕ)). [] ∷ y) (items-plain t e)
+items-snoc (a ∷ x) t e = go (isComma a) (items-snoc x t e)
+  where
+    cons-on : consItem a (itemsOf x ++ t ∷ []) ≡ consItem a (itemsOf x) ++ t ∷ []
+    cons-on = rw (items-cut x)
+
+    go : (b : Bool) → itemsOf (x ++ 0x2c ∷ t) ≡ itemsOf x ++ t ∷ [] → cond b ([] ∷ itemsOf (x ++ 0x2c ∷ t)) (consItem a (itemsOf (x ++ 0x2c ∷ t))) ≡ cond b ([] ∷ itemsOf x) (consItem a (itemsOf x)) ++ t ∷ []
+    go true i = ap (λ (y : List (List ℕ)). [] ∷ y) i
+    go false i = ap (consItem a) i ∙ cons-on
+
+-- a line has a first item
+pub items-some : (s : List ℕ) → itemsOf s ≡ getD (itemsOf s) 0 [] ∷ drop 1 (itemsOf s)
+items-some s = rw (items-cut s)
 
 -- ---- the first item, by where its comma stands
 

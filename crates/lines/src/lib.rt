@@ -5,12 +5,14 @@
 ghost use mathlib.Core.Path.{_≡_};
 ghost use mathlib.Core.List.{[], _∷_};
 ghost use Prim.Native.Nat.{_≤_, _%_};
-ghost use lib.ListN.{getD, drop};
+ghost use lib.ListN.{length, getD, drop};
 ghost use Rattle.lists.specs.Lists.{same, findFrom};
 ghost use Rattle.records.specs.Split.{itemsOf};
-ghost use Rattle.characters.specs.Text.{Stops, Sixteen};
+ghost use Rattle.characters.specs.Text.{Stops, Sixteen, RunOf};
 ghost use Rattle.records.specs.Records.{orEmpty, isNum, itemsFault};
+ghost use Rattle.characters.specs.Classes.{Classes};
 ghost use Rattle.lines.specs.Facts.{lineRead};
+ghost use Rattle.lines.specs.Found.{Told, NumberedAs, LineEndsIf, QuickItems, QuickOf, FoundOf};
 ghost use Rattle.lines.specs.Codes.{Lent, Commas, InCodes, Spanned, SpanAt, placeOf, sliceOf, quantity, codeRaw, formRaw, rpRaw, dayRaw, detailsRaw, bareDetails, otherDetails, usageRaw};
 
 // ---- items at positions
@@ -456,8 +458,90 @@ pub enum LineRead {
     Fine(order::Facts),
 }
 
-// Reads a record line; good: it is characters; commas: how many it has; stops: their places. In the order of document 01's table: 4, 6 or 5, 7, then the
-// items from the left, then the pairs.
+// The first fault of a line in its characters, its number and its items, 0 where it has none; and then its record's number.
+pub struct Numbered {
+    pub fault: u8,
+    pub number: u32,
+}
+
+// In the order of document 01's table: 4, 6 or 5, 7, then the items from the left.
+fn number_of(
+    codes: &[usize; 83],
+    provider: bool,
+    good: bool,
+    commas: usize,
+    stops: &[usize; 16],
+    s: &[u8],
+) -> Numbered
+    requires { ⌜ Lent (now codes) ⌝ }
+    requires { ⌜ Commas (now s) commas ⌝ }
+    requires { ⌜ Stops (now s) (now stops) ⌝ }
+    requires { ⌜ Sixteen (now stops) ⌝ }
+    ensures { λ r. ⌜ NumberedAs (provider) good (now (s .entry)) r ⌝ }
+{
+    if !good {
+        return Numbered {
+            fault: 4,
+            number: 0,
+        };
+    }
+    let start = 0;
+    let end = number_end(stops, commas, s);
+    let n = digits::plain_number(&s[start..end]);
+    if n == 911 {
+        return Numbered {
+            fault: 6,
+            number: 0,
+        };
+    }
+    let place = place_of(n);
+    if place == 0 {
+        return Numbered {
+            fault: 5,
+            number: 0,
+        };
+    }
+    if commas != place % 16 {
+        return Numbered {
+            fault: 7,
+            number: 0,
+        };
+    }
+    let f = items_fault(codes, place, provider, stops, commas, s);
+    Numbered {
+        fault: f,
+        number: n,
+    }
+}
+
+// The same where it may be known already; known: the number of a record without such a fault, or 0.
+fn number_unless(
+    codes: &[usize; 83],
+    provider: bool,
+    good: bool,
+    commas: usize,
+    stops: &[usize; 16],
+    s: &[u8],
+    known: u32,
+) -> Numbered
+    requires { ⌜ Lent (now codes) ⌝ }
+    requires { ⌜ Commas (now s) commas ⌝ }
+    requires { ⌜ Stops (now s) (now stops) ⌝ }
+    requires { ⌜ Sixteen (now stops) ⌝ }
+    requires { ⌜ Told (provider) good (now s) known ⌝ }
+    ensures { λ r. ⌜ NumberedAs (provider) good (now (s .entry)) r ⌝ }
+{
+    if known != 0 {
+        return Numbered {
+            fault: 0,
+            number: known,
+        };
+    }
+    number_of(codes, provider, good, commas, stops, s)
+}
+
+// Reads a record line; good: it is characters; commas: how many it has; stops: their places; known: its number if its items are known to
+// have no fault, else 0. The pairs come last.
 pub fn read_line(
     codes: &[usize; 83],
     provider: bool,
@@ -465,30 +549,18 @@ pub fn read_line(
     commas: usize,
     stops: &[usize; 16],
     s: &[u8],
+    known: u32,
 ) -> LineRead
     requires { ⌜ Lent (now codes) ⌝ }
     requires { ⌜ Commas (now s) commas ⌝ }
     requires { ⌜ Stops (now s) (now stops) ⌝ }
     requires { ⌜ Sixteen (now stops) ⌝ }
+    requires { ⌜ Told (provider) good (now s) known ⌝ }
     ensures { λ r. ⌜ r ≡ lineRead good provider (now (s .entry)) ⌝ }
 {
-    if !good {
-        return LineRead::Fault(4);
-    }
-    let start = 0;
-    let end = number_end(stops, commas, s);
-    let n = digits::plain_number(&s[start..end]);
-    if n == 911 {
-        return LineRead::Fault(6);
-    }
-    let place = place_of(n);
-    if place == 0 {
-        return LineRead::Fault(5);
-    }
-    if commas != place % 16 {
-        return LineRead::Fault(7);
-    }
-    let f = items_fault(codes, place, provider, stops, commas, s);
+    let r = number_unless(codes, provider, good, commas, stops, s, known);
+    let f = r.fault;
+    let n = r.number;
     if f != 0 {
         return LineRead::Fault(f);
     }
@@ -499,5 +571,163 @@ pub fn read_line(
         LineRead::Fine(facts)
     } else {
         LineRead::Fault(12)
+    }
+}
+
+// ---- lines read item by item
+//
+// Almost every line has no fault, so its items are looked at while its end is looked for. Where that fails, nothing is said of the line: it is
+// read again from its beginning, characters first, in the order of document 01's table.
+
+// Whether 0Dh 0Ah stand at a position.
+fn ends_line(s: &[u8], e: usize) -> bool
+    requires { ⌜ e ≤ length (now s) ⌝ }
+    ensures { λ r. ⌜ LineEndsIf (now (s .entry)) e r ⌝ }
+{
+    let next = e + 1;
+    if s.len() <= next {
+        return false;
+    }
+    if s[e] != 0x0d {
+        return false;
+    }
+    s[next] == 0x0a
+}
+
+// The items of a line that begins at a position, each behind its comma; from: where its number ends; place: its row's. Where its text ends, if
+// all items are there without a fault, and 0Dh 0Ah behind them; else 0.
+fn quick_items(
+    classes: &[u16; 512],
+    codes: &[usize; 83],
+    place: usize,
+    provider: bool,
+    stops: &mut [usize; 16],
+    s: &[u8],
+    at: usize,
+    from: usize,
+) -> usize
+    requires { ⌜ Classes (now classes) ⌝ }
+    requires { ⌜ Lent (now codes) ⌝ }
+    requires { ⌜ InCodes place ⌝ }
+    requires { ⌜ Sixteen (now stops) ⌝ }
+    requires { ⌜ RunOf (now s) at from ⌝ }
+    ensures { λ r. ⌜ QuickItems (provider) place (now (s .entry)) at from (now (stops .exit)) r ⌝ }
+{
+    let mut k = place / 16;
+    let end = k + place % 16;
+    let mut j = 0;
+    let mut e = from;
+    while k < end {
+        if s.len() <= e {
+            return 0;
+        }
+        if s[e] != 0x2c {
+            return 0;
+        }
+        stops[j] = e - at;
+        let c = codes[k];
+        let next = e + 1;
+        let r = items::item_end(classes, c, provider, s, next);
+        if r == 0 {
+            return 0;
+        }
+        e = r;
+        j += 1;
+        k += 1;
+    }
+    if ends_line(s, e) { e } else { 0 }
+}
+
+// A line without a fault in characters, number and items: where its text ends, its commas, its record's number. An end of 0 says nothing.
+pub struct Quick {
+    pub end: usize,
+    pub commas: usize,
+    pub number: u32,
+}
+
+fn quick_line(
+    classes: &[u16; 512],
+    codes: &[usize; 83],
+    provider: bool,
+    stops: &mut [usize; 16],
+    s: &[u8],
+    at: usize,
+) -> Quick
+    requires { ⌜ Classes (now classes) ⌝ }
+    requires { ⌜ Lent (now codes) ⌝ }
+    requires { ⌜ Sixteen (now stops) ⌝ }
+    ensures { λ r. ⌜ QuickOf (provider) (now (s .entry)) at (now (stops .exit)) r ⌝ }
+{
+    if s.len() <= at {
+        return Quick {
+            end: 0,
+            commas: 0,
+            number: 0,
+        };
+    }
+    // a record's number has no leading zero
+    if s[at] == 0x30 {
+        return Quick {
+            end: 0,
+            commas: 0,
+            number: 0,
+        };
+    }
+    let number = items::spelled_at(s, at);
+    let from = number.end;
+    let n = number.value;
+    let place = place_of(n);
+    if place == 0 {
+        return Quick {
+            end: 0,
+            commas: 0,
+            number: 0,
+        };
+    }
+    let end = quick_items(classes, codes, place, provider, stops, s, at, from);
+    Quick {
+        end,
+        commas: place % 16,
+        number: n,
+    }
+}
+
+// ---- lines at a position
+
+// What stands at a position where a row begins, as characters::Line tells it; and with a whole line the number of its record, if its items are
+// known to have no fault, else 0.
+pub enum Found {
+    Whole(usize, bool, usize, u32),
+    Mark,
+    End,
+    Broken,
+}
+
+// The line that begins at a position; stops: the places of its commas, from its beginning.
+pub fn find_line(
+    classes: &[u16; 512],
+    codes: &[usize; 83],
+    provider: bool,
+    stops: &mut [usize; 16],
+    s: &[u8],
+    at: usize,
+) -> Found
+    requires { ⌜ Classes (now classes) ⌝ }
+    requires { ⌜ Lent (now codes) ⌝ }
+    requires { ⌜ Sixteen (now stops) ⌝ }
+    ensures { λ r. ⌜ FoundOf (provider) (now (s .entry)) at (now (stops .exit)) r ⌝ }
+{
+    let quick = quick_line(classes, codes, provider, stops, s, at);
+    let end = quick.end;
+    let commas = quick.commas;
+    let number = quick.number;
+    if end != 0 {
+        return Found::Whole(end, true, commas, number);
+    }
+    match characters::line_at(classes, stops, s, at) {
+        characters::Line::End => Found::End,
+        characters::Line::Mark => Found::Mark,
+        characters::Line::Broken => Found::Broken,
+        characters::Line::Whole(end, good, commas) => Found::Whole(end, good, commas, 0),
     }
 }

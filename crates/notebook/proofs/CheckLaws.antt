@@ -4,6 +4,7 @@ use Prim.Native.Nat.{ℕ, zero, suc, _+_, _-_, _≤_, _<_}
 use native.Mathlib.Nat.{zero-add, add-zero}
 use mathlib.Core.Path.{_≡_, refl, sym, ap, _∙_, subst}
 use mathlib.Core.Bool.{Bool, true, false, cond, false≢true}
+use mathlib.Core.Logic.{⊎-elim}
 use mathlib.Core.List.{List, [], _∷_, _++_}
 use native.Mathlib.Omega.{arith}
 use borrow.Author.Tests.{le-leb, lt-leb, eq-eqb, ne-eqb, eqb-true, eqb-false}
@@ -29,7 +30,11 @@ use Rattle.notebook.specs.declared.Checked.{Checked}
 use Rattle.notebook.specs.declared.Checked.the-variants.{Accepted, Refused}
 use Rattle.notebook.specs.Notebook.{Notebook, stepLine, prepend, closed, onward, recordsFrom, notebookOf, readRows, readFile}
 use Rattle.notebook.specs.Check.{count, counted, checked, checkOf, directionOf, tally, Judged, Behind, Closing}
-use Rattle.notebook.proofs.LineFacts.{line-facts, line-size, whole-line, records-end, records-mark, records-broken, records-on}
+use Rattle.notebook.proofs.LineFacts.{line-size, whole-line, records-end, records-mark, records-broken, records-on}
+use Rattle.notebook.specs.declared.Turn.{Turn}
+use Rattle.notebook.specs.declared.Turn.the-variants.{Over, Refused as TurnRefused, On as TurnOn}
+use Rattle.notebook.specs.Turns.{RefusedAt, broken, faulty, TurnOf}
+use Rattle.notebook.proofs.TurnLaws.{turn-facts, turn-over, turn-refused, turn-step, turn-fits}
 use Rattle.notebook.proofs.StepLaws.{Placed, placed}
 use Rattle.notebook.proofs.ReadLaws.{read-large, read-end, read-mark, read-broken, read-provider, read-patient, read-version, direction-few, line-1-high, line-1-fits, line-1-behind}
 
@@ -112,18 +117,21 @@ module _ {provider : Bool} {s : List ℕ} {from : ℕ} {st : State} {at : ℕ} (
   pub reading-fits : Fits w32 (st .line + 1)
   reading-fits = omega (arith, v .line, v .high, v .small)
 
+  pub reading-room : Room st
+  reading-room = v .room
+
   -- the answer, if what is left answers it
   answer : {r : Checked} → r ≡ tally st (recordsFrom st (rows (drop at s))) → r ≡ tally (start provider) (recordsFrom (start provider) (rows (drop from s)))
   answer e = e ∙ sym (v .left)
 
   module _ {stops : List ℕ} {k : Line} (w : LineOf s at stops k) where
-    pub reading-end : {r : Checked} → k ≡ End → r ≡ tally st (closed st) → r ≡ tally (start provider) (recordsFrom (start provider) (rows (drop from s)))
+    reading-end : {r : Checked} → k ≡ End → r ≡ tally st (closed st) → r ≡ tally (start provider) (recordsFrom (start provider) (rows (drop from s)))
     reading-end e q = answer (q ∙ sym (ap (tally st) (records-end w st e)))
 
-    pub reading-mark : {r : Checked} → k ≡ Mark → r ≡ tally st (closed st) → r ≡ tally (start provider) (recordsFrom (start provider) (rows (drop from s)))
+    reading-mark : {r : Checked} → k ≡ Mark → r ≡ tally st (closed st) → r ≡ tally (start provider) (recordsFrom (start provider) (rows (drop from s)))
     reading-mark e q = answer (q ∙ sym (ap (tally st) (records-mark w st e)))
 
-    pub reading-broken : k ≡ Broken → Refused 2 (st .line + 1) ≡ tally (start provider) (recordsFrom (start provider) (rows (drop from s)))
+    reading-broken : k ≡ Broken → Refused 2 (st .line + 1) ≡ tally (start provider) (recordsFrom (start provider) (rows (drop from s)))
     reading-broken e = answer (sym (ap (tally st) (records-broken w st e)))
 
     module _ {e : ℕ} {good : Bool} {n : ℕ} (q : k ≡ Whole e good n) where
@@ -131,11 +139,11 @@ module _ {provider : Bool} {s : List ℕ} {from : ℕ} {st : State} {at : ℕ} (
       next = onward (st .line + 1) (recordOf (part s at e)) (λ t. recordsFrom t (rows (drop (e + 2) s)))
 
       module _ {m : Moved} (o : m ≡ stepLine st (take (e - at) (drop at s))) where
-        pub reading-refused : {j : ℕ} → m ≡ StepRefused j → Refused j (st .line + 1) ≡ tally (start provider) (recordsFrom (start provider) (rows (drop from s)))
+        reading-refused : {j : ℕ} → m ≡ StepRefused j → Refused j (st .line + 1) ≡ tally (start provider) (recordsFrom (start provider) (rows (drop from s)))
         unfolding onward next
         reading-refused u = sym (v .left ∙ ap (tally st) (records-on w q st ∙ ap next (sym o ∙ u)))
 
-        pub reading-on : {t : State} {rp d : ℕ} → m ≡ On t rp d → Reading provider s from t (e + 2)
+        reading-on : {t : State} {rp d : ℕ} → m ≡ On t rp d → Reading provider s from t (e + 2)
         unfolding onward next
         reading-on {t} {rp} {d} u =
             let p : Placed st (part s at e) t rp d = placed st (part s at e) t rp d (sym o ∙ u) in
@@ -151,7 +159,26 @@ module _ {provider : Bool} {s : List ℕ} {from : ℕ} {st : State} {at : ℕ} (
               small = v .small;
             }
 
-pub ruleset reading-laws = (line-facts, reading-start, reading-closing, reading-fits, reading-end, reading-mark, reading-broken, reading-refused, reading-on)
+  -- by a turn
+  module _ {stops : List ℕ} {k : Turn} (w : TurnOf st s at stops k) where
+    pub reading-over : {r : Checked} → k ≡ Over → r ≡ tally st (closed st) → r ≡ tally (start provider) (recordsFrom (start provider) (rows (drop from s)))
+    reading-over q p = ⊎-elim (λ l. reading-end l refl p) (λ l. reading-mark l refl p) (turn-over w q)
+
+    pub reading-stopped : {n : ℕ} → k ≡ TurnRefused n → Refused n (st .line + 1) ≡ tally (start provider) (recordsFrom (start provider) (rows (drop from s)))
+    reading-stopped {n} q = go (turn-refused w q)
+      where
+        go : RefusedAt st s at stops n → Refused n (st .line + 1) ≡ tally (start provider) (recordsFrom (start provider) (rows (drop from s)))
+        go (broken l e) = ap (λ (j : ℕ). Refused j (st .line + 1)) e ∙ reading-broken l refl
+        go (faulty e m x) = reading-refused (x .line) refl (x .step) refl
+
+    module _ {t : State} {rp d e n : ℕ} (q : k ≡ TurnOn t rp d e n) where
+      pub reading-next : Reading provider s from t (e + 2)
+      reading-next = let x = turn-step w q in reading-on (x .line) refl (x .step) refl
+
+      pub reading-within : Fits w64 (e + 2)
+      reading-within = turn-fits w q (v .small)
+
+pub ruleset reading-laws = (turn-facts, reading-start, reading-closing, reading-fits, reading-room, reading-over, reading-stopped, reading-next, reading-within)
 
 -- ---- the file
 

@@ -86,5 +86,3 @@ module _ {s : List ℕ} {at : ℕ} {stops : List ℕ} {k : Line} (w : LineOf s a
     unfolding recordsFrom
     records-on st =
         rw (whole-line .cut, line-no-mark (part s at e), line-is (part s at e) (whole-line .clear), line-text (part s at e) (whole-line .clear))
-
-pub ruleset line-facts = (line-size, whole-low, whole-high, whole-fits, whole-less, whole-commas, whole-places, whole-judged)

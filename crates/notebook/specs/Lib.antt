@@ -1,3 +1,4 @@
 pub mod Notebook
 pub mod Check
 pub mod Samples
+pub mod Turns

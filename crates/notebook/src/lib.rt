@@ -8,7 +8,9 @@ ghost use Rattle.characters.specs.Classes.{Classes};
 ghost use Rattle.characters.specs.Text.{Stops, Sixteen};
 ghost use Rattle.order.specs.State.{start, Room};
 ghost use Rattle.lines.specs.Codes.{Lent, Commas};
+ghost use Rattle.lines.specs.Found.{Told};
 ghost use Rattle.notebook.specs.Notebook.{stepLine, closed as closedOf, recordsFrom};
+ghost use Rattle.notebook.specs.Turns.{TurnOf};
 ghost use Rattle.notebook.specs.Check.{checkOf, tally, directionOf, Judged, Behind, Closing};
 
 // The counts of records, groups and drugs; or a refusal's number and line.
@@ -44,14 +46,16 @@ fn close(st: order::State) -> Checked
     Checked::Refused(missing, st.line + 1)
 }
 
-// Reads a record line, and puts its record in its place; good: the line is characters; commas and stops: its commas and their places.
-pub fn step_line(
+// Reads a record line, and puts its record in its place; good: the line is characters; commas and stops: its commas and their places;
+// known: its number if its items are known to have no fault, else 0.
+fn step_line(
     codes: &[usize; 83],
     st: order::State,
     good: bool,
     commas: usize,
     stops: &[usize; 16],
     line: &[u8],
+    known: u32,
 ) -> order::Moved
     requires { ⌜ Lent (now codes) ⌝ }
     requires { ⌜ Commas (now line) commas ⌝ }
@@ -59,16 +63,53 @@ pub fn step_line(
     requires { ⌜ Sixteen (now stops) ⌝ }
     requires { ⌜ Room st ⌝ }
     requires { ⌜ Judged good (now line) ⌝ }
+    requires { ⌜ Told (st .provider) good (now line) known ⌝ }
     ensures { λ m. ⌜ m ≡ stepLine st (now (line .entry)) ⌝ }
 {
-    match lines::read_line(codes, st.provider, good, commas, stops, line) {
+    match lines::read_line(codes, st.provider, good, commas, stops, line, known) {
         lines::LineRead::Fault(n) => order::Moved::Refused(digits::wide(n)),
         lines::LineRead::Fine(facts) => st.step(facts),
     }
 }
 
-// The records of a file from behind line 1 on. The next line is found before the state is moved: what a call has just stored is read back
-// slowly.
+// What the record at a position does to a state: the next state, RP and doctor, where its text ends and how many commas it has; or a refusal;
+// or there is none.
+pub enum Turn {
+    On(order::State, u32, u32, usize, usize),
+    Refused(u32),
+    Over,
+}
+
+// Finds, reads and places the record at a position; stops: the places of its commas, from its beginning. One call for all of it, since what a
+// call stores is read back slowly: the state waits while the next line is found.
+pub fn read_record(
+    classes: &[u16; 512],
+    codes: &[usize; 83],
+    stops: &mut [usize; 16],
+    st: order::State,
+    s: &[u8],
+    at: usize,
+) -> Turn
+    requires { ⌜ Classes (now classes) ⌝ }
+    requires { ⌜ Lent (now codes) ⌝ }
+    requires { ⌜ Sixteen (now stops) ⌝ }
+    requires { ⌜ Room st ⌝ }
+    ensures { λ r. ⌜ TurnOf st (now (s .entry)) at (now (stops .exit)) r ⌝ }
+{
+    match lines::find_line(classes, codes, st.provider, stops, s, at) {
+        lines::Found::End => Turn::Over,
+        lines::Found::Mark => Turn::Over,
+        lines::Found::Broken => Turn::Refused(2),
+        lines::Found::Whole(end, good, commas, known) => {
+            match step_line(codes, st, good, commas, stops, &s[at..end], known) {
+                order::Moved::Refused(n) => Turn::Refused(n),
+                order::Moved::On(next, rp, doctor) => Turn::On(next, rp, doctor, end, commas),
+            }
+        }
+    }
+}
+
+// The records of a file from behind line 1 on.
 fn check_records(
     classes: &[u16; 512],
     codes: &[usize; 83],
@@ -85,21 +126,13 @@ fn check_records(
 {
     let mut st = order::State::new(provider);
     let mut at = from;
-    let mut line = characters::line_at(classes, stops, s, at);
     loop {
-        match line {
-            characters::Line::End => return close(st),
-            characters::Line::Mark => return close(st),
-            characters::Line::Broken => return Checked::Refused(2, st.line + 1),
-            characters::Line::Whole(end, good, commas) => {
-                match step_line(codes, st, good, commas, stops, &s[at..end]) {
-                    order::Moved::Refused(n) => return Checked::Refused(n, st.line + 1),
-                    order::Moved::On(next, _, _) => {
-                        at = end + 2;
-                        line = characters::line_at(classes, stops, s, at);
-                        st = next;
-                    }
-                }
+        match read_record(classes, codes, stops, st, s, at) {
+            Turn::Over => return close(st),
+            Turn::Refused(n) => return Checked::Refused(n, st.line + 1),
+            Turn::On(next, _, _, end, _) => {
+                st = next;
+                at = end + 2;
             }
         }
     }

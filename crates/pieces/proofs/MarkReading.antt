@@ -7,10 +7,11 @@ use mathlib.Core.List.{List, [], _∷_, nil≢cons, head-eq-of-cons-eq}
 use native.Mathlib.Omega.{arith}
 use borrow.Author.Tests.{eq-eqb, ne-eqb, eqb-true, lt-leb, not-true, not-false}
 use lib.Dec.{eqb}
-use lib.ListN.{length, take, drop, getD, length-take, length-drop}
+use lib.ListN.{length, take, drop, getD}
 use lib.Seq.{take-nil}
 use Rattle.lists.specs.Lists.{all, same, part, findFrom}
 use Rattle.lists.proofs.Tests.{both, same-true}
+use Rattle.lists.proofs.Parts.{part-length}
 use Rattle.lists.proofs.Loops.{find-low, find-high}
 use Rattle.digits.specs.Digits.{isDigit, number}
 use Rattle.digits.specs.Short.{orThousand, shortValue}
@@ -160,9 +161,6 @@ mark-no-id a i [] p e = refl
 mark-no-id a i (n ∷ []) p e = refl
 mark-no-id a i (n ∷ k ∷ []) p e = rw (p, e)
 mark-no-id a i (n ∷ k ∷ x ∷ xs) p e = refl
-
-part-length : (l : List ℕ) (a e : ℕ) → a ≤ e → e ≤ length l → length (part l a e) ≡ e - a
-part-length l a e h g = simp (length-take, length-drop) (omega arith)
 
 module _ (l : List ℕ) {a : ℕ} (p : a ≡ findFrom 0x2c l 0) where
   lost : markOf (itemsOf l) ≡ none → MarkIs l Unread

@@ -9,7 +9,7 @@ use Rattle.characters.proofs.TextLaws.{classes-lent}
 use Rattle.notebook.proofs.ReadLaws.{line-1-behind}
 use Rattle.notebook.proofs.LineFacts.{line-size}
 use Rattle.notebook.proofs.CheckLaws.{zeros-size}
-use Rattle.canonical.proofs.WholeLaws.{into-laws, into-whole}
+use Rattle.canonical.proofs.WholeLaws.{into-laws, into-room, into-whole}
 use Rattle.canonical.proofs.canonical_into.Statement.{statement}
 use Rattle.canonical.proofs.canonical_into.Tie as tie
 use Rattle.canonical.proofs.canonical_into.Reads as reads
@@ -57,7 +57,7 @@ add-from c = search (needs, into-laws)
 
 write-records-requires : tie.Need-write-records-requires
 unfolding codes classOf firstOf leadOf trailOf isPair allowed fullRow partRow
-write-records-requires c κs = (search (needs, classes-lent), (search (needs, lent), (search (needs, line-size), (search (needs, line-1-behind), search needs))))
+write-records-requires c κs = (search (needs, classes-lent), (search (needs, lent), (search (needs, line-size), (search (needs, line-1-behind), search (needs, into-room)))))
 
 returns-3 : tie.Need-returns-3
 returns-3 c = search (needs, into-laws)

@@ -8,6 +8,7 @@ use Rattle.canonical.proofs.pass_item.Reads as reads
 use Rattle.canonical.proofs.pass_item.Lts as lts
 use Rattle.canonical.proofs.comma_at.Reads as comma-at-reads
 use Rattle.canonical.proofs.respell.Reads as respell-reads
+use Rattle.canonical.proofs.stays.Reads as stays-reads
 
 sub-before : tie.Need-sub-before
 sub-before c = search needs
@@ -26,6 +27,12 @@ comma-at-requires c κs = search needs
 
 add-p : tie.Need-add-p
 add-p c = search (needs, pass-laws)
+
+stays-requires : tie.Need-stays-requires
+stays-requires c κs = search (needs, pass-laws)
+
+returns : tie.Need-returns
+returns c = search (needs, pass-laws)
 
 sub-comma-at-2 : tie.Need-sub-comma-at-2
 sub-comma-at-2 c = search needs
@@ -48,8 +55,8 @@ respell-requires c κs = (search (needs, pass-stands), (search (needs, pass-spel
 same-length : tie.Need-same-length
 same-length c = search needs
 
-returns : tie.Need-returns
-returns c = search (needs, pass-laws)
+returns-2 : tie.Need-returns-2
+returns-2 c = search (needs, pass-laws)
 
 pub pass-item-spec : {M : Type 1} → statement M
 pass-item-spec =
@@ -61,6 +68,8 @@ pass-item-spec =
     part-comma-at-end
     comma-at-requires
     add-p
+    stays-requires
+    returns
     sub-comma-at-2
     part-comma-at-start-2
     part-comma-at-end-2
@@ -68,4 +77,4 @@ pass-item-spec =
     add-e
     respell-requires
     same-length
-    returns)
+    returns-2)

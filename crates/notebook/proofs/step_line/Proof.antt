@@ -11,7 +11,7 @@ use Rattle.lines.proofs.read_line.Reads as read-line-reads
 use Rattle.order.proofs.State.step.Reads as step-reads
 
 read-line-requires : tie.Need-read-line-requires
-read-line-requires c κs = search needs
+read-line-requires c κs = (search needs, (search needs, (search needs, (search needs, search needs))))
 
 enum-known-n : tie.Need-enum-known-n
 enum-known-n c = search needs

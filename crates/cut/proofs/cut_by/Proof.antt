@@ -2,16 +2,13 @@ use borrow.Author.Needs.{needs}
 use Prim.Native.Nat.{_-_}
 use lib.ListN.{length}
 use Rattle.cut.proofs.FileLaws.{cut-laws}
-use Rattle.cut.proofs.cut.Statement.{statement}
-use Rattle.cut.proofs.cut.Tie as tie
-use Rattle.cut.proofs.cut.Reads as reads
-use Rattle.cut.proofs.cut.Lts as lts
+use Rattle.cut.proofs.cut_by.Statement.{statement}
+use Rattle.cut.proofs.cut_by.Tie as tie
+use Rattle.cut.proofs.cut_by.Reads as reads
+use Rattle.cut.proofs.cut_by.Lts as lts
 use Rattle.canonical.proofs.canonical_into.Reads as canonical-into-reads
 use Rattle.cut.proofs.cut_bytes.Reads as cut-bytes-reads
 use Rattle.pieces.proofs.valid_id.Reads as valid-id-reads
-
-slice-aggregate-canonical-into : tie.Need-slice-aggregate-canonical-into
-slice-aggregate-canonical-into c = search needs
 
 canonical-into-requires : tie.Need-canonical-into-requires
 canonical-into-requires c κs = search needs
@@ -43,20 +40,28 @@ cut-bytes-requires c κs = search (needs, cut-laws)
 same-length : tie.Need-same-length
 same-length c = search needs
 
+same-length-2 : tie.Need-same-length-2
+same-length-2 c = search needs
+
 returns : tie.Need-returns
 returns c = search (needs, cut-laws)
+
+same-length-3 : tie.Need-same-length-3
+same-length-3 c = search needs
 
 returns-2 : tie.Need-returns-2
 returns-2 c = search (needs, cut-laws)
 
+same-length-4 : tie.Need-same-length-4
+same-length-4 c = search needs
+
 returns-3 : tie.Need-returns-3
 returns-3 c = search (needs, cut-laws)
 
-pub cut-spec : {M : Type 1} → statement M
-cut-spec =
+pub cut-by-spec : {M : Type 1} → statement M
+cut-by-spec =
     tie.close
     (tie.spec
-    slice-aggregate-canonical-into
     canonical-into-requires
     enum-known-number
     enum-known-count
@@ -67,6 +72,9 @@ cut-spec =
     part-cut-bytes-end
     cut-bytes-requires
     same-length
+    same-length-2
     returns
+    same-length-3
     returns-2
+    same-length-4
     returns-3)

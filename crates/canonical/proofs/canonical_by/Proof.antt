@@ -2,15 +2,12 @@ use borrow.Author.Needs.{needs}
 use Prim.Native.Nat.{_-_}
 use lib.ListN.{length}
 use Rattle.canonical.proofs.WholeLaws.{canonical-laws}
-use Rattle.canonical.proofs.canonical_file.Statement.{statement}
-use Rattle.canonical.proofs.canonical_file.Tie as tie
-use Rattle.canonical.proofs.canonical_file.Reads as reads
-use Rattle.canonical.proofs.canonical_file.Lts as lts
+use Rattle.canonical.proofs.canonical_by.Statement.{statement}
+use Rattle.canonical.proofs.canonical_by.Tie as tie
+use Rattle.canonical.proofs.canonical_by.Reads as reads
+use Rattle.canonical.proofs.canonical_by.Lts as lts
 use Rattle.buffers.proofs.put_all.Reads as put-all-reads
 use Rattle.canonical.proofs.canonical_into.Reads as canonical-into-reads
-
-slice-aggregate-canonical-into : tie.Need-slice-aggregate-canonical-into
-slice-aggregate-canonical-into c = search needs
 
 canonical-into-requires : tie.Need-canonical-into-requires
 canonical-into-requires c κs = search needs
@@ -23,6 +20,9 @@ enum-known-bytes c = search needs
 
 cast-end : tie.Need-cast-end
 cast-end c = search needs
+
+same-length : tie.Need-same-length
+same-length c = search needs
 
 returns : tie.Need-returns
 returns c = search (needs, canonical-laws)
@@ -39,29 +39,37 @@ part-put-all-end c = search (needs, canonical-laws)
 put-all-requires : tie.Need-put-all-requires
 put-all-requires c κs = search needs
 
+same-length-2 : tie.Need-same-length-2
+same-length-2 c = search needs
+
 returns-2 : tie.Need-returns-2
 returns-2 c = search (needs, canonical-laws)
 
-same-length : tie.Need-same-length
-same-length c = search needs
+same-length-3 : tie.Need-same-length-3
+same-length-3 c = search needs
+
+same-length-4 : tie.Need-same-length-4
+same-length-4 c = search needs
 
 returns-3 : tie.Need-returns-3
 returns-3 c = search (needs, canonical-laws)
 
-pub canonical-file-spec : {M : Type 1} → statement M
-canonical-file-spec =
+pub canonical-by-spec : {M : Type 1} → statement M
+canonical-by-spec =
     tie.close
     (tie.spec
-    slice-aggregate-canonical-into
     canonical-into-requires
     enum-known-number
     enum-known-bytes
     cast-end
+    same-length
     returns
     sub-put-all
     part-put-all-start
     part-put-all-end
     put-all-requires
+    same-length-2
     returns-2
-    same-length
+    same-length-3
+    same-length-4
     returns-3)
