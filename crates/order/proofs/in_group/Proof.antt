@@ -1,17 +1,16 @@
 -- `in_group` meets its contract. Assumes nothing.
 use Rattle.order.specs.Places.{inGroup}
-use borrow.Author.Needs.{needs}
 use Rattle.order.proofs.in_group.Statement.{statement}
 use Rattle.order.proofs.in_group.Tie as tie
 
 in-front-requires : tie.Need-in-front-requires
-in-front-requires c κs = search needs
+in-front-requires c κs = tt
 
 in-rp-requires : tie.Need-in-rp-requires
-in-rp-requires c κs = search needs
+in-rp-requires c κs = tt
 
 in-rest-requires : tie.Need-in-rest-requires
-in-rest-requires c κs = search needs
+in-rest-requires c κs = tt
 
 returns : tie.Need-returns
 unfolding inGroup

@@ -13,7 +13,7 @@ returns-2 : tie.Need-returns-2
 returns-2 c = search needs
 
 pick-requires : tie.Need-pick-requires
-pick-requires c κs = search needs
+pick-requires c κs = tt
 
 returns-3 : tie.Need-returns-3
 returns-3 c = simp (c .pick .ensures, c .before .if1 .left)

@@ -1,12 +1,11 @@
 -- `Had::after` meets its contract: each arm of the `match` sets the fields that its record changes. Assumes nothing.
 use Rattle.order.specs.State.{hadAfter, none}
 use borrow.Author.Tests.{ne-eqb}
-use borrow.Author.Needs.{needs}
 use Rattle.order.proofs.Had.after.Statement.{statement}
 use Rattle.order.proofs.Had.after.Tie as tie
 
 none-requires : tie.Need-none-requires
-none-requires c κs = search needs
+none-requires c κs = tt
 
 returns : tie.Need-returns
 unfolding hadAfter none

@@ -1,7 +1,6 @@
 -- `State::doctor_refusal` meets its contract. Assumes nothing.
 use Rattle.order.proofs.ByNumber.{of-55}
 use mathlib.Core.Path.{sym, _∙_}
-use borrow.Author.Needs.{needs}
 use Rattle.order.proofs.State.doctor_refusal.Statement.{statement}
 use Rattle.order.proofs.State.doctor_refusal.Tie as tie
 use Rattle.order.proofs.State.doctor_refusal.Reads as reads
@@ -13,16 +12,16 @@ use Rattle.order.proofs.in_rp.Reads as in-rp-reads
 use Rattle.order.proofs.pick.Reads as pick-reads
 
 barred-requires : tie.Need-barred-requires
-barred-requires c κs = search needs
+barred-requires c κs = tt
 
 in-rp-requires : tie.Need-in-rp-requires
-in-rp-requires c κs = search needs
+in-rp-requires c κs = tt
 
 rp-closed-requires : tie.Need-rp-closed-requires
-rp-closed-requires c κs = search needs
+rp-closed-requires c κs = tt
 
 pick-requires : tie.Need-pick-requires
-pick-requires c κs = search needs
+pick-requires c κs = tt
 
 returns : tie.Need-returns
 returns c =
@@ -37,10 +36,10 @@ returns c =
     )
 
 in-front-requires : tie.Need-in-front-requires
-in-front-requires c κs = search needs
+in-front-requires c κs = tt
 
 pick-requires-2 : tie.Need-pick-requires-2
-pick-requires-2 c κs = search needs
+pick-requires-2 c κs = tt
 
 returns-2 : tie.Need-returns-2
 returns-2 c =

@@ -12,7 +12,7 @@ use Rattle.order.proofs.State.new_rp.Reads as new-rp-reads
 use Rattle.order.proofs.in_drugs.Reads as in-drugs-reads
 
 in-drugs-requires : tie.Need-in-drugs-requires
-in-drugs-requires c κs = search needs
+in-drugs-requires c κs = tt
 
 returns : tie.Need-returns
 returns c =

@@ -14,7 +14,7 @@ add-line : tie.Need-add-line
 add-line c = search needs
 
 after-requires : tie.Need-after-requires
-after-requires c κs = search needs
+after-requires c κs = tt
 
 add-groups : tie.Need-add-groups
 add-groups c = search needs

@@ -1,11 +1,10 @@
 -- `State::new` meets its contract. Assumes nothing.
 use Rattle.order.specs.State.{start}
-use borrow.Author.Needs.{needs}
 use Rattle.order.proofs.State.new.Statement.{statement}
 use Rattle.order.proofs.State.new.Tie as tie
 
 none-requires : tie.Need-none-requires
-none-requires c κs = search needs
+none-requires c κs = tt
 
 returns : tie.Need-returns
 unfolding start

@@ -20,13 +20,13 @@ cast-value : tie.Need-cast-value
 cast-value c = search needs
 
 pick-requires : tie.Need-pick-requires
-pick-requires c κs = search needs
+pick-requires c κs = tt
 
 in-rp-requires : tie.Need-in-rp-requires
-in-rp-requires c κs = search needs
+in-rp-requires c κs = tt
 
 pick-requires-2 : tie.Need-pick-requires-2
-pick-requires-2 c κs = search needs
+pick-requires-2 c κs = tt
 
 returns : tie.Need-returns
 returns c =
@@ -40,10 +40,10 @@ returns c =
     )
 
 in-front-requires : tie.Need-in-front-requires
-in-front-requires c κs = search needs
+in-front-requires c κs = tt
 
 pick-requires-3 : tie.Need-pick-requires-3
-pick-requires-3 c κs = search needs
+pick-requires-3 c κs = tt
 
 returns-2 : tie.Need-returns-2
 returns-2 c =

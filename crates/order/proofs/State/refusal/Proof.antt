@@ -25,37 +25,37 @@ use Rattle.order.proofs.kept_rp.Reads as kept-rp-reads
 use Rattle.order.proofs.pick.Reads as pick-reads
 
 pick-requires : tie.Need-pick-requires
-pick-requires c κs = search needs
+pick-requires c κs = tt
 
 head-refusal-requires : tie.Need-head-refusal-requires
-head-refusal-requires c κs = search needs
+head-refusal-requires c κs = tt
 
 head-refusal-requires-2 : tie.Need-head-refusal-requires-2
-head-refusal-requires-2 c κs = search needs
+head-refusal-requires-2 c κs = tt
 
 in-head-requires : tie.Need-in-head-requires
-in-head-requires c κs = search needs
+in-head-requires c κs = tt
 
 head-refusal-requires-3 : tie.Need-head-refusal-requires-3
-head-refusal-requires-3 c κs = search needs
+head-refusal-requires-3 c κs = tt
 
 group-refusal-requires : tie.Need-group-refusal-requires
 group-refusal-requires c κs = search needs
 
 pick-requires-2 : tie.Need-pick-requires-2
-pick-requires-2 c κs = search needs
+pick-requires-2 c κs = tt
 
 pick-requires-3 : tie.Need-pick-requires-3
-pick-requires-3 c κs = search needs
+pick-requires-3 c κs = tt
 
 barred-requires : tie.Need-barred-requires
-barred-requires c κs = search needs
+barred-requires c κs = tt
 
 pick-requires-4 : tie.Need-pick-requires-4
-pick-requires-4 c κs = search needs
+pick-requires-4 c κs = tt
 
 pick-requires-5 : tie.Need-pick-requires-5
-pick-requires-5 c κs = search needs
+pick-requires-5 c κs = tt
 
 doctor-refusal-requires : tie.Need-doctor-refusal-requires
 doctor-refusal-requires c κs = search needs
@@ -64,43 +64,43 @@ drug-refusal-requires : tie.Need-drug-refusal-requires
 drug-refusal-requires c κs = search needs
 
 kept-rp-requires : tie.Need-kept-rp-requires
-kept-rp-requires c κs = search needs
+kept-rp-requires c κs = tt
 
 in-drugs-requires : tie.Need-in-drugs-requires
-in-drugs-requires c κs = search needs
+in-drugs-requires c κs = tt
 
 kept-rp-requires-2 : tie.Need-kept-rp-requires-2
-kept-rp-requires-2 c κs = search needs
+kept-rp-requires-2 c κs = tt
 
 usage-refusal-requires : tie.Need-usage-refusal-requires
 usage-refusal-requires c κs = search needs
 
 kept-rp-requires-3 : tie.Need-kept-rp-requires-3
-kept-rp-requires-3 c κs = search needs
+kept-rp-requires-3 c κs = tt
 
 in-rp-requires : tie.Need-in-rp-requires
-in-rp-requires c κs = search needs
+in-rp-requires c κs = tt
 
 kept-rp-requires-4 : tie.Need-kept-rp-requires-4
-kept-rp-requires-4 c κs = search needs
+kept-rp-requires-4 c κs = tt
 
 rest-refusal-requires : tie.Need-rest-refusal-requires
-rest-refusal-requires c κs = search needs
+rest-refusal-requires c κs = tt
 
 pick-requires-6 : tie.Need-pick-requires-6
-pick-requires-6 c κs = search needs
+pick-requires-6 c κs = tt
 
 rest-refusal-requires-2 : tie.Need-rest-refusal-requires-2
-rest-refusal-requires-2 c κs = search needs
+rest-refusal-requires-2 c κs = tt
 
 rest-refusal-requires-3 : tie.Need-rest-refusal-requires-3
-rest-refusal-requires-3 c κs = search needs
+rest-refusal-requires-3 c κs = tt
 
 in-rest-requires : tie.Need-in-rest-requires
-in-rest-requires c κs = search needs
+in-rest-requires c κs = tt
 
 rest-refusal-requires-4 : tie.Need-rest-refusal-requires-4
-rest-refusal-requires-4 c κs = search needs
+rest-refusal-requires-4 c κs = tt
 
 end-refusal-requires : tie.Need-end-refusal-requires
 end-refusal-requires c κs = search needs

@@ -1,6 +1,5 @@
 -- `State::rest_refusal` meets its contract. Assumes nothing.
 use mathlib.Core.Path.{sym, _∙_}
-use borrow.Author.Needs.{needs}
 use Rattle.order.proofs.State.rest_refusal.Statement.{statement}
 use Rattle.order.proofs.State.rest_refusal.Tie as tie
 use Rattle.order.proofs.State.rest_refusal.Reads as reads
@@ -11,10 +10,10 @@ use Rattle.order.proofs.in_rp.Reads as in-rp-reads
 use Rattle.order.proofs.pick.Reads as pick-reads
 
 in-rp-requires : tie.Need-in-rp-requires
-in-rp-requires c κs = search needs
+in-rp-requires c κs = tt
 
 rp-closed-requires : tie.Need-rp-closed-requires
-rp-closed-requires c κs = search needs
+rp-closed-requires c κs = tt
 
 returns : tie.Need-returns
 returns c =
@@ -22,10 +21,10 @@ returns c =
     simp (c .rp-closed .ensures, sym (d2 .in-rp .ensures) ∙ d1 .if1 .taken)
 
 in-front-requires : tie.Need-in-front-requires
-in-front-requires c κs = search needs
+in-front-requires c κs = tt
 
 pick-requires : tie.Need-pick-requires
-pick-requires c κs = search needs
+pick-requires c κs = tt
 
 returns-2 : tie.Need-returns-2
 returns-2 c =
@@ -33,7 +32,7 @@ returns-2 c =
     simp (c .pick .ensures, sym (d5 .in-rp .ensures) ∙ d4 .if1 .left, sym (d3 .in-front .ensures) ∙ d2 .if2 .taken)
 
 pick-requires-2 : tie.Need-pick-requires-2
-pick-requires-2 c κs = search needs
+pick-requires-2 c κs = tt
 
 returns-3 : tie.Need-returns-3
 returns-3 c =

@@ -11,7 +11,7 @@ use Rattle.order.proofs.State.moved.Reads as moved-reads
 use Rattle.order.proofs.State.refusal.Reads as refusal-reads
 
 refusal-requires : tie.Need-refusal-requires
-refusal-requires c κs = search needs
+refusal-requires c κs = tt
 
 moved-requires : tie.Need-moved-requires
 moved-requires c κs = search needs

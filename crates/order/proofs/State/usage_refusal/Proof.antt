@@ -1,7 +1,6 @@
 -- `State::usage_refusal` meets its contract. Assumes nothing.
 use Rattle.order.proofs.ByNumber.{of-301-named, of-301-unnamed, of-301-free}
 use mathlib.Core.Path.{sym, _∙_}
-use borrow.Author.Needs.{needs}
 use Rattle.order.proofs.State.usage_refusal.Statement.{statement}
 use Rattle.order.proofs.State.usage_refusal.Tie as tie
 use Rattle.order.proofs.State.usage_refusal.Reads as reads
@@ -11,10 +10,10 @@ use Rattle.order.proofs.in_group.Reads as in-group-reads
 use Rattle.order.proofs.kept_rp.Reads as kept-rp-reads
 
 in-drugs-requires : tie.Need-in-drugs-requires
-in-drugs-requires c κs = search needs
+in-drugs-requires c κs = tt
 
 kept-rp-requires : tie.Need-kept-rp-requires
-kept-rp-requires c κs = search needs
+kept-rp-requires c κs = tt
 
 returns : tie.Need-returns
 returns c =
@@ -22,7 +21,7 @@ returns c =
     simp (c .kept-rp .ensures, d1 .in-drugs .ensures, of-301-named (d5 .args .self) (d5 .args .r) (d5 .pre) (d2 .if1 .taken))
 
 in-group-requires : tie.Need-in-group-requires
-in-group-requires c κs = search needs
+in-group-requires c κs = tt
 
 returns-2 : tie.Need-returns-2
 returns-2 c =
@@ -30,10 +29,10 @@ returns-2 c =
     sym (of-301-unnamed (d9 .args .self) (d9 .args .r) (d9 .pre) (d6 .if1 .left) (rw (d4 .in-group .ensures) at (c .if2 .taken)))
 
 in-drugs-requires-2 : tie.Need-in-drugs-requires-2
-in-drugs-requires-2 c κs = search needs
+in-drugs-requires-2 c κs = tt
 
 kept-rp-requires-2 : tie.Need-kept-rp-requires-2
-kept-rp-requires-2 c κs = search needs
+kept-rp-requires-2 c κs = tt
 
 returns-3 : tie.Need-returns-3
 returns-3 c =
