@@ -173,28 +173,34 @@ module _ (p : ℕ) (d : ℕ) (e : Bool) (k : ℕ) (f i : Bool) (v : ℕ) (u c : 
 
 -- ---- what holds at each place that taken records lead to
 
+-- What is asked at a place: m to r are answers of the place alone, which a partly applied `keptAt p` computes once for all the others.
+abbrev keptBy : Bool → Bool → Bool → Bool → Bool → Bool → Bool → Bool → Fn 5
+keptBy m a b c d h t r o f u g z =
+    m && ((a ⇒ f) && ((b ⇒ u) && ((c ⇒ not g) && ((d && o ⇒ not g) && ((h ⇒ g) && ((t ⇒ z) && (r ⇒ not z)))))))
+
 -- o: direction 1; f, u: a 51, a 301 was had; g: no group; z: no RP
-abbrev pub keptAt : ℕ → Bool → Bool → Bool → Bool → Bool → Bool
-keptAt p o f u g z =
-    member p places
-    && ((eqb p 51 ⇒ f) &&
-    ((member p (301 ∷ 311 ∷ []) ⇒ u) && ((inGroup p ⇒ not g) && ((eqb p 701 && o ⇒ not g) && ((inHead p ⇒ g) && ((inFront p ⇒ z) && (inRp p ⇒ not z)))))))
+abbrev pub keptAt : ℕ → Fn 5
+keptAt p = keptBy (member p places) (eqb p 51) (member p (301 ∷ 311 ∷ [])) (inGroup p) (eqb p 701) (inHead p) (inFront p) (inRp p)
 
 abbrev pub Kept : Core → Type 0
 Kept c = keptAt (c .place) (c .provider) (c .had51) (c .had301) (c .noGroup) (eqb (c .rp) 0) ≡ true
 
 -- the answers after a record of number n; w: its RP value is 0
-abbrev keptAfter : ℕ → Bool → Bool → Bool → Bool → Bool → Bool → Bool
-keptAfter n o f u g z w =
-    keptAt n o (cond (eqb n 5) false (cond (eqb n 51) true f)) (cond (eqb n 5) false (cond (eqb n 201) false (cond (eqb n 301) true u)))
+abbrev keptAfter : Fn 5 → ℕ → Fn 6
+keptAfter kept n w o f u g z =
+    kept o (cond (eqb n 5) false (cond (eqb n 51) true f)) (cond (eqb n 5) false (cond (eqb n 201) false (cond (eqb n 301) true u)))
     (cond (eqb n 5) false g) (cond (eqb n 5) true (cond (eqb n 201) w z))
 
--- what a record that was taken tells: it may follow, a 701 of direction 1 has a group before it, a 201 has a value
-abbrev told-so : ℕ → ℕ → Fn 6
-told-so n p w o f u g z = mayFollow p n && (keptAt p o f u g z && (not (o && eqb n 701 && g) && (eqb n 201 ⇒ not w)))
+-- what a record that was taken tells, beside that it may follow: a 701 of direction 1 has a group before it, a 201 has a value
+abbrev told-so : Fn 5 → ℕ → Fn 6
+told-so kept n w o f u g z = kept o f u g z && (not (o && eqb n 701 && g) && (eqb n 201 ⇒ not w))
 
-abbrev keepsOn : ℕ → ℕ → Fn 6
-keepsOn n p w o f u g z = told-so n p w o f u g z ⇒ keptAfter n o f u g z w
+abbrev keepsOn : Fn 5 → Fn 5 → ℕ → Fn 6
+keepsOn kept next n w o f u g z = told-so kept n w o f u g z ⇒ keptAfter next n w o f u g z
+
+-- computed only where the record may follow
+abbrev keeps : ℕ → ℕ → Bool
+keeps n p = mayFollow p n ⇒ agree 6 (keepsOn (keptAt p) (keptAt n) n) (λ w o f u g z. true)
 
 rp-after : (a b : Bool) (v w : ℕ) → eqb (cond a 0 (cond b w v)) 0 ≡ cond a true (cond b (eqb w 0) (eqb v 0))
 rp-after true b v w = refl
@@ -211,8 +217,8 @@ groups-stand b a e =
     || b .provider && oneOf (a .number) (5 ∷ 701 ∷ []) && inGroup (b .place) && lacking b)
     (b .provider && eqb (a .number) 701 && b .noGroup) e .1
 
-four : (a b c d : Bool) → a ≡ true → b ≡ true → c ≡ false → d ≡ true → (a && (b && (not c && d))) ≡ true
-four a b c d p q r t = rw (p, q, r, t)
+three : (a b c : Bool) → a ≡ true → b ≡ false → c ≡ true → (a && (not b && c)) ≡ true
+three a b c p q r = rw (p, q, r)
 
 -- the value of a 201 is that of the open RP, or the next
 new-value : (c : Core) (b : Details) → valueWrong (before c) (asked c (rec 201 b)) ≡ false → (inRp (c .place) ⇒ not (eqb (c .rp) 0)) ≡ true
@@ -257,15 +263,15 @@ kept-next c r h k =
     let t = told c r h in
     let w = eqb (r .rp) 0 in
     let m : In (c .place) places = member-in (c .place) places (both (member (c .place) places) _ k .0) in
-    let tested = every-at (λ n. every (λ p. agree 6 (keepsOn n p) (λ w o f u g z. true)) places) refl (known (c .place) (r .number) (t .follows)) in
-    let e = taut 6 (keepsOn (r .number) (c .place)) (λ w o f u g z. true) (every-at (λ p. agree 6 (keepsOn (r .number) p) (λ w o f u g z. true)) tested m)
+    let tested = every-at (keeps (r .number)) (every-at (λ n. every (keeps n) places) refl (known (c .place) (r .number) (t .follows))) m in
+    let e = taut 6 (keepsOn (keptAt (c .place)) (keptAt (r .number)) (r .number)) (λ w o f u g z. true) (so (mayFollow (c .place) (r .number)) _ tested (t .follows))
     w (c .provider) (c .had51) (c .had301) (c .noGroup) (eqb (c .rp) 0) in
     ap (λ z. keptAt (r .number) (c .provider) (next c r .had51) (next c r .had301) (next c r .noGroup) z)
     (rp-after (eqb (r .number) 5) (eqb (r .number) 201) (c .rp) (r .rp))
-    ∙ so (told-so (r .number) (c .place) w (c .provider) (c .had51) (c .had301) (c .noGroup) (eqb (c .rp) 0))
-    (keptAfter (r .number) (c .provider) (c .had51) (c .had301) (c .noGroup) (eqb (c .rp) 0) w) e
-    (four (mayFollow (c .place) (r .number)) (keptAt (c .place) (c .provider) (c .had51) (c .had301) (c .noGroup) (eqb (c .rp) 0))
-    (c .provider && eqb (r .number) 701 && c .noGroup) (eqb (r .number) 201 ⇒ not w) (t .follows) k
+    ∙ so (told-so (keptAt (c .place)) (r .number) w (c .provider) (c .had51) (c .had301) (c .noGroup) (eqb (c .rp) 0))
+    (keptAfter (keptAt (r .number)) (r .number) w (c .provider) (c .had51) (c .had301) (c .noGroup) (eqb (c .rp) 0)) e
+    (three (keptAt (c .place) (c .provider) (c .had51) (c .had301) (c .noGroup) (eqb (c .rp) 0))
+    (c .provider && eqb (r .number) 701 && c .noGroup) (eqb (r .number) 201 ⇒ not w) k
     (groups-stand (before c) (asked c r) (t .complete)) (value-told c r (t .value) (last-kept c k)))
 
 -- ---- all records of a list are taken

@@ -9,7 +9,7 @@ use Rattle.order.specs.Places.{inRp, inDrugs, inGroup, mayFollow}
 use Rattle.order.specs.Questions.{Before, Asked}
 use Rattle.order.specs.Rules.{pairBroken, misplaced, continues, closesRp, lacking, missing, valueWrong, newerGroup, refusal, unfinished}
 use Rattle.grammar.specs.Grammar.{Details, rec, _⇒_, nameAsked}
-use Rattle.grammar.proofs.Computed.{In, agree, every, at-each}
+use Rattle.grammar.proofs.Computed.{In, taut, agree, every, at-each}
 use Rattle.grammar.proofs.Machine.{sound, Core, before, taken}
 
 -- ---- states, and questions, by their parts
@@ -122,27 +122,60 @@ mayClose o p e q f i z u = o ⇒ not (eqb p 51 || inRp p && not u || lacks e q f
 abbrev pub treats : ℕ → Bool
 treats k = eqb k 1 || eqb k 3
 
+-- ---- what the group lacks as one answer
+
+-- A 5, a 701 and the end ask for e, q, f and i by it only, so that their tests go over y and not over these.
+abbrev lk : Bool → ℕ → Bool → Bool → Bool → Bool → Bool → Before
+lk o p y t z u c = bf o p (not y) false t false true z u c
+
+abbrev mayCloseBy : Bool → ℕ → Bool → Bool → Bool
+mayCloseBy o p y u = o ⇒ not (eqb p 51 || inRp p && not u || y)
+
+only : (y z : Bool) → y ≡ (not (not y) || not z && false && true || z && false)
+only = taut 2 (λ y z. y) (λ y z. not (not y) || not z && false && true || z && false) refl
+
+module _ (o : Bool) (p : ℕ) (e q t f i z u c : Bool) where
+  lacked : lacking (bf o p e q t f i z u c) ≡ lacking (lk o p (lacks e q f i z) t z u c)
+  unfolding lacking
+  lacked = only (lacks e q f i z) z
+
+  end-lacked : not (unfinished (bf o p e q t f i z u c)) ≡ not (unfinished (lk o p (lacks e q f i z) t z u c))
+  unfolding unfinished
+  end-lacked = rw lacked
+
+  module _ (s x l a m : Bool) where
+    5-lacked : sound (bf o p e q t f i z u c) (ask 5 s x l a m) ≡ sound (lk o p (lacks e q f i z) t z u c) (ask 5 s x l a m)
+    unfolding refusal pairBroken misplaced missing valueWrong newerGroup continues closesRp
+    5-lacked = rw lacked
+
+    701-lacked : sound (bf o p e q t f i z u c) (ask 701 s x l a m) ≡ sound (lk o p (lacks e q f i z) t z u c) (ask 701 s x l a m)
+    unfolding refusal pairBroken misplaced missing valueWrong newerGroup continues closesRp
+    701-lacked = rw lacked
+
 -- ---- in a group
 
 module _ {p : ℕ} (o : Bool) (d : ℕ) (e : Bool) (k : ℕ) (f i : Bool) (v : ℕ) (u c : Bool) where
   pub at-end : In p toEnd → not (unfinished (before (st o p d e k f i v u c))) ≡ mayClose o p e (eqb k 4) f i (eqb v 0) u
   unfolding unfinished lacking inGroup
   at-end m =
-      at-each 7 (λ p o e q f i z u. not (unfinished (bf o p e q (treats k) f i z u c))) (λ p o e q f i z u. mayClose o p e q f i z u) refl m
-      o e (eqb k 4) f i (eqb v 0) u
+      end-lacked o p e (eqb k 4) (treats k) f i (eqb v 0) u c
+      ∙ at-each 4 (λ p o y z u. not (unfinished (lk o p y (treats k) z u c))) (λ p o y z u. mayCloseBy o p y u) refl m
+      o (lacks e (eqb k 4) f i (eqb v 0)) (eqb v 0) u
 
   module _ (b : Details) where
     pub at-5 : In p toEnd → taken (st o p d e k f i v u c) (rec 5 b) ≡ (mayClose o p e (eqb k 4) f i (eqb v 0) u && not (ltb d (b .day)))
     unfolding refusal pairBroken misplaced missing valueWrong newerGroup mayFollow inGroup continues closesRp lacking
     at-5 m =
-        at-each 8 (λ p o e q f i z u l. sound (bf o p e q (treats k) f i z u c) (ask 5 (eqb (b .rp) v) (eqb (b .rp) (v + 1)) l (b .named) (material b)))
-        (λ p o e q f i z u l. mayClose o p e q f i z u && not l) refl m o e (eqb k 4) f i (eqb v 0) u (ltb d (b .day))
+        5-lacked o p e (eqb k 4) (treats k) f i (eqb v 0) u c (eqb (b .rp) v) (eqb (b .rp) (v + 1)) (ltb d (b .day)) (b .named) (material b)
+        ∙ at-each 5 (λ p o y z u l. sound (lk o p y (treats k) z u c) (ask 5 (eqb (b .rp) v) (eqb (b .rp) (v + 1)) l (b .named) (material b)))
+        (λ p o y z u l. mayCloseBy o p y u && not l) refl m o (lacks e (eqb k 4) f i (eqb v 0)) (eqb v 0) u (ltb d (b .day))
 
     pub at-701 : In p toEnd → taken (st o p d e k f i v u c) (rec 701 b) ≡ mayClose o p e (eqb k 4) f i (eqb v 0) u
     unfolding refusal pairBroken misplaced missing valueWrong newerGroup mayFollow inGroup continues closesRp lacking
     at-701 m =
-        at-each 7 (λ p o e q f i z u. sound (bf o p e q (treats k) f i z u c) (asking 701 d v b))
-        (λ p o e q f i z u. mayClose o p e q f i z u) refl m o e (eqb k 4) f i (eqb v 0) u
+        701-lacked o p e (eqb k 4) (treats k) f i (eqb v 0) u c (eqb (b .rp) v) (eqb (b .rp) (v + 1)) (ltb d (b .day)) (b .named) (material b)
+        ∙ at-each 4 (λ p o y z u. sound (lk o p y (treats k) z u c) (asking 701 d v b)) (λ p o y z u. mayCloseBy o p y u) refl m
+        o (lacks e (eqb k 4) f i (eqb v 0)) (eqb v 0) u
 
     -- 11 and 15 ask nothing
     pub at-11 : In p (5 ∷ []) → taken (st o p d e k f i v u c) (rec 11 b) ≡ true
