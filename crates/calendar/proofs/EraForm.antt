@@ -1,5 +1,6 @@
 -- A date of seven bytes is the era form of its day. Assumes nothing.
 use Prim.Native.Nat.{ℕ, _+_, _-_, _*_, _/_, _%_, _≤_}
+use native.Mathlib.Nat.{div-one, div-div-eq-div-mul}
 use native.Mathlib.Omega.{arith}
 use mathlib.Core.Path.{_≡_, refl, sym, ap, _∙_}
 use mathlib.Core.Bool.{Bool, true, false, cond, _&&_}
@@ -37,6 +38,10 @@ digit n b s k e = go (isDigit b) refl e
     go true q f = record { low = digit-is b q .0; high = digit-is b q .1; next = f }
     go false q f = let z : _≡_ {A = ℕ} 0 1 = cc in absurd (omega arith)
 
+-- the last digit, b, of what stands at m in k
+split : (m n b k : ℕ) → 48 ≤ b → b ≤ 57 → k / m ≡ n * 10 + (b - 48) → (k / (m * 10) ≡ n) × (k / m % 10 + 48 ≡ b)
+split m n b k l h e = (sym (div-div-eq-div-mul k m 10) ∙ rw e (omega arith), rw e (omega arith))
+
 six : (a b c d e f k : ℕ) → numberFrom 0 (a ∷ b ∷ c ∷ d ∷ e ∷ f ∷ []) ≡ Is k → sixDigits k ≡ a ∷ b ∷ c ∷ d ∷ e ∷ f ∷ []
 unfolding numberFrom
 six a b c d e f k h =
@@ -53,19 +58,12 @@ six a b c d e f k h =
     let v : Digit n₅ f [] k = digit n₅ f [] k (u .next) in
     let w : _≡_ {A = Number} (Is (n₅ * 10 + (f - 48))) (Is k) = v .next in
     let m : n₅ * 10 + (f - 48) ≡ k = cc in
-    spelled a b c d e f k (p .low) (p .high) (q .low) (q .high) (r .low) (r .high) (t .low) (t .high) (u .low) (u .high) (v .low) (v .high) m
-  where
-    spelled : (a b c d e f k : ℕ) → 48 ≤ a → a ≤ 57 → 48 ≤ b → b ≤ 57 → 48 ≤ c → c ≤ 57 → 48 ≤ d → d ≤ 57 → 48 ≤ e → e ≤ 57 → 48 ≤ f → f ≤ 57
-        → (((((0 * 10 + (a - 48)) * 10 + (b - 48)) * 10 + (c - 48)) * 10 + (d - 48)) * 10 + (e - 48)) * 10 + (f - 48) ≡ k
-        → sixDigits k ≡ a ∷ b ∷ c ∷ d ∷ e ∷ f ∷ []
-    spelled a b c d e f k a₁ a₂ b₁ b₂ c₁ c₂ d₁ d₂ e₁ e₂ f₁ f₂ m =
-        let p : k / 100000 % 10 + 48 ≡ a = omega arith in
-        let q : k / 10000 % 10 + 48 ≡ b = omega arith in
-        let r : k / 1000 % 10 + 48 ≡ c = omega arith in
-        let t : k / 100 % 10 + 48 ≡ d = omega arith in
-        let u : k / 10 % 10 + 48 ≡ e = omega arith in
-        let v : k % 10 + 48 ≡ f = omega arith in
-        cc
+    let s₁ = split 1 n₅ f k (v .low) (v .high) (div-one k ∙ sym m) in
+    let s₂ = split 10 n₄ e k (u .low) (u .high) (s₁ .0) in
+    let s₃ = split 100 n₃ d k (t .low) (t .high) (s₂ .0) in
+    let s₄ = split 1000 n₂ c k (r .low) (r .high) (s₃ .0) in
+    let s₅ = split 10000 n₁ b k (q .low) (q .high) (s₄ .0) in
+    rw (split 100000 0 a k (p .low) (p .high) (s₅ .0) .1, s₅ .1, s₄ .1, s₃ .1, s₂ .1, rw div-one at (s₁ .1))
 
 -- ---- the era
 
