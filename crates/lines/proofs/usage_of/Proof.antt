@@ -1,3 +1,4 @@
+use native.Mathlib.Omega.{arith}
 use borrow.Author.Needs.{needs}
 use Prim.Native.Nat.{_-_}
 use lib.ListN.{length}
@@ -27,67 +28,67 @@ item-span-requires-5 : tie.Need-item-span-requires-5
 item-span-requires-5 c κs = search needs
 
 sub-code-pair : tie.Need-sub-code-pair
-sub-code-pair c = search needs
+sub-code-pair c = omega arith
 
 part-code-pair-start : tie.Need-part-code-pair-start
-part-code-pair-start c = search needs
+part-code-pair-start c = omega arith
 
 part-code-pair-end : tie.Need-part-code-pair-end
-part-code-pair-end c = search needs
+part-code-pair-end c = omega arith
 
 sub-code-pair-2 : tie.Need-sub-code-pair-2
-sub-code-pair-2 c = search needs
+sub-code-pair-2 c = omega arith
 
 part-code-pair-start-2 : tie.Need-part-code-pair-start-2
-part-code-pair-start-2 c = search needs
+part-code-pair-start-2 c = omega arith
 
 part-code-pair-end-2 : tie.Need-part-code-pair-end-2
-part-code-pair-end-2 c = search needs
+part-code-pair-end-2 c = omega arith
 
 code-pair-requires : tie.Need-code-pair-requires
-code-pair-requires c κs = search needs
+code-pair-requires c κs = tt
 
 sub-form-pair : tie.Need-sub-form-pair
-sub-form-pair c = search needs
+sub-form-pair c = omega arith
 
 part-form-pair-start : tie.Need-part-form-pair-start
-part-form-pair-start c = search needs
+part-form-pair-start c = omega arith
 
 part-form-pair-end : tie.Need-part-form-pair-end
-part-form-pair-end c = search needs
+part-form-pair-end c = omega arith
 
 sub-form-pair-2 : tie.Need-sub-form-pair-2
-sub-form-pair-2 c = search needs
+sub-form-pair-2 c = omega arith
 
 part-form-pair-start-2 : tie.Need-part-form-pair-start-2
-part-form-pair-start-2 c = search needs
+part-form-pair-start-2 c = omega arith
 
 part-form-pair-end-2 : tie.Need-part-form-pair-end-2
-part-form-pair-end-2 c = search needs
+part-form-pair-end-2 c = omega arith
 
 sub-form-pair-3 : tie.Need-sub-form-pair-3
-sub-form-pair-3 c = search needs
+sub-form-pair-3 c = omega arith
 
 part-form-pair-start-3 : tie.Need-part-form-pair-start-3
-part-form-pair-start-3 c = search needs
+part-form-pair-start-3 c = omega arith
 
 part-form-pair-end-3 : tie.Need-part-form-pair-end-3
-part-form-pair-end-3 c = search needs
+part-form-pair-end-3 c = omega arith
 
 form-pair-requires : tie.Need-form-pair-requires
-form-pair-requires c κs = search needs
+form-pair-requires c κs = tt
 
 sub-plain-number : tie.Need-sub-plain-number
-sub-plain-number c = search needs
+sub-plain-number c = omega arith
 
 part-plain-number-start : tie.Need-part-plain-number-start
-part-plain-number-start c = search needs
+part-plain-number-start c = omega arith
 
 part-plain-number-end : tie.Need-part-plain-number-end
-part-plain-number-end c = search needs
+part-plain-number-end c = omega arith
 
 plain-number-requires : tie.Need-plain-number-requires
-plain-number-requires c κs = search needs
+plain-number-requires c κs = tt
 
 returns : tie.Need-returns
 returns c = search (needs, usage-is)
