@@ -1,7 +1,8 @@
 use borrow.Author.Needs.{needs}
 use Prim.Native.Nat.{_-_}
 use lib.ListN.{length}
-use Rattle.join.proofs.JoinLaws.{join-laws}
+use Rattle.join.proofs.JoinLaws.{join-end, join-fits, join-no-answer, join-no-buffer, join-refused-answer, join-refused-buffer}
+use Rattle.join.proofs.JoinLaws.{join-short-answer, join-short-buffer, join-answer, join-buffer}
 use Rattle.join.proofs.join.Statement.{statement}
 use Rattle.join.proofs.join.Tie as tie
 use Rattle.join.proofs.join.Reads as reads
@@ -29,7 +30,7 @@ part-check-start : tie.Need-part-check-start
 part-check-start c = search needs
 
 part-check-end : tie.Need-part-check-end
-part-check-end c = search (needs, join-laws)
+part-check-end c = search join-end
 
 check-requires : tie.Need-check-requires
 check-requires c κs = search needs
@@ -41,7 +42,7 @@ enum-told : tie.Need-enum-told
 enum-told c = search needs
 
 returns : tie.Need-returns
-returns c = search (needs, join-laws)
+returns c = search (join-short-answer, join-short-buffer)
 
 sub-put-all : tie.Need-sub-put-all
 sub-put-all c = search needs
@@ -50,25 +51,25 @@ part-put-all-start : tie.Need-part-put-all-start
 part-put-all-start c = search needs
 
 part-put-all-end : tie.Need-part-put-all-end
-part-put-all-end c = search (needs, join-laws)
+part-put-all-end c = search join-end
 
 put-all-requires : tie.Need-put-all-requires
 put-all-requires c κs = search needs
 
 cast-t30 : tie.Need-cast-t30
-cast-t30 c = search (needs, join-laws)
+cast-t30 c = search join-fits
 
 returns-2 : tie.Need-returns-2
-returns-2 c = search (needs, join-laws)
+returns-2 c = search (join-no-answer, join-no-buffer)
 
 returns-3 : tie.Need-returns-3
-returns-3 c = search (needs, join-laws)
+returns-3 c = search (join-refused-answer, join-refused-buffer)
 
 same-length : tie.Need-same-length
 same-length c = search needs
 
 returns-4 : tie.Need-returns-4
-returns-4 c = search (needs, join-laws)
+returns-4 c = search (join-answer, join-buffer)
 
 pub join-spec : {M : Type 1} → statement M
 join-spec =
