@@ -18,7 +18,7 @@ same-length : tie.Need-same-length
 same-length c = search needs
 
 returns : tie.Need-returns
-returns c = (cc, search needs)
+returns c = let d = c .before .before .before in (rw (d .canonical-file .ensures .0) at (c .canonical-answer .ensures), d .canonical-file .ensures .1)
 
 pub notebook-canonical-spec : {M : Type 1} → statement M
 notebook-canonical-spec =

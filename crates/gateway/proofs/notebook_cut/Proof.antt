@@ -18,7 +18,7 @@ same-length : tie.Need-same-length
 same-length c = search needs
 
 returns : tie.Need-returns
-returns c = (cc, search needs)
+returns c = let d = c .before .before .before in (rw (d .cut .ensures .0) at (c .cut-answer .ensures), d .cut .ensures .1)
 
 pub notebook-cut-spec : {M : Type 1} → statement M
 notebook-cut-spec = tie.close (tie.spec cut-requires cut-answer-requires same-length returns)

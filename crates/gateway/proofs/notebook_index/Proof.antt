@@ -18,7 +18,7 @@ same-length : tie.Need-same-length
 same-length c = search needs
 
 returns : tie.Need-returns
-returns c = (cc, search needs)
+returns c = let d = c .before .before .before in (rw (d .index .ensures .0) at (c .index-answer .ensures), d .index .ensures .1)
 
 pub notebook-index-spec : {M : Type 1} → statement M
 notebook-index-spec = tie.close (tie.spec index-requires index-answer-requires same-length returns)

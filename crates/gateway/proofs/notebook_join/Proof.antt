@@ -18,7 +18,7 @@ same-length : tie.Need-same-length
 same-length c = search needs
 
 returns : tie.Need-returns
-returns c = (cc, search needs)
+returns c = let d = c .before .before .before in (rw (d .join .ensures .0) at (c .join-answer .ensures), d .join .ensures .1)
 
 pub notebook-join-spec : {M : Type 1} → statement M
 notebook-join-spec = tie.close (tie.spec join-requires join-answer-requires same-length returns)
