@@ -12,19 +12,19 @@ pub fn write_number(n: u64) {
 }
 
 // `no` and the refusal's number and line; single spaces, then 0Ah.
-pub fn refusal_to(fd: i32, r: gateway::Reply) {
+pub fn refusal_to(fd: i32, r: replies::Reply) {
     io::write_all(fd, b"no");
     number_to(fd, r.refusal);
     number_to(fd, r.line);
     io::write_all(fd, b"\n");
 }
 
-pub fn write_refusal(r: gateway::Reply) {
+pub fn write_refusal(r: replies::Reply) {
     refusal_to(STDOUT_FILENO, r);
 }
 
 // `ok` and the counts of records, groups and drugs, or the refusal; single spaces, then 0Ah.
-pub fn write_check(r: gateway::Reply) {
+pub fn write_check(r: replies::Reply) {
     if r.refusal == 0 {
         io::write_all(STDOUT_FILENO, b"ok");
         write_number(r.a);

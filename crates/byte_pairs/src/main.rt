@@ -4,7 +4,7 @@
 use libc::STDOUT_FILENO;
 
 // The sign of a reply.
-fn sign(r: gateway::Reply) -> u8 {
+fn sign(r: replies::Reply) -> u8 {
     if r.refusal == 0 {
         return b'.';
     }

@@ -10,15 +10,18 @@ use lib.Dec.{leb, eqb}
 use lib.ListN.{length, getD, drop}
 use Rattle.digits.specs.Digits.{isDigit}
 use Rattle.digits.proofs.Numbers.{digit-is}
-use Rattle.calendar.specs.declared.Era.{Era}
+use Rattle.eras.specs.declared.Era.{Era}
 use Rattle.calendar.specs.declared.Day.{Day}
 use Rattle.calendar.specs.declared.Number.{Number}
 use Rattle.calendar.specs.declared.Number.the-variants.{Is, NoNumber}
 use Rattle.calendar.specs.declared.DateRead.{DateRead}
 use Rattle.calendar.specs.declared.DateRead.the-variants.{Date, NotADate}
-use Rattle.calendar.specs.Digits.{numberFrom, sixDigits}
-use Rattle.calendar.specs.Day.{isDay, gregorian}
-use Rattle.calendar.specs.Era.{era, noEra, eraOf, eraOn, inEra, fromEra, eraNumber, readDay, writeDay}
+use Rattle.calendar.specs.Digits.{numberFrom}
+use Rattle.eras.specs.Era.{sixDigits}
+use Rattle.eras.specs.Day.{isDay}
+use Rattle.calendar.specs.Day.{gregorian}
+use Rattle.eras.specs.Era.{era, noEra, eraOf, eraOn, writeDay}
+use Rattle.calendar.specs.Era.{inEra, fromEra, eraNumber, readDay}
 
 not-date : {d : Day} → _≡_ {A = DateRead} NotADate (Date d) → ⊥
 not-date e = let z : _≡_ {A = ℕ} 0 1 = cc in omega arith

@@ -9,16 +9,19 @@ use borrow.Author.Tests.{le-leb, lt-leb, leb-true, leb-false, eqb-true}
 use lib.Dec.{T, leb, leb→le, eqb}
 use lib.ListN.{length, getD, drop}
 use Rattle.lists.proofs.Tests.{cond-case}
-use Rattle.calendar.specs.declared.Era.{Era}
+use Rattle.eras.specs.declared.Era.{Era}
 use Rattle.calendar.specs.declared.Day.{Day}
 use Rattle.calendar.specs.declared.Number.{Number}
 use Rattle.calendar.specs.declared.Number.the-variants.{Is, NoNumber}
 use Rattle.calendar.specs.declared.DateRead.{DateRead}
 use Rattle.calendar.specs.declared.DateRead.the-variants.{Date, NotADate}
-use Rattle.calendar.specs.Digits.{numberFrom, sixDigits}
-use Rattle.calendar.specs.Day.{firstDay, lastDay, isDay, gregorian}
-use Rattle.calendar.specs.Era.{eraOf, eraOn, inEra, fromEra, readDay, writeDay, gregorianNumber, eraNumber}
-use Rattle.calendar.proofs.Eras.{Good, good-day, before-le, Named, day-named, and-l, and-r}
+use Rattle.calendar.specs.Digits.{numberFrom}
+use Rattle.eras.specs.Era.{sixDigits}
+use Rattle.eras.specs.Day.{firstDay, lastDay, isDay}
+use Rattle.calendar.specs.Day.{gregorian}
+use Rattle.eras.specs.Era.{eraOf, eraOn, writeDay}
+use Rattle.calendar.specs.Era.{inEra, fromEra, readDay, gregorianNumber, eraNumber}
+use Rattle.eras.proofs.Eras.{Good, good-day, before-le, Named, day-named, and-l, and-r}
 
 digit-step : (n x : ℕ) (s : List ℕ) → numberFrom n ((x % 10 + 48) ∷ s) ≡ numberFrom (n * 10 + x % 10) s
 unfolding numberFrom

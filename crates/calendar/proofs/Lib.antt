@@ -1,4 +1,3 @@
 pub mod Steps
-pub mod Eras
 pub mod Laws
 pub mod EraForm

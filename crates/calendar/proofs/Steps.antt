@@ -9,12 +9,12 @@ use native.Mathlib.Omega.{arith}
 use borrow.Author.Tests.{le-leb, lt-leb}
 use lib.ListN.{length, getD, drop, take, drop-of-length-le, length-drop}
 use lib.Seq.{drop-cons, take-all}
-use Rattle.calendar.specs.declared.Era.{Era}
+use Rattle.eras.specs.declared.Era.{Era}
 use Rattle.calendar.specs.declared.Number.{Number}
 use Rattle.calendar.specs.declared.Number.the-variants.{Is, NoNumber}
 use Rattle.digits.specs.Digits.{isDigit}
 use Rattle.calendar.specs.Digits.{numberFrom}
-use Rattle.calendar.specs.Era.{find, noEra}
+use Rattle.eras.specs.Era.{find, noEra}
 
 module _ (p : Era → Bool) (es : List Era) (i : ℕ) (d : Era) (h : i < length es) where
   pub find-here : p (getD es i d) ≡ true → find p (drop i es) ≡ getD es i d

@@ -1,5 +1,5 @@
--- Runs of digits: the number that six or eight bytes spell, and the six digits of a number. Document 01, kind D.
-use Prim.Native.Nat.{ℕ, _+_, _-_, _*_, _/_, _%_}
+-- Runs of digits: the number that six or eight bytes spell. Document 01, kind D.
+use Prim.Native.Nat.{ℕ, _+_, _-_, _*_}
 use mathlib.Core.List.{List, [], _∷_}
 use mathlib.Core.Bool.{cond}
 use Rattle.digits.specs.Digits.{isDigit}
@@ -10,7 +10,3 @@ use Rattle.calendar.specs.declared.Number.the-variants.{Is, NoNumber}
 unfoldable pub numberFrom : ℕ → List ℕ → Number
 numberFrom n [] = Is n
 numberFrom n (b ∷ s) = cond (isDigit b) (numberFrom (n * 10 + (b - 48)) s) NoNumber
-
--- the last six digits of k
-abbrev pub sixDigits : ℕ → List ℕ
-sixDigits k = (k / 100000 % 10 + 48) ∷ (k / 10000 % 10 + 48) ∷ (k / 1000 % 10 + 48) ∷ (k / 100 % 10 + 48) ∷ (k / 10 % 10 + 48) ∷ (k % 10 + 48) ∷ []

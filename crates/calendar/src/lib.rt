@@ -1,12 +1,15 @@
 // The days of the medication notebook: read from either spelling, written in the era form. Definitions: specs/Day.antt and
-// specs/Era.antt. A new era moves `eras` there and ERAS here, by one row each.
+// specs/Era.antt, and crate eras. A new era moves `eras` there and ERAS here, by one row each.
 ghost use mathlib.Core.Path.{_≡_};
 ghost use Prim.Native.Nat.{_≤_};
 ghost use lib.Dec.{ltb};
 ghost use lib.ListN.{length};
 ghost use Rattle.calendar.specs.Digits.{numberFrom};
-ghost use Rattle.calendar.specs.Day.{leap, monthLength, gregorian};
-ghost use Rattle.calendar.specs.Era.{eraOf, eraOn, fromEra, readDay, writeDay};
+ghost use Rattle.eras.specs.Day.{leap, monthLength};
+ghost use Rattle.calendar.specs.Day.{gregorian};
+ghost use Rattle.eras.specs.Era.{eraOf, eraOn, writeDay};
+ghost use Rattle.calendar.specs.Era.{fromEra, readDay};
+use eras::Era;
 
 // What a run of digits reads to.
 pub enum Number {
@@ -23,14 +26,6 @@ pub struct Day {
 pub enum DateRead {
     Date(Day),
     NotADate,
-}
-
-// An era: its letter, the year before its year 1 times 10,000, and the first and the last day that are read under the letter.
-pub struct Era {
-    pub letter: u8,
-    pub before: u32,
-    pub first: u32,
-    pub last: u32,
 }
 
 // No era: no day is read under it.

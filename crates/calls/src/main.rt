@@ -199,7 +199,7 @@ fn write_unused(x: u64, y: u64, z: u64) {
     }
 }
 
-fn write_no(r: gateway::Reply) {
+fn write_no(r: replies::Reply) {
     io::write_all(STDOUT_FILENO, b"no");
     answers::write_number(r.refusal);
     answers::write_number(r.line);
@@ -207,7 +207,7 @@ fn write_no(r: gateway::Reply) {
 }
 
 // The reply of a call that gives one number.
-fn write_one(r: gateway::Reply) {
+fn write_one(r: replies::Reply) {
     if r.refusal == 0 {
         io::write_all(STDOUT_FILENO, b"ok");
         answers::write_number(r.a);
@@ -219,7 +219,7 @@ fn write_one(r: gateway::Reply) {
 }
 
 // The reply of cut: the pieces and their bytes.
-fn write_two(r: gateway::Reply) {
+fn write_two(r: replies::Reply) {
     if r.refusal == 0 {
         io::write_all(STDOUT_FILENO, b"ok");
         answers::write_number(r.a);

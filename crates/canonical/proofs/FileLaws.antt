@@ -13,9 +13,10 @@ use lib.Dec.{eqb}
 use lib.ListN.{length, take, drop, length-append}
 use lib.Seq.{sets, length-sets, drop-drop, drop-at}
 use Rattle.lists.specs.Lists.{same, part, Res, ok, refused}
-use Rattle.characters.specs.declared.Line.{Line}
-use Rattle.characters.specs.declared.Line.the-variants.{Whole, Mark, End, Broken}
-use Rattle.characters.specs.Rows.{rows, flat, lineEnd, WholeLine, LineOf}
+use Rattle.scanning.specs.declared.Line.{Line}
+use Rattle.scanning.specs.declared.Line.the-variants.{Whole, Mark, End, Broken}
+use Rattle.characters.specs.Rows.{rows, flat, lineEnd, WholeLine}
+use Rattle.scanning.specs.Scans.{LineOf}
 use Rattle.characters.proofs.RowLaws.{flat-rows}
 use Rattle.records.specs.Records.{Record, recordOf, lineFault, write}
 use Rattle.records.proofs.LineLaws.{line-good}
@@ -24,20 +25,20 @@ use Rattle.order.specs.declared.Moved.{Moved}
 use Rattle.order.specs.declared.Moved.the-variants.{Refused as StepRefused, On}
 use Rattle.order.specs.State.{start, finishOf, Room as Countable}
 use Rattle.order.proofs.Laws.{next-line, room, room-start, line-start}
-use Rattle.lines.specs.Facts.{factsOf}
+use Rattle.notebook.specs.Facts.{factsOf}
 use Rattle.buffers.specs.Buffers.{Room, Wrote}
 use Rattle.buffers.proofs.Runs.{sets-append}
 use Rattle.notebook.specs.Notebook.{stepLine, prepend, closed, onward, recordsFrom}
-use Rattle.notebook.specs.Check.{Behind, Closing}
-use Rattle.notebook.proofs.StepLaws.{Placed, placed, place-number}
-use Rattle.notebook.specs.declared.Turn.{Turn}
-use Rattle.notebook.specs.declared.Turn.the-variants.{Over, Refused as TurnRefused, On as TurnOn}
-use Rattle.notebook.specs.Turns.{StepAt, RefusedAt, broken, faulty, TurnOf}
-use Rattle.notebook.proofs.TurnLaws.{turn-facts, turn-over, turn-refused, turn-step, turn-fits}
-use Rattle.notebook.proofs.LineFacts.{whole-line, whole-length, records-end, records-mark, records-broken, records-on}
-use Rattle.canonical.specs.declared.Canonical.{Canonical}
-use Rattle.canonical.specs.declared.Canonical.the-variants.{Written, Refused}
-use Rattle.canonical.specs.Canonical.{recordRow, recordRows}
+use Rattle.checking.specs.Walking.{Behind, Closing}
+use Rattle.notebook.proofs.Placing.{Placed, placed, place-number}
+use Rattle.checking.specs.declared.Turn.{Turn}
+use Rattle.checking.specs.declared.Turn.the-variants.{Over, Refused as TurnRefused, On as TurnOn}
+use Rattle.checking.specs.Turns.{StepAt, RefusedAt, broken, faulty, TurnOf}
+use Rattle.checking.proofs.TurnLaws.{turn-facts, turn-over, turn-refused, turn-step, turn-fits}
+use Rattle.checking.proofs.LineFacts.{whole-line, whole-length, records-end, records-mark, records-broken, records-on}
+use Rattle.replies.specs.declared.Canonical.{Canonical}
+use Rattle.replies.specs.declared.Canonical.the-variants.{Written, Refused}
+use Rattle.notebook.specs.Canonical.{recordRow, recordRows}
 use Rattle.canonical.specs.declared.Run.{Run}
 use Rattle.canonical.specs.Writing.{ahead, reach, Ready, Passed, Sound, Ended, Output, poured, PouredMeans, Poured, closing, Finished}
 use Rattle.lists.proofs.Parts.{part-length}

@@ -18,7 +18,8 @@ use Rattle.digits.proofs.Spelling.{same-spell}
 use Rattle.calendar.specs.declared.DateRead.{DateRead}
 use Rattle.calendar.specs.declared.DateRead.the-variants.{Date, NotADate}
 use Rattle.calendar.specs.declared.Day.{Day}
-use Rattle.calendar.specs.Era.{readDay, writeDay}
+use Rattle.calendar.specs.Era.{readDay}
+use Rattle.eras.specs.Era.{writeDay}
 use Rattle.records.specs.Table.{Kind, N, U, X, A, F, C, P, R, W, Q, D, among}
 use Rattle.records.specs.Items.{text, writeValue, numberFault, numberValue, dayFault, dayValue, unhyphened, seven, postal, fault, value}
 use Rattle.records.specs.Records.{itemValue}

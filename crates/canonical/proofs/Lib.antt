@@ -4,5 +4,3 @@ pub mod ItemLaws
 pub mod LineLaws
 pub mod FileLaws
 pub mod WholeLaws
-pub mod Accepted
-pub mod CanonicalLaws

@@ -12,7 +12,8 @@ use Rattle.lists.specs.Lists.{part}
 use Rattle.lists.proofs.Tests.{or-zero, cond-case, below, below-at}
 use Rattle.lists.proofs.Cuts.{drop-step}
 use Rattle.digits.specs.Short.{plainNumber}
-use Rattle.characters.specs.Text.{commaCount, Stops, Sixteen}
+use Rattle.characters.specs.Text.{commaCount}
+use Rattle.scanning.specs.Scans.{Stops, Sixteen}
 use Rattle.characters.specs.Rows.{lineEnd}
 use Rattle.records.specs.Table.{Item, table}
 use Rattle.records.specs.Split.{itemsOf, joined}
@@ -26,7 +27,7 @@ use Rattle.lines.proofs.TableLaws.{RowAt, row-of, slice-length, codes-length}
 use Rattle.lines.proofs.WalkLaws.{left, left-all, left-first}
 use Rattle.buffers.specs.Buffers.{Room, Wrote}
 use Rattle.buffers.proofs.Runs.{carry}
-use Rattle.canonical.specs.Canonical.{recordRow}
+use Rattle.notebook.specs.Canonical.{recordRow}
 use Rattle.canonical.specs.declared.Run.{Run}
 use Rattle.canonical.specs.Writing.{itemBytes, Spellable, oneSpelling, ahead, reach, Ready, Passed, spot, tailOf, AllSpellable, Items, spotsFrom, spotsOf, Sound, LineIn, begins, itemAt, tailAt, ItemOf, Ended}
 use Rattle.lists.proofs.Parts.{part-length, part-part}

@@ -9,22 +9,23 @@ use lib.Dec.{leb, eqb}
 use lib.ListN.{length, take, drop, length-append}
 use lib.Seq.{sets, length-sets, length-take-le, take-at}
 use Rattle.lists.specs.Lists.{part, Res, ok, refused}
-use Rattle.characters.specs.declared.Line.{Line}
-use Rattle.characters.specs.declared.Line.the-variants.{Whole, Mark, End, Broken}
-use Rattle.characters.specs.Rows.{rows, flat, lineEnd, WholeLine, LineMeans, LineOf}
+use Rattle.scanning.specs.declared.Line.{Line}
+use Rattle.scanning.specs.declared.Line.the-variants.{Whole, Mark, End, Broken}
+use Rattle.characters.specs.Rows.{rows, flat, lineEnd, WholeLine}
+use Rattle.scanning.specs.Scans.{LineMeans, LineOf}
 use Rattle.characters.proofs.RowLaws.{flat-rows}
 use Rattle.records.specs.Records.{Record, header}
 use Rattle.order.specs.State.{start}
 use Rattle.buffers.specs.Buffers.{Room, Wrote}
 use Rattle.buffers.proofs.Runs.{then, front, sets-all}
 use Rattle.notebook.specs.Notebook.{Notebook, recordsFrom, notebookOf, readFile}
-use Rattle.notebook.specs.Check.{directionOf}
-use Rattle.notebook.proofs.ReadLaws.{read-large, read-end, read-mark, read-broken, read-provider, read-patient, read-version, line-1-high, line-1-fits, line-1-behind}
-use Rattle.notebook.proofs.LineFacts.{line-size}
-use Rattle.notebook.proofs.CheckLaws.{zeros-size}
-use Rattle.canonical.specs.declared.Canonical.{Canonical}
-use Rattle.canonical.specs.declared.Canonical.the-variants.{Written, Refused}
-use Rattle.canonical.specs.Canonical.{headRow, recordRows, canonicalBytes, answered, canonicalOf, bytesOf, bufferAfter, canonicalBuffer}
+use Rattle.checking.specs.Walking.{directionOf}
+use Rattle.checking.proofs.ReadLaws.{read-large, read-end, read-mark, read-broken, read-provider, read-patient, read-version, line-1-high, line-1-fits, line-1-behind}
+use Rattle.checking.proofs.LineFacts.{line-size}
+use Rattle.checking.proofs.CheckLaws.{zeros-size}
+use Rattle.replies.specs.declared.Canonical.{Canonical}
+use Rattle.replies.specs.declared.Canonical.the-variants.{Written, Refused}
+use Rattle.notebook.specs.Canonical.{headRow, recordRows, canonicalBytes, answered, canonicalOf, bytesOf, bufferAfter, canonicalBuffer}
 use Rattle.canonical.specs.Writing.{Output, poured, Poured, fileBytes, MadeMeans, MadeOf, Holds}
 
 -- ---- the array

@@ -21,10 +21,10 @@ use Rattle.items.specs.Codes.{itemOf}
 use Rattle.lines.specs.Codes.{codes, placeOf, sliceOf, Spanned}
 use Rattle.buffers.specs.Buffers.{Wrote}
 use Rattle.notebook.specs.Notebook.{Notebook}
-use Rattle.canonical.specs.declared.Canonical.{Canonical}
-use Rattle.canonical.specs.declared.Canonical.the-variants.{Written, Refused}
+use Rattle.replies.specs.declared.Canonical.{Canonical}
+use Rattle.replies.specs.declared.Canonical.the-variants.{Written, Refused}
 use Rattle.canonical.specs.declared.Run.{Run}
-use Rattle.canonical.specs.Canonical.{recordRows, canonicalBytes}
+use Rattle.notebook.specs.Canonical.{recordRows, canonicalBytes}
 
 -- ---- one item
 

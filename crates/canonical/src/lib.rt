@@ -1,31 +1,26 @@
 // The canonical file: one pass that checks and writes, into an array of the call's own; then a copy, where the output can hold it.
 // All bytes but a few are kept, so the pass copies runs of them: an item that has another spelling ends a run, and so does the file's end.
-// Definitions: specs/Canonical.antt; the same as the code writes it: specs/Writing.antt.
+// Definitions: notebook, specs/Canonical.antt; the same as the code writes it: specs/Writing.antt.
 ghost use mathlib.Core.Path.{_≡_};
 ghost use mathlib.Core.List.{[], _∷_};
 ghost use Prim.Native.Nat.{_+_, _≤_, _<_};
 ghost use lib.ListN.{length, drop};
 ghost use lib.Seq.{sets};
 ghost use Rattle.lists.specs.Lists.{part};
-ghost use Rattle.characters.specs.Classes.{Classes};
+ghost use Rattle.scanning.specs.Classes.{Classes};
 ghost use Rattle.characters.specs.Rows.{rows};
-ghost use Rattle.characters.specs.Text.{Stops, Sixteen};
+ghost use Rattle.scanning.specs.Scans.{Stops, Sixteen};
 ghost use Rattle.records.specs.Records.{recordOf};
 ghost use Rattle.order.specs.State.{start};
 ghost use Rattle.lines.specs.Codes.{placeOf, Lent, Commas, Spanned};
 ghost use Rattle.buffers.specs.Buffers.{Room, Wrote};
 ghost use Rattle.notebook.specs.Notebook.{recordsFrom, readFile};
-ghost use Rattle.notebook.specs.Check.{Behind, Closing};
-ghost use Rattle.canonical.specs.Canonical.{recordRow, canonicalOf, canonicalBuffer};
+ghost use Rattle.checking.specs.Walking.{Behind, Closing};
+ghost use Rattle.notebook.specs.Canonical.{recordRow, canonicalOf, canonicalBuffer};
 ghost use Rattle.canonical.specs.Writing.{postalBytes, numberBytes, dayBytes, itemBytes, Spellable, OwnUnless, Items, Sound};
 ghost use Rattle.canonical.specs.Writing.{spot, Stands, Ready, Passed, spotsOf, LineIn, begins, itemAt, tailAt, ItemOf, Stays, Ended};
 ghost use Rattle.canonical.specs.Writing.{reach, Finished, poured, Poured, closing, fileBytes, MadeOf, Holds};
-
-// How many bytes of the output's front the canonical file takes; or a refusal's number and line, and the output as it was.
-pub enum Canonical {
-    Written(u32),
-    Refused(u32, u32),
-}
+use replies::Canonical;
 
 // ---- one item
 
@@ -308,13 +303,13 @@ fn write_records(
     let mut at = from;
     let mut run = Run { from: 0, at: 0 };
     loop {
-        match notebook::read_record(classes, codes, stops, st, s, at) {
-            notebook::Turn::Over => return finish(st, s, at, out, run),
-            notebook::Turn::Refused(n) => {
+        match checking::read_record(classes, codes, stops, st, s, at) {
+            checking::Turn::Over => return finish(st, s, at, out, run),
+            checking::Turn::Refused(n) => {
                 let line = st.line + 1;
                 return Canonical::Refused(n, line);
             }
-            notebook::Turn::On(after, _, _, end, commas) => {
+            checking::Turn::On(after, _, _, end, commas) => {
                 let number = after.place;
                 run = put_record(number, stops, commas, s, at, end, out, run);
                 st = after;
@@ -333,16 +328,16 @@ pub fn canonical_into(s: &[u8], out: &mut [u8]) -> Canonical
     if 65536 < len {
         return Canonical::Refused(1, 0);
     }
-    let classes = characters::CLASSES;
+    let classes = scanning::CLASSES;
     let codes = lines::CODES;
     let mut stops = [0usize; 16];
     let start = 0;
-    match characters::line_at(&classes, &mut stops, s, start) {
-        characters::Line::End => Canonical::Refused(2, 1),
-        characters::Line::Mark => Canonical::Refused(2, 1),
-        characters::Line::Broken => Canonical::Refused(2, 1),
-        characters::Line::Whole(end, _, _) => {
-            let direction = notebook::direction(&s[start..end]);
+    match scanning::line_at(&classes, &mut stops, s, start) {
+        scanning::Line::End => Canonical::Refused(2, 1),
+        scanning::Line::Mark => Canonical::Refused(2, 1),
+        scanning::Line::Broken => Canonical::Refused(2, 1),
+        scanning::Line::Whole(end, _, _) => {
+            let direction = checking::direction(&s[start..end]);
             if direction == 0 {
                 return Canonical::Refused(3, 1);
             }

@@ -1,4 +1,3 @@
-pub mod PairLaws
-pub mod TextLaws
+pub mod AllExamples
+pub mod CharLaws
 pub mod RowLaws
-pub mod RunLaws

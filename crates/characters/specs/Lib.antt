@@ -1,4 +1,4 @@
 pub mod Cells
 pub mod Text
-pub mod Classes
 pub mod Rows
+pub mod Examples

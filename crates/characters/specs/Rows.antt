@@ -7,9 +7,7 @@ use mathlib.Core.List.{List, [], _∷_, _++_}
 use lib.Dec.{eqb}
 use lib.ListN.{length, drop}
 use Rattle.lists.specs.Lists.{same, part}
-use Rattle.characters.specs.Text.{allChars, clean, text, commaCount, Stops, Sixteen}
-use Rattle.characters.specs.declared.Line.{Line}
-use Rattle.characters.specs.declared.Line.the-variants.{Whole, Mark, End, Broken}
+use Rattle.characters.specs.Text.{allChars, clean, text}
 
 -- a byte more at the front of the first row
 abbrev pub consRow : ℕ → List (List ℕ) → List (List ℕ)
@@ -37,7 +35,7 @@ isLine r = same r (text r ++ lineEnd)
 abbrev pub endMark : List ℕ
 endMark = 0x1a ∷ []
 
--- ---- what stands where a row begins, as the code answers it
+-- ---- what stands where a row begins
 
 -- a line from at to e, and the rows behind its end
 pub record WholeLine (s : List ℕ) (at e : ℕ) (good : Bool) : Type 0 where
@@ -47,23 +45,7 @@ pub record WholeLine (s : List ℕ) (at e : ℕ) (good : Bool) : Type 0 where
   pub clear : clean (part s at e) ≡ true
   pub chars : good ≡ allChars (part s at e)
 
--- the same with its n commas and their places
-pub record ScannedLine (s : List ℕ) (at : ℕ) (stops : List ℕ) (e : ℕ) (good : Bool) (n : ℕ) : Type 0 where
-  pub line : WholeLine s at e good
-  pub commas : n ≡ commaCount (part s at e)
-  pub places : Stops (part s at e) stops
-
 -- the first row is no line, and no 1Ah at the end
 abbrev pub BrokenRow : List (List ℕ) → Type 0
 BrokenRow [] = ⊥
 BrokenRow (r ∷ rs) = (isLine r ≡ false) × (same r endMark ≡ false)
-
-abbrev pub LineMeans : List ℕ → ℕ → List ℕ → Line → Type 0
-LineMeans s at stops (Whole e good n) = ScannedLine s at stops e good n
-LineMeans s at stops Mark = rows (drop at s) ≡ endMark ∷ []
-LineMeans s at stops End = rows (drop at s) ≡ []
-LineMeans s at stops Broken = BrokenRow (rows (drop at s))
-
-pub record LineOf (s : List ℕ) (at : ℕ) (stops : List ℕ) (r : Line) : Type 0 where
-  pub means : LineMeans s at stops r
-  pub size : Sixteen stops

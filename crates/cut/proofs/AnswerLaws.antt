@@ -12,7 +12,7 @@ use Rattle.lists.specs.Lists.{part}
 use Rattle.characters.specs.Rows.{flat}
 use Rattle.buffers.specs.Buffers.{Wrote}
 use Rattle.buffers.proofs.Runs.{sets-all}
-use Rattle.cut.specs.declared.Cutting.the-variants.{Pieces, Refused}
+use Rattle.replies.specs.declared.Cutting.the-variants.{Pieces, Refused}
 use Rattle.cut.specs.declared.Chosen.{Chosen}
 use Rattle.cut.specs.declared.Chosen.the-variants.{Count, NoWidth}
 use Rattle.cut.specs.Loops.{chosen, numberedAs, poured, Ready, plannedAs, cuttingOf, Given, CutBytes}

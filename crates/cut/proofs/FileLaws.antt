@@ -13,16 +13,16 @@ use Rattle.lists.proofs.Tests.{both}
 use Rattle.digits.specs.Digits.{isDigit}
 use Rattle.characters.specs.Rows.{flat}
 use Rattle.notebook.specs.Notebook.{Notebook, readFile}
-use Rattle.canonical.specs.declared.Canonical.{Canonical}
-use Rattle.canonical.specs.declared.Canonical.the-variants.{Written, Refused as NotWritten}
-use Rattle.canonical.specs.Canonical.{headRow, recordRows, canonicalBytes}
+use Rattle.replies.specs.declared.Canonical.{Canonical}
+use Rattle.replies.specs.declared.Canonical.the-variants.{Written, Refused as NotWritten}
+use Rattle.notebook.specs.Canonical.{headRow, recordRows, canonicalBytes}
 use Rattle.canonical.specs.Writing.{fileBytes, MadeMeans, MadeOf}
-use Rattle.canonical.proofs.CanonicalLaws.{canonical-head, canonical-rows, canonical-small, canonical-long}
+use Rattle.notebook.proofs.CanonicalLaws.{canonical-head, canonical-rows, canonical-small, canonical-long}
 use Rattle.packing.specs.Widths.{Plan, whole, split, fails, plan}
-use Rattle.pieces.specs.Marks.{validID, markRow}
-use Rattle.cut.specs.declared.Cutting.{Cutting}
-use Rattle.cut.specs.declared.Cutting.the-variants.{Refused}
-use Rattle.cut.specs.Cut.{pieceBytes, numbered, planned, cutting, listed, found, cutList, held, cutOf, bytesOf, bufferAfter, cutBuffer}
+use Rattle.division.specs.Marks.{validID, markRow}
+use Rattle.replies.specs.declared.Cutting.{Cutting}
+use Rattle.replies.specs.declared.Cutting.the-variants.{Refused}
+use Rattle.division.specs.Cut.{pieceBytes, numbered, planned, cutting, listed, found, cutList, held, cutOf, bytesOf, bufferAfter, cutBuffer}
 use Rattle.cut.specs.Loops.{numberedAs, plannedAs, cuttingOf, Given, CutBytes}
 
 -- ---- the pieces of a notebook are those of its canonical bytes

@@ -12,7 +12,7 @@ use Rattle.characters.specs.Rows.{rows, flat}
 use Rattle.packing.specs.Packing.{total, concat, pack}
 use Rattle.packing.specs.Widths.{Plan, whole, split, fails, digitsOf, over, serves, tries, plan}
 use Rattle.packing.proofs.Widths.{Divides, Planned, plan-good, plan-whole, digits-le, over-counts, over-most, serves-digits}
-use Rattle.pieces.specs.Marks.{markRow}
+use Rattle.division.specs.Marks.{markRow}
 use Rattle.cut.specs.declared.Chosen.the-variants.{Count, NoWidth}
 use Rattle.cut.specs.Loops.{runsAt, pastLast, ends, overheads, chosenBy, chosenFrom, chosen, numberedAs, piecesAs, poured}
 use Rattle.cut.proofs.RowLaws.{part-length, flat-total, rows-total}

@@ -22,7 +22,7 @@ use Rattle.records.specs.Records.{t911}
 use Rattle.buffers.specs.Buffers.{Room, Wrote}
 use Rattle.buffers.proofs.Runs.{then, carry}
 use Rattle.packing.specs.Widths.{over}
-use Rattle.pieces.specs.Marks.{markLine, markRow}
+use Rattle.division.specs.Marks.{markLine, markRow}
 use Rattle.cut.specs.Loops.{OverOf, RunAt, runsAt, pastLast, ends, numberedAs, piecesAs, poured, pieceAs, MarkRoom, PieceRoom, Ready}
 use Rattle.cut.proofs.RowLaws.{part-length}
 use Rattle.cut.proofs.CountLaws.{no-some, runs-last, runs-next, ends-last, ends-next, ends-stuck, ends-from}

@@ -11,9 +11,9 @@ use Rattle.digits.specs.Digits.{spell}
 use Rattle.characters.specs.Rows.{rows, flat}
 use Rattle.packing.specs.Packing.{pack}
 use Rattle.packing.specs.Widths.{Plan, whole, split, fails, digitsOf, over, tries, plan}
-use Rattle.pieces.specs.Marks.{markRow}
-use Rattle.cut.specs.Cut.{listed, held, bytesOf, bufferAfter}
-use Rattle.cut.specs.declared.Cutting.{Cutting}
+use Rattle.division.specs.Marks.{markRow}
+use Rattle.division.specs.Cut.{listed, held, bytesOf, bufferAfter}
+use Rattle.replies.specs.declared.Cutting.{Cutting}
 use Rattle.cut.specs.declared.Chosen.{Chosen}
 use Rattle.cut.specs.declared.Chosen.the-variants.{Count, NoWidth}
 

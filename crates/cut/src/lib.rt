@@ -1,23 +1,18 @@
-// Cutting: the canonical file of a notebook into pieces for a capacity. Definitions: specs/Cut.antt; specs/Loops.antt has the forms that
+// Cutting: the canonical file of a notebook into pieces for a capacity. Definitions: division, specs/Cut.antt; specs/Loops.antt has the forms that
 // the loops follow. The records of a piece are one run of the file's bytes, and the longest run that fits ends behind the last 0Ah within
 // the capacity: `run_end` looks for it from the back, so that a piece costs a row's bytes and not its own. The width of the count is found
 // first, with the count and the total length, so that nothing is written where the answer is a refusal; then the pieces are written.
-// A change of the record 911 moves together: `over` (packing), `markRow` (pieces), `overhead` and `put_mark`.
+// A change of the record 911 moves together: `over` (packing), `markRow` (division), `overhead` and `put_mark`.
 ghost use mathlib.Core.Path.{_≡_};
 ghost use Prim.Native.Nat.{_≤_};
 ghost use lib.ListN.{length};
 ghost use Rattle.buffers.specs.Buffers.{Wrote};
 ghost use Rattle.packing.specs.Widths.{digitsOf, serves};
 ghost use Rattle.canonical.specs.Writing.{Holds};
-ghost use Rattle.pieces.specs.Marks.{markRow};
-ghost use Rattle.cut.specs.Cut.{cutOf, cutBuffer};
+ghost use Rattle.division.specs.Marks.{markRow};
+ghost use Rattle.division.specs.Cut.{cutOf, cutBuffer};
 ghost use Rattle.cut.specs.Loops.{OverOf, RunAt, Small, chosen, MarkRoom, pieceAs, PieceRoom, poured, Ready, Given, CutBytes};
-
-// The count of pieces and their total length; or a refusal's number and line, and the output as it was.
-pub enum Cutting {
-    Pieces(u32, u32),
-    Refused(u32, u32),
-}
+use replies::Cutting;
 
 // The width of the count, the count, and the bytes that the pieces hold besides their records; or no width serves.
 pub enum Chosen {
@@ -211,8 +206,8 @@ fn cut_by(file: &[u8], bytes: &mut [u8], capacity: u64, id: &[u8], out: &mut [u8
     ensures buffer { λ _. ⌜ now (out .exit) ≡ cutBuffer (now (file .entry)) capacity (now (id .entry)) (now (out .entry)) ⌝ }
 {
     match canonical::canonical_into(file, bytes) {
-        canonical::Canonical::Refused(number, line) => Cutting::Refused(number, line),
-        canonical::Canonical::Written(count) => {
+        replies::Canonical::Refused(number, line) => Cutting::Refused(number, line),
+        replies::Canonical::Written(count) => {
             if pieces::valid_id(id) {
                 let start = 0;
                 let end = count as usize;

@@ -1,16 +1,1 @@
-pub mod Computed
-pub mod Machine
-pub mod Steps
-pub mod Prescriptions
-pub mod Groups
-pub mod Open
-pub mod Backwards
-pub mod RowsOf
-pub mod Verdict
-pub mod TreeIndexLaws
-pub mod FaultLaws
-pub mod GoingOn
-pub mod Spelled
-pub mod TooLate
-pub mod PrefixLaws
-pub mod Examples
+pub mod AllExamples

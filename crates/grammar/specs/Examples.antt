@@ -1,5 +1,6 @@
 -- Worked examples of the grammar, written from document 01: notebooks that meet the conditions, notebooks that break one, and records that no
--- notebook has. proofs/Examples.antt shows that they come out so.
+-- notebook has. proofs/AllExamples.antt shows that they come out so, of the wrong records
+-- proofs/Examples.antt of verdict.
 use Prim.Native.Nat.{ℕ}
 use mathlib.Core.Bool.{Bool, true, false}
 use mathlib.Core.Option.{Option, none, some}
@@ -127,6 +128,44 @@ twoDoctorsRecords =
     ∷ rec 201 (of 2)
     ∷ rec 301 (used 2)
     ∷ []
+
+-- a notebook with every record: two in each place that takes any number of them, so that an order shows
+abbrev pub twice : ℕ → List Details
+twice v = of v ∷ of v ∷ []
+
+abbrev pub wholeRp : Prescription
+wholeRp = record {
+  drug = record { r201 = of 1; r281s = twice 1; r291s = twice 1 };
+  drugs = rp 1 .drug ∷ [];
+  usage = some (record { r301 = used 1; r311s = twice 1 });
+  r391s = twice 1;
+}
+
+abbrev pub everyRecord : Tree
+everyRecord = record {
+  r1 = some plain;
+  r2s = twice 0;
+  r3s = twice 0;
+  r4s = twice 0;
+  groups = record {
+    r5 = on 20160411;
+    r11 = some (with 4);
+    r15 = some plain;
+    r51 = some plain;
+    prescriptions = withDoctors plain wholeRp [];
+    r401s = twice 0;
+    r411s = twice 0;
+    r501s = twice 0;
+    r601s = twice 0;
+  } ∷ [];
+  r701s = twice 0;
+}
+
+-- "At most one 1; then any 2s, then 3s, then 4s; then groups; then any 701s": in document 01's order
+abbrev pub theirNumbers : List ℕ
+theirNumbers =
+    1 ∷ 2 ∷ 2 ∷ 3 ∷ 3 ∷ 4 ∷ 4 ∷ 5 ∷ 11 ∷ 15 ∷ 51 ∷ 55 ∷ 201 ∷ 281 ∷ 281 ∷ 291 ∷ 291 ∷ 201 ∷ 301 ∷ 311 ∷ 311 ∷ 391 ∷ 391 ∷ 401 ∷ 401 ∷ 411 ∷ 411
+    ∷ 501 ∷ 501 ∷ 601 ∷ 601 ∷ 701 ∷ 701 ∷ []
 
 -- Records of direction 2 that no notebook has. The first two are the mistake that document 01 excludes, "letting a doctor reach into the next
 -- group": a 55 that a 5 follows, and a 55 in a group whose first RP has none, whatever doctor the group before it had.

@@ -1,6 +1,3 @@
 pub mod Grammar
+pub mod TreeRows
 pub mod Examples
-pub mod Acceptance
-pub mod TreeIndex
-pub mod Faults
-pub mod Prefixes

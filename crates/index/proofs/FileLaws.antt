@@ -9,22 +9,25 @@ use lib.Dec.{leb, eqb}
 use lib.ListN.{length, take, drop, length-append}
 use lib.Seq.{length-take-le}
 use Rattle.lists.specs.Lists.{same, part, Res, ok, refused}
-use Rattle.characters.specs.declared.Line.{Line}
-use Rattle.characters.specs.declared.Line.the-variants.{Whole, Mark, End, Broken}
-use Rattle.characters.specs.Rows.{rows, isLine, lineEnd, WholeLine, BrokenRow, LineMeans, LineOf}
+use Rattle.scanning.specs.declared.Line.{Line}
+use Rattle.scanning.specs.declared.Line.the-variants.{Whole, Mark, End, Broken}
+use Rattle.characters.specs.Rows.{rows, isLine, lineEnd, WholeLine, BrokenRow}
+use Rattle.scanning.specs.Scans.{LineMeans, LineOf}
 use Rattle.characters.proofs.RowLaws.{line-is, line-text}
 use Rattle.records.specs.Records.{header}
 use Rattle.order.specs.State.{start}
 use Rattle.buffers.specs.Buffers.{Room, Wrote}
 use Rattle.buffers.proofs.Runs.{sets-all}
-use Rattle.notebook.specs.declared.Checked.{Checked}
-use Rattle.notebook.specs.declared.Checked.the-variants.{Accepted, Refused as CheckRefused}
+use Rattle.replies.specs.declared.Checked.{Checked}
+use Rattle.replies.specs.declared.Checked.the-variants.{Accepted, Refused as CheckRefused}
 use Rattle.notebook.specs.Notebook.{Notebook, readFile}
-use Rattle.notebook.specs.Check.{checked, checkOf, directionOf}
-use Rattle.index.specs.declared.Indexed.{Indexed}
-use Rattle.index.specs.declared.Indexed.the-variants.{Written, Refused}
-use Rattle.index.specs.Index.{Entry, entriesFrom, entriesBehind, entriesOf, numbers, numbersOf, indexed, indexOf, bufferAfter, indexBuffer, Fillable}
-use Rattle.index.proofs.Walk.{Accepted as AcceptedFile, accepted, walk-length, numbers-length}
+use Rattle.notebook.specs.Check.{checked, checkOf}
+use Rattle.checking.specs.Walking.{directionOf}
+use Rattle.replies.specs.declared.Indexed.{Indexed}
+use Rattle.replies.specs.declared.Indexed.the-variants.{Written, Refused}
+use Rattle.notebook.specs.Index.{Entry, entriesFrom, entriesBehind, entriesOf, numbers, numbersOf, indexed, indexOf, bufferAfter, indexBuffer}
+use Rattle.index.specs.Filling.{Fillable}
+use Rattle.notebook.proofs.Walk.{Accepted as AcceptedFile, accepted, walk-length, numbers-length}
 
 -- ---- line 1
 

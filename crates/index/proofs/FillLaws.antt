@@ -13,8 +13,9 @@ use lib.Dec.{eqb}
 use lib.ListN.{length, take, drop, length-append, length-drop}
 use lib.Seq.{sets, length-take-le}
 use Rattle.lists.specs.Lists.{part}
-use Rattle.characters.specs.declared.Line.the-variants.{Whole, Mark, End, Broken}
-use Rattle.characters.specs.Rows.{rows, isLine, lineEnd, WholeLine, BrokenRow, LineOf}
+use Rattle.scanning.specs.declared.Line.the-variants.{Whole, Mark, End, Broken}
+use Rattle.characters.specs.Rows.{rows, isLine, lineEnd, WholeLine, BrokenRow}
+use Rattle.scanning.specs.Scans.{LineOf}
 use Rattle.characters.proofs.RowLaws.{line-is, line-text}
 use Rattle.records.specs.Records.{faultWhere, lineFault, recordOf}
 use Rattle.order.specs.declared.State.{State}
@@ -23,18 +24,19 @@ use Rattle.order.specs.declared.Moved.{Moved}
 use Rattle.order.specs.declared.Moved.the-variants.{Refused, On}
 use Rattle.order.specs.State.{start, advance, stepOf, groupOf, drugOf, Room as Countable}
 use Rattle.order.proofs.Laws.{taken, next-line, room, room-start, line-start}
-use Rattle.lines.specs.Facts.{factsOf}
+use Rattle.notebook.specs.Facts.{factsOf}
 use Rattle.buffers.specs.Buffers.{Room, Wrote, six}
 use Rattle.buffers.proofs.Runs.{carry}
 use Rattle.notebook.specs.Notebook.{stepLine}
-use Rattle.notebook.specs.Check.{Behind}
-use Rattle.notebook.proofs.StepLaws.{Placed, placed, place-number}
-use Rattle.notebook.specs.declared.Turn.{Turn}
-use Rattle.notebook.specs.declared.Turn.the-variants.{Over, Refused as TurnRefused, On as TurnOn}
-use Rattle.notebook.specs.Turns.{StepAt, RefusedAt, broken, faulty, TurnOf}
-use Rattle.notebook.proofs.TurnLaws.{turn-facts, turn-over, turn-refused, turn-step, turn-fits}
-use Rattle.notebook.proofs.LineFacts.{whole-line, whole-length}
-use Rattle.index.specs.Index.{Entry, entryOf, entered, entriesFrom, numbers, Spanned}
+use Rattle.checking.specs.Walking.{Behind}
+use Rattle.notebook.proofs.Placing.{Placed, placed, place-number}
+use Rattle.checking.specs.declared.Turn.{Turn}
+use Rattle.checking.specs.declared.Turn.the-variants.{Over, Refused as TurnRefused, On as TurnOn}
+use Rattle.checking.specs.Turns.{StepAt, RefusedAt, broken, faulty, TurnOf}
+use Rattle.checking.proofs.TurnLaws.{turn-facts, turn-over, turn-refused, turn-step, turn-fits}
+use Rattle.checking.proofs.LineFacts.{whole-line, whole-length}
+use Rattle.notebook.specs.Index.{Entry, entryOf, entered, entriesFrom, numbers}
+use Rattle.index.specs.Filling.{Spanned}
 
 -- ---- one entry
 

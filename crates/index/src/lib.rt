@@ -1,23 +1,19 @@
 // The index of a file. The check comes first and gives the count, so that nothing is written where the answer is a refusal; then the
-// lines are walked again and each record's six numbers written. Definitions: specs/Index.antt. A further number of an entry moves
+// lines are walked again and each record's six numbers written. Definitions: notebook, specs/Index.antt. A further number of an entry moves
 // together: `Entry`, `entryOf`, `numbers`, and the writer of crate buffers.
 ghost use mathlib.Core.Path.{_≡_};
 ghost use lib.ListN.{length, drop};
 ghost use Prim.Native.Nat.{_-_};
 ghost use Rattle.characters.specs.Rows.{rows};
 ghost use Rattle.order.specs.State.{start, groupOf, drugOf};
-ghost use Rattle.characters.specs.Classes.{Classes};
-ghost use Rattle.characters.specs.Text.{Sixteen};
+ghost use Rattle.scanning.specs.Classes.{Classes};
+ghost use Rattle.scanning.specs.Scans.{Sixteen};
 ghost use Rattle.lines.specs.Codes.{Lent};
 ghost use Rattle.buffers.specs.Buffers.{Room, Wrote, six};
-ghost use Rattle.notebook.specs.Check.{Behind};
-ghost use Rattle.index.specs.Index.{entriesFrom, numbers, numbersOf, indexOf, indexBuffer, Spanned, Fillable};
-
-// How many records have their six numbers in the buffer's front; or a refusal's number and line, and the buffer as it was.
-pub enum Indexed {
-    Written(u32),
-    Refused(u32, u32),
-}
+ghost use Rattle.checking.specs.Walking.{Behind};
+ghost use Rattle.notebook.specs.Index.{entriesFrom, numbers, numbersOf, indexOf, indexBuffer};
+ghost use Rattle.index.specs.Filling.{Spanned, Fillable};
+use replies::Indexed;
 
 // The entry of a record whose line stands from at to end and moved the reader to the state.
 fn put_entry(
@@ -60,10 +56,10 @@ fn fill_records(
     let mut at = from;
     let mut next = 0;
     loop {
-        match notebook::read_record(classes, codes, stops, st, s, at) {
-            notebook::Turn::Over => return next,
-            notebook::Turn::Refused(_) => return next,
-            notebook::Turn::On(after, _, doctor, end, _) => {
+        match checking::read_record(classes, codes, stops, st, s, at) {
+            checking::Turn::Over => return next,
+            checking::Turn::Refused(_) => return next,
+            checking::Turn::On(after, _, doctor, end, _) => {
                 next = put_entry(out, next, at, end, after, doctor);
                 st = after;
                 at = end + 2;
@@ -77,16 +73,16 @@ fn fill(s: &[u8], out: &mut [u32]) -> usize
     requires { ⌜ Fillable (now s) (now out) ⌝ }
     ensures { λ r. ⌜ Wrote (now (out .entry)) (now (out .exit)) 0 r (numbersOf (now (s .entry))) ⌝ }
 {
-    let classes = characters::CLASSES;
+    let classes = scanning::CLASSES;
     let codes = lines::CODES;
     let mut stops = [0usize; 16];
     let start = 0;
-    match characters::line_at(&classes, &mut stops, s, start) {
-        characters::Line::End => 0,
-        characters::Line::Mark => 0,
-        characters::Line::Broken => 0,
-        characters::Line::Whole(end, _, _) => {
-            let direction = notebook::direction(&s[start..end]);
+    match scanning::line_at(&classes, &mut stops, s, start) {
+        scanning::Line::End => 0,
+        scanning::Line::Mark => 0,
+        scanning::Line::Broken => 0,
+        scanning::Line::Whole(end, _, _) => {
+            let direction = checking::direction(&s[start..end]);
             let from = end + 2;
             fill_records(&classes, &codes, &mut stops, direction == 1, s, from, out)
         }
@@ -98,9 +94,9 @@ pub fn index(s: &[u8], out: &mut [u32]) -> Indexed
     ensures answer { λ r. ⌜ r ≡ indexOf (now (s .entry)) (length (now (out .entry))) ⌝ }
     ensures buffer { λ _. ⌜ now (out .exit) ≡ indexBuffer (now (s .entry)) (now (out .entry)) ⌝ }
 {
-    match notebook::check(s) {
-        notebook::Checked::Refused(number, line) => Indexed::Refused(number, line),
-        notebook::Checked::Accepted(records, _, _) => {
+    match checking::check(s) {
+        replies::Checked::Refused(number, line) => Indexed::Refused(number, line),
+        replies::Checked::Accepted(records, _, _) => {
             let needed = (records as usize) * 6;
             if out.len() < needed {
                 return Indexed::Refused(20, 0);

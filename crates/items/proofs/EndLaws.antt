@@ -13,8 +13,8 @@ use Rattle.lists.proofs.Parts.{part-length, part-none, part-more, part-at}
 use Rattle.lists.proofs.Tests.{both, either, or-first, within-in, all-append, zero-unless}
 use Rattle.digits.specs.Digits.{isDigit}
 use Rattle.characters.specs.Cells.{isOne}
-use Rattle.characters.specs.Text.{RunOf}
-use Rattle.characters.proofs.RunLaws.{run-none, run-byte}
+use Rattle.scanning.specs.Scans.{RunOf}
+use Rattle.scanning.proofs.RunLaws.{run-none, run-byte}
 use Rattle.records.specs.Table.{required}
 use Rattle.records.specs.Items.{isCode, edge, fault}
 use Rattle.records.specs.Records.{itemFault}

@@ -13,8 +13,8 @@ use Rattle.lists.proofs.Parts.{part-length, part-none, part-more}
 use Rattle.digits.specs.Digits.{isDigit, value, number}
 use Rattle.digits.specs.Short.{shortValue}
 use Rattle.digits.proofs.Numbers.{digit-is}
-use Rattle.characters.specs.Text.{RunOf}
-use Rattle.characters.proofs.RunLaws.{run-none}
+use Rattle.scanning.specs.Scans.{RunOf}
+use Rattle.scanning.proofs.RunLaws.{run-none}
 use Rattle.items.specs.declared.Spelled.{Spelled}
 use Rattle.items.specs.Ends.{EndOf, CodeRun, SpelledAt}
 use Rattle.items.proofs.DispatchLaws.{rp-fault, kind-r}

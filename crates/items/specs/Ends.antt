@@ -5,7 +5,7 @@ use mathlib.Core.Bool.{Bool, true}
 use mathlib.Core.List.{List, [], _∷_}
 use lib.ListN.{length, getD}
 use Rattle.lists.specs.Lists.{all, part}
-use Rattle.characters.specs.Text.{RunOf}
+use Rattle.scanning.specs.Scans.{RunOf}
 use Rattle.digits.specs.Short.{shortValue}
 use Rattle.records.specs.Items.{isCode, fault}
 use Rattle.records.specs.Records.{itemFault}

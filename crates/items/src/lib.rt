@@ -14,7 +14,7 @@ ghost use Rattle.calendar.specs.Era.{readDay};
 ghost use Rattle.records.specs.Table.{required as requiredOf};
 ghost use Rattle.records.specs.Items.{isCode, allPairs, endsWide, oneWidth as oneWidthOf, edge as edgeOf, seven as sevenOf, unhyphened, postal as postalOf, prefecture as prefectureOf, whole as wholeOf, places as placesOf, fraction as fractionOf, decimal as decimalOf, sized as sizedOf, fault as faultOf, numberFault, dayFault};
 ghost use Rattle.records.specs.Records.{itemFault};
-ghost use Rattle.characters.specs.Classes.{Classes};
+ghost use Rattle.scanning.specs.Classes.{Classes};
 ghost use Rattle.items.specs.Codes.{setOf, kindOf, needOf, itemOf};
 ghost use Rattle.items.specs.Ends.{EndOf, SpelledAt, CodeRun, DigitAt, DigitFits};
 
@@ -51,7 +51,7 @@ fn all_one(s: &[u8]) -> bool
     let mut i = 0;
     while i < s.len() {
         let b = s[i];
-        if characters::is_one(b) {
+        if scanning::is_one(b) {
             i += 1;
         } else {
             return false;
@@ -71,7 +71,7 @@ fn all_pairs(s: &[u8]) -> bool
         }
         let a = s[i];
         let b = s[next];
-        if characters::is_pair(a, b) {
+        if scanning::is_pair(a, b) {
             i += 2;
         } else {
             return false;
@@ -105,7 +105,7 @@ fn ends_wide(s: &[u8]) -> bool
         }
         let a = s[i];
         let b = s[next];
-        if characters::is_one(a) {
+        if scanning::is_one(a) {
             i += 1;
         } else {
             let after = i + 2;
@@ -347,7 +347,7 @@ fn text_item(classes: &[u16; 512], c: usize, provider: bool, s: &[u8], from: usi
     requires { ⌜ c / 4 % 16 ≡ 0 ⌝ }
     ensures { λ r. ⌜ EndOf (provider) c (now (s .entry)) from r ⌝ }
 {
-    let end = characters::run_end(classes, s, from);
+    let end = scanning::run_end(classes, s, from);
     if end == from {
         return blank_end(c, provider, from);
     }
@@ -381,7 +381,7 @@ fn other_item(classes: &[u16; 512], c: usize, provider: bool, s: &[u8], from: us
     requires { ⌜ from ≤ length (now s) ⌝ }
     ensures { λ r. ⌜ EndOf (provider) c (now (s .entry)) from r ⌝ }
 {
-    let end = characters::run_end(classes, s, from);
+    let end = scanning::run_end(classes, s, from);
     let f = item_fault(c, provider, &s[from..end]);
     if f == 0 { end } else { 0 }
 }

@@ -17,19 +17,19 @@ use Rattle.lists.proofs.Cuts.{take-upTo}
 use Rattle.characters.specs.Text.{isStop, text}
 use Rattle.characters.specs.Rows.{rows, flat, lineEnd, isLine, endMark}
 use Rattle.records.specs.Records.{isMark}
-use Rattle.canonical.specs.Canonical.{headRow}
+use Rattle.notebook.specs.Canonical.{headRow}
 use Rattle.lists.proofs.Parts.{part-length, part-none, part-join, part-part}
 use Rattle.pieces.specs.declared.Row.{Row}
 use Rattle.pieces.specs.declared.Row.the-variants.{Head, EndHead, Body, End, Broken}
 use Rattle.pieces.specs.declared.Numbers.{Numbers}
 use Rattle.pieces.specs.declared.Numbers.the-variants.{Read, Unread}
-use Rattle.pieces.specs.Marks.{Mark, readMark}
-use Rattle.pieces.specs.Pieces.{Kind, head, endHead, body, end, broken, kindOf, bodyStep, bodyOf, opened, piecesIn}
+use Rattle.division.specs.Marks.{Mark, readMark}
+use Rattle.division.specs.Pieces.{Kind, head, endHead, body, end, broken, kindOf, bodyStep, bodyOf, opened, piecesIn}
 use Rattle.pieces.specs.Answers.{RowAt, asKind, KindIs, asMark, Most, Reaches, MarkIs}
 use Rattle.join.specs.declared.Lines.{Lines}
 use Rattle.join.specs.declared.Lines.the-variants.{Plain, Marked, Wrong}
 use Rattle.join.specs.declared.Member.the-variants.{Of, Foreign}
-use Rattle.join.specs.Join.{unmarked, Part, before, lastMark, partOf, with, agree}
+use Rattle.division.specs.Join.{unmarked, Part, before, lastMark, partOf, with, agree}
 use Rattle.join.specs.Spans.{isWhole, unbroken, isBody, goesOn, LineAt, partBy, identAt, MarkedLines, LastMeans, LastIs, LinesMean, LinesAre, agreed, Within, MemberIs}
 use Rattle.join.proofs.WalkLaws.{row-bounds, goes-over, goes-head, goes-end-head, goes-end, goes-broken, unbroken-step}
 

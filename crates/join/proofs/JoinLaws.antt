@@ -14,14 +14,14 @@ use lib.ListN.{length, take, drop, replicate, length-replicate, getD-replicate, 
 use lib.Seq.{length-take-le}
 use Rattle.lists.specs.Lists.{same, part, Res, ok, refused}
 use Rattle.characters.specs.Rows.{rows}
-use Rattle.canonical.specs.Canonical.{headRow}
+use Rattle.notebook.specs.Canonical.{headRow}
 use Rattle.buffers.specs.Buffers.{Wrote}
 use Rattle.buffers.proofs.Runs.{sets-all, then, front}
-use Rattle.notebook.specs.declared.Checked.{Checked}
-use Rattle.notebook.specs.declared.Checked.the-variants.{Accepted, Refused as NotAccepted}
+use Rattle.replies.specs.declared.Checked.{Checked}
+use Rattle.replies.specs.declared.Checked.the-variants.{Accepted, Refused as NotAccepted}
 use Rattle.notebook.specs.Notebook.{Notebook, readFile}
 use Rattle.notebook.specs.Check.{checked, checkOf}
-use Rattle.pieces.specs.Pieces.{brokenLine, Piece, bodyOf, piecesIn, startsWell, splitRows, split, fileOf}
+use Rattle.division.specs.Pieces.{brokenLine, Piece, bodyOf, piecesIn, startsWell, splitRows, split, fileOf}
 use Rattle.pieces.proofs.RowLaws.{head-true, head-false}
 use Rattle.join.specs.declared.Next.{Next}
 use Rattle.join.specs.declared.Next.the-variants.{Opens, Over, Stray}
@@ -31,9 +31,9 @@ use Rattle.join.specs.declared.Filled.{Filled}
 use Rattle.join.specs.declared.Filled.the-variants.{Full, Large}
 use Rattle.join.specs.declared.Made.{Made}
 use Rattle.join.specs.declared.Made.the-variants.{Bytes, No}
-use Rattle.join.specs.declared.Joining.{Joining}
-use Rattle.join.specs.declared.Joining.the-variants.{Joined, Refused}
-use Rattle.join.specs.Join.{unmarked, Part, partOf, with, partsOf, agree, gather, whole, joinParts, joinPieces, orSet, joinSplit, joinedFile, checkedFile, thenChecked, joinFile, held, joinOf, bytesOf, bufferAfter, joinBuffer}
+use Rattle.replies.specs.declared.Joining.{Joining}
+use Rattle.replies.specs.declared.Joining.the-variants.{Joined, Refused}
+use Rattle.division.specs.Join.{unmarked, Part, partOf, with, partsOf, agree, gather, whole, joinParts, joinPieces, orSet, joinSplit, joinedFile, checkedFile, thenChecked, joinFile, held, joinOf, bytesOf, bufferAfter, joinBuffer}
 use Rattle.join.specs.Spans.{unbroken, sound, Opened, Ended, NextMeans, NextIs, OpenedFirst, FirstMeans, FirstIs, PlainLines, partBy, identAt, MarkedLines, WrongLines, LinesMean, LinesAre, like, isSet, Blank, Collected, CollectMeans, CollectIs, taken, spans, FillMeans, FillIs, MadeMeans, MadeIs, SoundMeans, SoundIs, Given, GivenSet, First, Input}
 use Rattle.lists.proofs.Parts.{part-length}
 use Rattle.join.proofs.SoundLaws.{sound-line, line-sound}

@@ -15,13 +15,13 @@ use Rattle.lists.proofs.Tests.{same-refl}
 use Rattle.characters.specs.Rows.{rows, flat}
 use Rattle.buffers.specs.Buffers.{Room, Wrote}
 use Rattle.buffers.proofs.Runs.{carry}
-use Rattle.pieces.specs.Pieces.{Piece, bodyOf, piecesIn}
+use Rattle.division.specs.Pieces.{Piece, bodyOf, piecesIn}
 use Rattle.join.specs.declared.Next.{Next}
 use Rattle.join.specs.declared.Next.the-variants.{Opens, Over, Stray}
 use Rattle.join.specs.declared.Member.{Member}
 use Rattle.join.specs.declared.Member.the-variants.{Of, Foreign}
 use Rattle.join.specs.declared.Filled.the-variants.{Full, Large}
-use Rattle.join.specs.Join.{Part, partOf, with, partsOf, agree, find, behind, gather}
+use Rattle.division.specs.Join.{Part, partOf, with, partsOf, agree, find, behind, gather}
 use Rattle.join.specs.Spans.{unbroken, goesOn, partBy, Opened, Ended, NextMeans, NextIs, like, agreed, isSet, Within, MemberAt, MemberMeans, MemberIs, Sizes, Bounds, Slot, Slots, Blank, Stored, CollectMeans, CollectIs, taken, spans, FillIs, FillRoom}
 use Rattle.lists.proofs.Parts.{part-length}
 use Rattle.join.proofs.BodyLaws.{flat-append}

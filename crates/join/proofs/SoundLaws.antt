@@ -4,7 +4,7 @@ use mathlib.Core.Path.{_≡_, refl}
 use mathlib.Core.Bool.{true, false, _&&_, false≢true}
 use mathlib.Core.List.{List, [], _∷_}
 use native.Mathlib.Omega.{arith}
-use Rattle.pieces.specs.Pieces.{Kind, head, endHead, body, end, broken, kindOf, judged, brokenFrom, brokenLine, opens, startsWell}
+use Rattle.division.specs.Pieces.{Kind, head, endHead, body, end, broken, kindOf, judged, brokenFrom, brokenLine, opens, startsWell}
 use Rattle.join.specs.Spans.{isWhole, unbroken, isHead, sound}
 
 from-unbroken : (rs : List (List ℕ)) (n : ℕ) → unbroken rs ≡ true → brokenFrom true n rs ≡ 0

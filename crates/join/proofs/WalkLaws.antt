@@ -14,9 +14,9 @@ use Rattle.characters.specs.Rows.{consRow, rows, flat, endMark}
 use Rattle.characters.proofs.RowLaws.{flat-rows, first-row}
 use Rattle.pieces.specs.declared.Row.{Row}
 use Rattle.pieces.specs.declared.Row.the-variants.{Head, EndHead, Body, End, Broken}
-use Rattle.pieces.specs.Pieces.{Kind, judged, brokenFrom, brokenLine, bodyOf, opened, piecesIn, opens, startsWell}
+use Rattle.division.specs.Pieces.{Kind, judged, brokenFrom, brokenLine, bodyOf, opened, piecesIn, opens, startsWell}
 use Rattle.pieces.specs.Answers.{RowAt, asKind, KindIs}
-use Rattle.pieces.proofs.Chunks.{end-is}
+use Rattle.division.proofs.Chunks.{end-is}
 use Rattle.join.specs.declared.Next.the-variants.{Opens, Over, Stray}
 use Rattle.join.specs.Spans.{isWhole, unbroken, isHead, sound, isBody, goesOn, NextIs, FirstIs}
 

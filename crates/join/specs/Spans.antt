@@ -12,8 +12,8 @@ use Rattle.lists.specs.Lists.{part, Res, ok, refused}
 use Rattle.characters.specs.Text.{text}
 use Rattle.characters.specs.Rows.{rows, flat, isLine}
 use Rattle.buffers.specs.Buffers.{Wrote}
-use Rattle.pieces.specs.Marks.{readMark}
-use Rattle.pieces.specs.Pieces.{Kind, head, endHead, body, end, broken, kindOf, bodyOf, piecesIn}
+use Rattle.division.specs.Marks.{readMark}
+use Rattle.division.specs.Pieces.{Kind, head, endHead, body, end, broken, kindOf, bodyOf, piecesIn}
 use Rattle.pieces.specs.Answers.{RowAt}
 use Rattle.join.specs.declared.Next.{Next}
 use Rattle.join.specs.declared.Next.the-variants.{Opens, Over, Stray}
@@ -25,7 +25,7 @@ use Rattle.join.specs.declared.Filled.{Filled}
 use Rattle.join.specs.declared.Filled.the-variants.{Full, Large}
 use Rattle.join.specs.declared.Made.{Made}
 use Rattle.join.specs.declared.Made.the-variants.{Bytes, No}
-use Rattle.join.specs.Join.{unmarked, Part, lastMark, partOf, with, partsOf, agree, find, thenChecked}
+use Rattle.division.specs.Join.{unmarked, Part, lastMark, partOf, with, partsOf, agree, find, thenChecked}
 
 -- ---- rows that break no rule of line ends, so that the pieces are read before it is known where one does
 

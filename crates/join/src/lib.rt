@@ -1,4 +1,4 @@
-// Joining: pieces in any order to one file, which is then checked. The call's definition: specs/Join.antt. Inside, a piece is carried by
+// Joining: pieces in any order to one file, which is then checked. The call's definition: division, specs/Join.antt. Inside, a piece is carried by
 // positions (specs/Spans.antt): its rows are the bytes from behind its line 1 to its record 911, and the tables `starts` and `ends`
 // have them by place, so that each piece is looked at once. Only where the pieces cannot be joined is the input read again for a broken
 // line, whose number 2 goes before 19.
@@ -8,17 +8,12 @@ ghost use Prim.Native.Nat.{_≤_, _<_};
 ghost use lib.ListN.{length, drop};
 ghost use Rattle.lists.specs.Lists.{part, ok};
 ghost use Rattle.characters.specs.Rows.{rows};
-ghost use Rattle.canonical.specs.Canonical.{headRow};
+ghost use Rattle.notebook.specs.Canonical.{headRow};
 ghost use Rattle.buffers.specs.Buffers.{Wrote};
-ghost use Rattle.pieces.specs.Pieces.{brokenLine, startsWell, piecesIn};
-ghost use Rattle.join.specs.Join.{partsOf, joinParts, joinPieces, orSet, joinedFile, joinOf, joinBuffer};
+ghost use Rattle.division.specs.Pieces.{brokenLine, startsWell, piecesIn};
+ghost use Rattle.division.specs.Join.{partsOf, joinParts, joinPieces, orSet, joinedFile, joinOf, joinBuffer};
 ghost use Rattle.join.specs.Spans.{NextIs, FirstIs, goesOn, LineAt, LastIs, LinesAre, Within, MemberIs, Sizes, Blank, Stored, CollectIs, taken, spans, FillIs, FillRoom, MadeIs, SoundIs, Given, GivenSet, First, Input};
-
-// How many bytes the joined file has; or a refusal's number and line, and the output as it was.
-pub enum Joining {
-    Joined(u32),
-    Refused(u32, u32),
-}
+use replies::Joining;
 
 // The line of the first row that breaks the rule of line ends, 0 for none. A 1Ah is in place after a piece only.
 fn broken_line(s: &[u8]) -> u32
@@ -448,9 +443,9 @@ pub fn join(pieces: &[u8], out: &mut [u8]) -> Joining
         Made::No(n, line) => Joining::Refused(n, line),
         Made::Bytes(t) => {
             let from = 0;
-            match notebook::check(&buf[from..t]) {
-                notebook::Checked::Refused(n, line) => Joining::Refused(n, line),
-                notebook::Checked::Accepted(_, _, _) => {
+            match checking::check(&buf[from..t]) {
+                replies::Checked::Refused(n, line) => Joining::Refused(n, line),
+                replies::Checked::Accepted(_, _, _) => {
                     if out.len() < t {
                         return Joining::Refused(20, 0);
                     }

@@ -22,7 +22,7 @@ use Rattle.records.specs.Split.{itemsOf}
 use Rattle.lines.specs.declared.Span.{Span}
 use Rattle.lines.specs.declared.Usage.{Usage}
 use Rattle.lines.specs.declared.Details.{Details}
-use Rattle.lines.specs.Facts.{dayOf}
+use Rattle.notebook.specs.Facts.{dayOf}
 use Rattle.lines.specs.Codes.{SpanAt, codeRaw, formRaw, pairsRaw, orZero, rpRaw, dayRaw, rpRecords, factsRaw, detailsRaw, bareDetails, otherDetails, usageRaw}
 
 -- ---- values

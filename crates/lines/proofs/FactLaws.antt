@@ -20,7 +20,7 @@ use Rattle.records.specs.Table.{Kind, N, U, X, A, F, C, P, R, W, Q, D, among, I
 use Rattle.records.specs.Items.{Value, text, num, day, value, numberValue, dayValue}
 use Rattle.records.specs.Records.{Record, itemValue, itemsValue, nth, isEmpty, codePair, formPair, pairs}
 use Rattle.items.specs.Codes.{kindOf, itemOf}
-use Rattle.lines.specs.Facts.{numOf, dayOf, spelled, factsOf}
+use Rattle.notebook.specs.Facts.{numOf, dayOf, spelled, factsOf}
 use Rattle.lines.specs.Codes.{codes, sliceOf, placeOf, placeIn, quantity, codeRaw, formRaw, pairsRaw, orZero, rpRaw, dayRaw, rpRecords, factsRaw}
 use Rattle.lines.proofs.TableLaws.{rowBy, allRows, listed-row}
 

@@ -4,10 +4,10 @@ use mathlib.Core.Path.{_≡_, refl, subst}
 use mathlib.Core.Bool.{Bool, true}
 use mathlib.Core.List.{List}
 use Rattle.lists.specs.Lists.{part}
-use Rattle.characters.specs.declared.Line.{Line}
-use Rattle.characters.specs.declared.Line.the-variants.{Whole as WholeLine, Mark as MarkLine, End as EndLine, Broken as BrokenLine}
-use Rattle.characters.specs.Text.{Sixteen}
-use Rattle.characters.specs.Rows.{LineOf}
+use Rattle.scanning.specs.declared.Line.{Line}
+use Rattle.scanning.specs.declared.Line.the-variants.{Whole as WholeLine, Mark as MarkLine, End as EndLine, Broken as BrokenLine}
+use Rattle.scanning.specs.Scans.{Sixteen}
+use Rattle.scanning.specs.Scans.{LineOf}
 use Rattle.lines.specs.declared.Quick.{Quick}
 use Rattle.lines.specs.declared.Found.{Found}
 use Rattle.lines.specs.declared.Found.the-variants.{Whole, Mark, End, Broken}

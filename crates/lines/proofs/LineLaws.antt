@@ -13,7 +13,8 @@ use Rattle.lists.proofs.Loops.{find-high}
 use Rattle.digits.specs.Digits.{spell}
 use Rattle.digits.specs.Short.{plainNumber}
 use Rattle.digits.proofs.Spelling.{same-spell}
-use Rattle.characters.specs.Text.{commaCount, Stops, Sixteen}
+use Rattle.characters.specs.Text.{commaCount}
+use Rattle.scanning.specs.Scans.{Stops, Sixteen}
 use Rattle.order.specs.declared.Facts.{Facts}
 use Rattle.records.specs.Split.{itemsOf, itemsFrom}
 use Rattle.records.specs.Table.{Row, table}
@@ -22,7 +23,8 @@ use Rattle.lines.specs.declared.Details.{Details}
 use Rattle.lines.specs.declared.LineRead.{LineRead}
 use Rattle.lines.specs.declared.LineRead.the-variants.{Fault, Fine}
 use Rattle.lines.specs.declared.Numbered.{Numbered}
-use Rattle.lines.specs.Facts.{factsOf, lineRead}
+use Rattle.notebook.specs.Facts.{factsOf}
+use Rattle.lines.specs.Found.{lineRead}
 use Rattle.lines.specs.Found.{Sound, Told, NumberedAs}
 use Rattle.lines.specs.Codes.{codes, sliceOf, placeOf, placeIn, Lent, Commas, InCodes, Spanned, pairsRaw, factsRaw, detailsRaw}
 use Rattle.lines.proofs.SplitLaws.{items-all, item-cut, items-count, items-some}

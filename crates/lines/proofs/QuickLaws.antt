@@ -14,13 +14,14 @@ use Rattle.lists.proofs.Tests.{or-zero, both-zero}
 use Rattle.lists.proofs.Cuts.{drop-step}
 use Rattle.lists.proofs.Parts.{part-join, part-at}
 use Rattle.digits.specs.Short.{plainNumber}
-use Rattle.characters.specs.declared.Line.{Line}
-use Rattle.characters.specs.declared.Line.the-variants.{Whole as WholeLine}
-use Rattle.characters.specs.Text.{commaCount, isStop, Sixteen, RunOf, ScanOf}
-use Rattle.characters.specs.Rows.{LineOf}
-use Rattle.characters.proofs.TextLaws.{Scanned, scan-start, scan-comma, scan-stop}
-use Rattle.characters.proofs.RowLaws.{line-whole}
-use Rattle.characters.proofs.RunLaws.{run-scanned}
+use Rattle.scanning.specs.declared.Line.{Line}
+use Rattle.scanning.specs.declared.Line.the-variants.{Whole as WholeLine}
+use Rattle.characters.specs.Text.{commaCount, isStop}
+use Rattle.scanning.specs.Scans.{Sixteen, RunOf, ScanOf}
+use Rattle.scanning.specs.Scans.{LineOf}
+use Rattle.scanning.proofs.TextLaws.{Scanned, scan-start, scan-comma, scan-stop}
+use Rattle.scanning.proofs.LineLaws.{line-whole}
+use Rattle.scanning.proofs.RunLaws.{run-scanned}
 use Rattle.records.specs.Table.{Item}
 use Rattle.records.specs.Split.{isComma, consItem, itemsOf}
 use Rattle.records.specs.Records.{itemFault, itemsFault}

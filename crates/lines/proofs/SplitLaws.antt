@@ -13,8 +13,9 @@ use lib.Seq.{drop-drop}
 use Rattle.lists.specs.Lists.{part, upTo, findFrom}
 use Rattle.lists.proofs.Cuts.{drop-step, drop-end, take-upTo}
 use Rattle.lists.proofs.Loops.{find-low, find-high}
-use Rattle.characters.specs.Text.{commaCount, commasFrom, Stops, Sixteen}
-use Rattle.characters.proofs.TextLaws.{count-places}
+use Rattle.characters.specs.Text.{commaCount, commasFrom}
+use Rattle.scanning.specs.Scans.{Stops, Sixteen}
+use Rattle.scanning.proofs.TextLaws.{count-places}
 use Rattle.records.specs.Split.{isComma, consItem, itemsOf, itemsFrom, itemEnd}
 use Rattle.lines.specs.declared.Span.{Span}
 use Rattle.lines.specs.Codes.{Commas, Spanned, SpanAt}

@@ -9,7 +9,8 @@ use lib.ListN.{length, getD, take, drop}
 use Rattle.lists.specs.Lists.{empty, member, part}
 use Rattle.digits.specs.Digits.{number}
 use Rattle.digits.specs.Short.{plainNumber}
-use Rattle.characters.specs.Text.{commaCount, Stops, Sixteen}
+use Rattle.characters.specs.Text.{commaCount}
+use Rattle.scanning.specs.Scans.{Stops, Sixteen}
 use Rattle.calendar.specs.Era.{readDay}
 use Rattle.order.specs.declared.Facts.{Facts}
 use Rattle.records.specs.Table.{Item, Row, R, fromProvider}
@@ -17,7 +18,7 @@ use Rattle.records.specs.Items.{Value, text, dayValue}
 use Rattle.records.specs.Records.{itemValue, codePair, formPair}
 use Rattle.records.specs.Split.{itemsOf}
 use Rattle.items.specs.Codes.{itemOf}
-use Rattle.lines.specs.Facts.{dayOf}
+use Rattle.notebook.specs.Facts.{dayOf}
 use Rattle.lines.specs.declared.Span.{Span}
 use Rattle.lines.specs.declared.Usage.{Usage}
 use Rattle.lines.specs.declared.Details.{Details}

@@ -1,25 +1,32 @@
--- What the code knows of a line: the number of a record whose items have no fault, and what stands at a position where a row begins.
+-- What the code knows of a line: what it is read to, the number of a record whose items have no fault, and what stands at a position where a
+-- row begins.
 use Prim.Native.Nat.{ℕ, _+_, _%_, _<_}
 use mathlib.Core.Path.{_≡_}
-use mathlib.Core.Bool.{Bool, true}
+use mathlib.Core.Bool.{Bool, true, cond}
 use mathlib.Core.List.{List, []}
+use lib.Dec.{eqb}
 use lib.ListN.{length, getD, drop}
 use Rattle.lists.specs.Lists.{part}
 use Rattle.digits.specs.Short.{plainNumber}
-use Rattle.characters.specs.declared.Line.{Line}
-use Rattle.characters.specs.declared.Line.the-variants.{Whole as WholeLine, Mark as MarkLine, End as EndLine, Broken as BrokenLine}
-use Rattle.characters.specs.Text.{commaCount, Sixteen}
-use Rattle.characters.specs.Rows.{LineOf}
+use Rattle.scanning.specs.declared.Line.{Line}
+use Rattle.scanning.specs.declared.Line.the-variants.{Whole as WholeLine, Mark as MarkLine, End as EndLine, Broken as BrokenLine}
+use Rattle.characters.specs.Text.{commaCount}
+use Rattle.scanning.specs.Scans.{Sixteen}
+use Rattle.scanning.specs.Scans.{LineOf}
 use Rattle.records.specs.Split.{itemsOf}
-use Rattle.records.specs.Records.{itemsFault}
+use Rattle.records.specs.Records.{itemsFault, faultWhere, recordOf}
 use Rattle.lines.specs.declared.LineRead.{LineRead}
-use Rattle.lines.specs.declared.LineRead.the-variants.{Fault}
+use Rattle.lines.specs.declared.LineRead.the-variants.{Fault, Fine}
 use Rattle.lines.specs.declared.Numbered.{Numbered}
 use Rattle.lines.specs.declared.Quick.{Quick}
 use Rattle.lines.specs.declared.Found.{Found}
 use Rattle.lines.specs.declared.Found.the-variants.{Whole, Mark, End, Broken}
-use Rattle.lines.specs.Facts.{lineRead}
+use Rattle.notebook.specs.Facts.{factsOf}
 use Rattle.lines.specs.Codes.{sliceOf, placeOf, InCodes}
+
+-- a line's fault, or its facts; good: it is characters
+unfoldable pub lineRead : Bool → Bool → List ℕ → LineRead
+lineRead good provider l = cond (eqb (faultWhere good provider l) 0) (Fine (factsOf (recordOf l))) (Fault (faultWhere good provider l))
 
 -- a line without a fault in characters, number and items: n is its record's number
 pub record Sound (provider good : Bool) (s : List ℕ) (n : ℕ) : Type 0 where

@@ -1,3 +1,2 @@
-pub mod Facts
 pub mod Codes
 pub mod Found

@@ -1,5 +1,5 @@
 // One record line: its items at positions, its fault, and the facts of a record that the order of records looks at.
-// Definitions: records, specs/Records.antt (the fault); specs/Facts.antt (the facts); specs/Codes.antt (the table as numbers). A
+// Definitions: records, specs/Records.antt (the fault); notebook, specs/Facts.antt (the facts); specs/Codes.antt (the table as numbers). A
 // changed row of the table moves CODES and `place_of` here and `codes` and `places` there; proofs/TableLaws.antt compares both with
 // the table.
 ghost use mathlib.Core.Path.{_≡_};
@@ -8,10 +8,10 @@ ghost use Prim.Native.Nat.{_≤_, _%_};
 ghost use lib.ListN.{length, getD, drop};
 ghost use Rattle.lists.specs.Lists.{same, findFrom};
 ghost use Rattle.records.specs.Split.{itemsOf};
-ghost use Rattle.characters.specs.Text.{Stops, Sixteen, RunOf};
+ghost use Rattle.scanning.specs.Scans.{Stops, Sixteen, RunOf};
 ghost use Rattle.records.specs.Records.{orEmpty, isNum, itemsFault};
-ghost use Rattle.characters.specs.Classes.{Classes};
-ghost use Rattle.lines.specs.Facts.{lineRead};
+ghost use Rattle.scanning.specs.Classes.{Classes};
+ghost use Rattle.lines.specs.Found.{lineRead};
 ghost use Rattle.lines.specs.Found.{Told, NumberedAs, LineEndsIf, QuickItems, QuickOf, FoundOf};
 ghost use Rattle.lines.specs.Codes.{Lent, Commas, InCodes, Spanned, SpanAt, placeOf, sliceOf, quantity, codeRaw, formRaw, rpRaw, dayRaw, detailsRaw, bareDetails, otherDetails, usageRaw};
 
@@ -694,7 +694,7 @@ fn quick_line(
 
 // ---- lines at a position
 
-// What stands at a position where a row begins, as characters::Line tells it; and with a whole line the number of its record, if its items are
+// What stands at a position where a row begins, as scanning::Line tells it; and with a whole line the number of its record, if its items are
 // known to have no fault, else 0.
 pub enum Found {
     Whole(usize, bool, usize, u32),
@@ -724,10 +724,10 @@ pub fn find_line(
     if end != 0 {
         return Found::Whole(end, true, commas, number);
     }
-    match characters::line_at(classes, stops, s, at) {
-        characters::Line::End => Found::End,
-        characters::Line::Mark => Found::Mark,
-        characters::Line::Broken => Found::Broken,
-        characters::Line::Whole(end, good, commas) => Found::Whole(end, good, commas, 0),
+    match scanning::line_at(classes, stops, s, at) {
+        scanning::Line::End => Found::End,
+        scanning::Line::Mark => Found::Mark,
+        scanning::Line::Broken => Found::Broken,
+        scanning::Line::Whole(end, good, commas) => Found::Whole(end, good, commas, 0),
     }
 }

@@ -1,5 +1,7 @@
-pub mod StepLaws
-pub mod LineFacts
-pub mod TurnLaws
-pub mod ReadLaws
-pub mod CheckLaws
+pub mod Placing
+pub mod Accepted
+pub mod CanonicalLaws
+pub mod Walk
+pub mod Lines
+pub mod Lasts
+pub mod IndexLaws

@@ -1,4 +1,7 @@
+pub mod Facts
 pub mod Notebook
 pub mod Check
 pub mod Samples
-pub mod Turns
+pub mod Index
+pub mod Meaning
+pub mod Canonical

@@ -13,7 +13,7 @@ use Rattle.order.specs.declared.State.{State}
 use Rattle.order.specs.declared.Moved.{Moved}
 use Rattle.order.specs.declared.Moved.the-variants.{Refused, On}
 use Rattle.order.specs.State.{start, stepOf, finishOf}
-use Rattle.lines.specs.Facts.{factsOf}
+use Rattle.notebook.specs.Facts.{factsOf}
 
 -- "Two accepted files carry the same notebook if direction, the list of record numbers and every item agree": they are read to equal
 -- notebooks. provider: the direction is 1

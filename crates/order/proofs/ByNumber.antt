@@ -13,9 +13,9 @@ use Rattle.order.specs.declared.Had.{Had}
 use Rattle.order.specs.declared.State.{State}
 use Rattle.order.specs.declared.Facts.{Facts}
 use Rattle.order.specs.declared.Moved.the-variants.{On}
-use Rattle.order.specs.Places.{orOneOf, oneOf, inHead, inFront, inDrugs, inRp, inRest, inGroup, mayFollow}
+use Rattle.rules.specs.Places.{orOneOf, oneOf, inHead, inFront, inDrugs, inRp, inRest, inGroup, mayFollow}
 use Rattle.order.specs.Questions.{beforeOf, askedOf}
-use Rattle.order.specs.Rules.{pairBroken, misplaced, continues, closesRp, lacking, missing, valueWrong, newerGroup, refusal}
+use Rattle.rules.specs.Rules.{pairBroken, misplaced, continues, closesRp, lacking, missing, valueWrong, newerGroup, refusal}
 use Rattle.order.specs.State.{hadAfter, advance, refusalOf, rpOf, doctorOf}
 
 -- ---- places

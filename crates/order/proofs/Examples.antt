@@ -1,8 +1,8 @@
 -- The worked examples of specs/Examples.antt come out as written there. Assumes nothing.
 use mathlib.Core.Path.{_≡_, refl}
 use mathlib.Core.Bool.{true, false}
-use Rattle.order.specs.Places.{inGroup, mayFollow}
-use Rattle.order.specs.Rules.{pairBroken, misplaced, continues, closesRp, lacking, missing, valueWrong, newerGroup, refusal, unfinished}
+use Rattle.rules.specs.Places.{inGroup, mayFollow}
+use Rattle.rules.specs.Rules.{pairBroken, misplaced, continues, closesRp, lacking, missing, valueWrong, newerGroup, refusal, unfinished}
 use Rattle.order.specs.State.{none, start, hadAfter, advance, refusalOf, doctorOf, stepOf, finishOf}
 use Rattle.order.specs.Run.{ended, onward, runOf}
 use Rattle.order.specs.Examples.{holds, cases, doctors, twoGroups, theirDoctors}

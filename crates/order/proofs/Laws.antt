@@ -12,9 +12,10 @@ use borrow.Author.Tests.{eq-eqb, eqb-true}
 use Rattle.order.specs.declared.State.{State}
 use Rattle.order.specs.declared.Facts.{Facts}
 use Rattle.order.specs.declared.Moved.the-variants.{Refused, On}
-use Rattle.order.specs.Places.{inRp, ofOpenRp}
-use Rattle.order.specs.Questions.{Before, Asked, beforeOf, askedOf}
-use Rattle.order.specs.Rules.{pairBroken, misplaced, missing, continues, valueWrong, newerGroup, refusal}
+use Rattle.rules.specs.Places.{inRp, ofOpenRp}
+use Rattle.rules.specs.Questions.{Before, Asked}
+use Rattle.order.specs.Questions.{beforeOf, askedOf}
+use Rattle.rules.specs.Rules.{pairBroken, misplaced, missing, continues, valueWrong, newerGroup, refusal}
 use Rattle.order.specs.State.{start, hadAfter, advance, refusalOf, rpOf, doctorOf, stepOf, Room}
 use Rattle.order.specs.Run.{after}
 

@@ -1,27 +1,11 @@
--- What the rules of order ask. All comparing of values is here, so that the rules (Rules.antt) see a place, a number and Booleans only.
+-- The answers to what the rules of order ask (rules, specs/Questions.antt), from the state and the record. All comparing of values is here.
 use Prim.Native.Nat.{ℕ, _+_}
-use mathlib.Core.Bool.{Bool}
 use mathlib.Core.List.{[], _∷_}
 use lib.Dec.{eqb, ltb}
 use Rattle.order.specs.declared.State.{State}
 use Rattle.order.specs.declared.Facts.{Facts}
-use Rattle.order.specs.Places.{oneOf}
-
--- Asked of the records so far. `provider`: direction 1. `dispensing`: the open group's 11 has fee schedule 4; `treating`: it has 1 or 3
--- (15-106 3.2.9, record 11, third item: 1 medical, 3 dental, 4 dispensing). `had11` to `noDoctor` speak of the open group, `had301` of its
--- open RP.
-pub record Before : Type 0 where
-  pub provider : Bool
-  pub place : ℕ
-  pub noGroup : Bool
-  pub had11 : Bool
-  pub dispensing : Bool
-  pub treating : Bool
-  pub had51 : Bool
-  pub had411 : Bool
-  pub noRp : Bool
-  pub had301 : Bool
-  pub noDoctor : Bool
+use Rattle.rules.specs.Places.{oneOf}
+use Rattle.rules.specs.Questions.{Before, Asked}
 
 abbrev pub beforeOf : State → Before
 beforeOf s = record {
@@ -37,16 +21,6 @@ beforeOf s = record {
   had301 = s .had .had301;
   noDoctor = eqb (s .had .doctor) 0;
 }
-
--- Asked of this record. `same`: its RP value is the open RP's, `next`: it is one more; `newer`: its day is after the group's before;
--- `named`: its usage name isn't empty; `material`: its form is 9 or 10 (3.2.9, record 301: material, other).
-pub record Asked : Type 0 where
-  pub number : ℕ
-  pub same : Bool
-  pub next : Bool
-  pub newer : Bool
-  pub named : Bool
-  pub material : Bool
 
 -- RP values are 1, 2, 3, .., so the open RP's value is the count of RPs so far, and 0 before a group's first
 abbrev pub askedOf : State → Facts → Asked

@@ -9,9 +9,9 @@ use Rattle.order.specs.declared.State.{State}
 use Rattle.order.specs.declared.Facts.{Facts}
 use Rattle.order.specs.declared.Moved.{Moved}
 use Rattle.order.specs.declared.Moved.the-variants.{Refused, On}
-use Rattle.order.specs.Places.{oneOf, inRp, inGroup}
+use Rattle.rules.specs.Places.{oneOf, inRp, inGroup}
 use Rattle.order.specs.Questions.{beforeOf, askedOf}
-use Rattle.order.specs.Rules.{refusal, unfinished}
+use Rattle.rules.specs.Rules.{refusal, unfinished}
 
 -- a group that has had its 5 only
 unfoldable pub none : Had

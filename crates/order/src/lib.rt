@@ -1,7 +1,7 @@
 // The order of records in a notebook file (JAHIS 15-106 3.2.7 and 3.2.8): refusals 12 to 16 of a record, 14 at the end.
 // A record is read elsewhere; here it is six facts, so that files that spell the same values take the same steps.
-// The rules are in specs/: Places (which record follows which), Questions (what is compared), Rules (what is refused),
-// State (what a record changes). A new record number moves together: a row in `mayFollow`, an arm in `refusal` with its
+// The rules are in crate rules: Places (which record follows which), Rules (what is refused). Here are Questions (what is compared) and
+// State (what a record changes). A new record number moves together: a row in `mayFollow` there, an arm in `refusal` with its
 // law in proofs/ByNumber.antt, an arm in `Had::after` where it changes what the group has had, and the part of the
 // pattern that it belongs to (`in_front`, `in_rp`, `in_rest`).
 ghost use mathlib.Core.Path.{_≡_};
@@ -9,9 +9,9 @@ ghost use mathlib.Core.Bool.{false, not, cond, _&&_};
 ghost use mathlib.Core.List.{[], _∷_};
 ghost use lib.Dec.{eqb};
 ghost use Rattle.order.specs.declared.Moved.the-variants.{On};
-ghost use Rattle.order.specs.Places.{oneOf, inHead, inFront, inDrugs, inRp, inRest, inGroup};
+ghost use Rattle.rules.specs.Places.{oneOf, inHead, inFront, inDrugs, inRp, inRest, inGroup};
 ghost use Rattle.order.specs.Questions.{beforeOf};
-ghost use Rattle.order.specs.Rules.{lacking};
+ghost use Rattle.rules.specs.Rules.{lacking};
 ghost use Rattle.order.specs.State.{none, hadAfter, start, advance, rpOf, doctorOf, refusalOf, stepOf, finishOf, groupOf, drugOf, Room};
 
 // All that the rules look at in a record; an empty item is 0, or false. `rp` is the first item of 201 to 391, `day` a

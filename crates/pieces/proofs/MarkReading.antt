@@ -21,7 +21,7 @@ use Rattle.records.specs.Records.{t911, firstOf, isMark}
 use Rattle.lines.proofs.SplitLaws.{items-from, items-all, item-cut}
 use Rattle.pieces.specs.declared.Numbers.{Numbers}
 use Rattle.pieces.specs.declared.Numbers.the-variants.{Read, Unread}
-use Rattle.pieces.specs.Marks.{Mark, validID, marked, markOf, readMark}
+use Rattle.division.specs.Marks.{Mark, validID, marked, markOf, readMark}
 use Rattle.pieces.specs.Answers.{asMark, NumbersIs, Reaches, MarkIs}
 
 -- ---- an ID

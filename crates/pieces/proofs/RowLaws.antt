@@ -14,9 +14,9 @@ use Rattle.lists.proofs.Loops.{find-high}
 use Rattle.characters.specs.Text.{isStop, text}
 use Rattle.characters.specs.Rows.{consRow, rows, lineEnd, isLine, endMark}
 use Rattle.records.specs.Records.{header}
-use Rattle.canonical.specs.Canonical.{headRow}
+use Rattle.notebook.specs.Canonical.{headRow}
 use Rattle.pieces.specs.declared.Row.the-variants.{Head, EndHead, Body, End, Broken}
-use Rattle.pieces.specs.Pieces.{Kind, head, endHead, body, end, broken, kindOf}
+use Rattle.division.specs.Pieces.{Kind, head, endHead, body, end, broken, kindOf}
 use Rattle.pieces.specs.Answers.{RowAt, KindIs}
 
 -- ---- the first row, by where the first 0Ah stands

@@ -15,13 +15,13 @@ use Rattle.lists.proofs.Loops.{same-length}
 use Rattle.characters.specs.Text.{isStop, text, allChars}
 use Rattle.characters.specs.Rows.{rows, flat, lineEnd, isLine, WholeLine}
 use Rattle.characters.proofs.RowLaws.{flat-rows, line-is, whole-at}
-use Rattle.canonical.specs.Canonical.{headRow}
-use Rattle.canonical.proofs.Accepted.{head-length}
+use Rattle.notebook.specs.Canonical.{headRow}
+use Rattle.notebook.proofs.Accepted.{head-length}
 use Rattle.pieces.specs.declared.Row.{Row}
 use Rattle.pieces.specs.declared.Row.the-variants.{Body}
 use Rattle.pieces.specs.Answers.{RowAt, KindIs, RowIs, PlainWhere, Skipped}
 use Rattle.pieces.proofs.RowLaws.{row-laws, head-true, head-false}
-use Rattle.pieces.proofs.Chunks.{body-is}
+use Rattle.division.proofs.Chunks.{body-is}
 
 -- ---- eight bytes
 

@@ -14,8 +14,8 @@ use Rattle.pieces.specs.declared.Row.the-variants.{Head, EndHead, Body, 
 use Rattle.pieces.specs.declared.RowRead.{RowRead}
 use Rattle.pieces.specs.declared.Numbers.{Numbers}
 use Rattle.pieces.specs.declared.Numbers.the-variants.{Read, Unread}
-use Rattle.pieces.specs.Marks.{Mark, validID, markOf, readMark}
-use Rattle.pieces.specs.Pieces.{Kind, head, endHead, body, end, broken, kindOf}
+use Rattle.division.specs.Marks.{Mark, validID, markOf, readMark}
+use Rattle.division.specs.Pieces.{Kind, head, endHead, body, end, broken, kindOf}
 
 -- the row from at to e, and the rows behind it
 pub record RowAt (s : List ℕ) (at e : ℕ) : Type 0 where

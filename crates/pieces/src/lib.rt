@@ -1,13 +1,13 @@
 // The pieces of a cut notebook: the record 911, and the rows of bytes that are pieces. A row is cut behind each 0Ah, so that a 1Ah
-// between two pieces stands at the front of the next piece's line 1. Definitions: specs/Marks.antt, specs/Pieces.antt; what the code
-// answers, in their words: specs/Answers.antt.
+// between two pieces stands at the front of the next piece's line 1. Definitions: division, specs/Marks.antt and
+// specs/Pieces.antt; what the code answers, in their words: specs/Answers.antt.
 ghost use mathlib.Core.Path.{_≡_};
 ghost use Prim.Native.Nat.{_+_, _≤_, _<_};
 ghost use lib.ListN.{length, drop};
 ghost use Rattle.characters.specs.Text.{text};
 ghost use Rattle.characters.specs.Rows.{isLine};
 ghost use Rattle.records.specs.Records.{isMark};
-ghost use Rattle.pieces.specs.Marks.{validID};
+ghost use Rattle.division.specs.Marks.{validID};
 ghost use Rattle.pieces.specs.Answers.{RowAt, KindIs, RowIs, PlainWhere, Skipped, NumbersIs, MarkIs};
 
 // "A valid ID is 14 digits and nothing else."

@@ -17,7 +17,8 @@ use Rattle.digits.proofs.Numbers.{number-spell, length-spell, digits-spell, som
 use Rattle.calendar.specs.declared.Day.{Day}
 use Rattle.calendar.specs.declared.DateRead.{DateRead}
 use Rattle.calendar.specs.declared.DateRead.the-variants.{Date, NotADate}
-use Rattle.calendar.specs.Era.{readDay, writeDay}
+use Rattle.calendar.specs.Era.{readDay}
+use Rattle.eras.specs.Era.{writeDay}
 use Rattle.calendar.proofs.Laws.{Plain, read-write, read-is-day, write-shortest, write-plain, write-length}
 use Rattle.records.specs.Table.{Kind, N, U, X, A, F, C, P, R, W, Q, D, among}
 use Rattle.records.specs.Items.{Value, text, num, day, writeValue, numberFault, numberValue, dayFault, dayValue, seven, unhyphened, postal, fault, value}

@@ -14,7 +14,7 @@ use Rattle.lists.specs.Lists.{All, same, _orElse_, unless}
 use Rattle.lists.proofs.Tests.{all-both, same-true, or-zero, both-zero, unless-zero, zero-unless, cond-case, or-first, or-second, not-true′}
 use Rattle.digits.specs.Digits.{spell}
 use Rattle.characters.specs.Text.{allChars, clean}
-use Rattle.characters.proofs.TextLaws.{chars-clean}
+use Rattle.characters.proofs.CharLaws.{chars-clean}
 use Rattle.records.specs.Split.{itemsOf, joined}
 use Rattle.records.specs.Table.{Item, Row, table}
 use Rattle.records.specs.Items.{Value, writeValue}

@@ -1,5 +1,5 @@
 -- Items, record lines and lines 1, each with its fault as document 01 gives it ("Lines and characters", "Items", "Records", "Pairs", refusal 10,
--- "Mistakes to exclude"). Written from the paper; proofs/Cases.antt computes them by the definitions. Days and doses are in demand, specs/Cases.antt.
+-- "Mistakes to exclude"). Written from the paper; proofs/Cases.antt computes them by the definitions. Days and doses are in division, specs/Cases.antt.
 use Prim.Native.Nat.{ℕ}
 use Prim.Native.String.{String}
 use mathlib.Core.Bool.{Bool, true, false, _&&_, _||_, Bool·beq}
@@ -7,16 +7,18 @@ use mathlib.Core.List.{List, [], _∷_, _++_}
 use lib.Dec.{eqb}
 use Rattle.lists.specs.Lists.{bytes, same}
 use Rattle.records.specs.Table.{Kind, N, U, X, A, F, C, P, R, W, Q, among}
-use Rattle.records.specs.Items.{fault}
-use Rattle.records.specs.Records.{lineFault, header}
+use Rattle.records.specs.Items.{fault, value, writeValue}
+use Rattle.records.specs.Records.{lineFault, header, isMark}
 
 pub data Case : Type 0 where
   -- an item that is not empty, and its fault, 0 for none
   item : Kind → List ℕ → ℕ → Case
   -- a record line in direction 1, 2, or both, and its fault
   line1 line2 line : List ℕ → ℕ → Case
-  -- whether a line is a line 1
-  opens : List ℕ → Bool → Case
+  -- whether a line is a line 1, and whether it is a record 911
+  opens mark : List ℕ → Bool → Case
+  -- an item, and how its value is written
+  written : Kind → List ℕ → List ℕ → Case
 
 -- ---- bytes of Shift_JIS: a wide space, a katakana, a kanji whose trail is 81h, and the units of the paper
 abbrev pub space : List ℕ
@@ -92,6 +94,12 @@ cases =
     -- "an empty quantity or unit is let pass"
     line2 (usage "" once "5") 0 ∷ line2 (usage "1" [] "5") 0 ∷ line2 (usage "" [] "1") 0 ∷
     line2 (usage "" (bytes "x") "5") 12 ∷ line2 (usage "2" [] "5") 12 ∷
+    -- "A record 911 is a line that is 911 or begins with 911 and a comma."
+    mark (bytes "911") true ∷ mark (bytes "911,20261115000001,2,1") true ∷ mark (bytes "9110") false ∷ mark (bytes "91,1") false ∷
+    -- "P without hyphen, R without leading zeros, .. all else kept"
+    written P (bytes "105-0004") (bytes "1050004") ∷ written P (bytes "1050004") (bytes "1050004") ∷
+    written R (bytes "007") (bytes "7") ∷ written R (bytes "100") (bytes "100") ∷
+    written (N 40) (bytes "105-0004") (bytes "105-0004") ∷ written C (bytes "0000001") (bytes "0000001") ∷
     []
 
 -- ---- the test of a case
@@ -102,6 +110,8 @@ holds (line1 s n) = eqb (lineFault true s) n
 holds (line2 s n) = eqb (lineFault false s) n
 holds (line s n) = eqb (lineFault true s) n && eqb (lineFault false s) n
 holds (opens s b) = Bool·beq (same s (header true) || same s (header false)) b
+holds (mark s b) = Bool·beq (isMark s) b
+holds (written k s w) = same (writeValue (value k s)) w
 
 abbrev pub allHold : List Case → Bool
 allHold [] = true

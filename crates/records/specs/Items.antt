@@ -10,7 +10,8 @@ use Rattle.lists.specs.Lists.{within, empty, all, same, last, upTo, _orElse_, u
 use Rattle.digits.specs.Digits.{isDigit, number, spell}
 use Rattle.calendar.specs.declared.DateRead.{DateRead}
 use Rattle.calendar.specs.declared.DateRead.the-variants.{Date, NotADate}
-use Rattle.calendar.specs.Era.{readDay, writeDay}
+use Rattle.calendar.specs.Era.{readDay}
+use Rattle.eras.specs.Era.{writeDay}
 use Rattle.characters.specs.Cells.{isOne, isPair}
 use Rattle.records.specs.Table.{Kind, N, U, X, A, F, C, P, R, W, Q, D, among}
 

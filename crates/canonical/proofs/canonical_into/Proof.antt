@@ -4,19 +4,19 @@ use lib.ListN.{length}
 use Rattle.lines.specs.Codes.{codes}
 use Rattle.lines.proofs.LineLaws.{lent}
 use Rattle.characters.specs.Cells.{isPair, allowed, fullRow, partRow}
-use Rattle.characters.specs.Classes.{classOf, firstOf, leadOf, trailOf}
-use Rattle.characters.proofs.TextLaws.{classes-lent}
-use Rattle.notebook.proofs.ReadLaws.{line-1-behind}
-use Rattle.notebook.proofs.LineFacts.{line-size}
-use Rattle.notebook.proofs.CheckLaws.{zeros-size}
+use Rattle.scanning.specs.Classes.{classOf, firstOf, leadOf, trailOf}
+use Rattle.scanning.proofs.TextLaws.{classes-lent}
+use Rattle.checking.proofs.ReadLaws.{line-1-behind}
+use Rattle.checking.proofs.LineFacts.{line-size}
+use Rattle.checking.proofs.CheckLaws.{zeros-size}
 use Rattle.canonical.proofs.WholeLaws.{into-laws, into-room, into-whole}
 use Rattle.canonical.proofs.canonical_into.Statement.{statement}
 use Rattle.canonical.proofs.canonical_into.Tie as tie
 use Rattle.canonical.proofs.canonical_into.Reads as reads
 use Rattle.canonical.proofs.canonical_into.Lts as lts
 use Rattle.canonical.proofs.write_records.Reads as write-records-reads
-use Rattle.characters.proofs.line_at.Reads as line-at-reads
-use Rattle.notebook.proofs.direction.Reads as direction-reads
+use Rattle.scanning.proofs.line_at.Reads as line-at-reads
+use Rattle.checking.proofs.direction.Reads as direction-reads
 
 returns : tie.Need-returns
 returns c = search (needs, into-laws)

@@ -1,8 +1,8 @@
 use borrow.Author.Needs.{needs}
 use Prim.Native.Nat.{_-_}
 use lib.ListN.{length}
-use Rattle.characters.specs.Text.{Sixteen}
-use Rattle.notebook.proofs.TurnLaws.{turn-size, turn-commas, turn-places}
+use Rattle.scanning.specs.Scans.{Sixteen}
+use Rattle.checking.proofs.TurnLaws.{turn-size, turn-commas, turn-places}
 use Rattle.canonical.proofs.FileLaws.{Running, running-laws, running-countable, running-closing, running-inside, running-ready, running-reach, running-ended, running-sound, running-room}
 use Rattle.canonical.proofs.write_records.Statement.{statement}
 use Rattle.canonical.proofs.write_records.Tie as tie
@@ -10,7 +10,7 @@ use Rattle.canonical.proofs.write_records.Reads as reads
 use Rattle.canonical.proofs.write_records.Lts as lts
 use Rattle.canonical.proofs.finish.Reads as finish-reads
 use Rattle.canonical.proofs.put_record.Reads as put-record-reads
-use Rattle.notebook.proofs.read_record.Reads as read-record-reads
+use Rattle.checking.proofs.read_record.Reads as read-record-reads
 use Rattle.order.proofs.State.new.Reads as new-reads
 
 abbrev Inv-loop : tie.InvT-loop

@@ -6,7 +6,7 @@ use Rattle.gateway.proofs.notebook_canonical.Tie as tie
 use Rattle.gateway.proofs.notebook_canonical.Reads as reads
 use Rattle.gateway.proofs.notebook_canonical.Lts as lts
 use Rattle.canonical.proofs.canonical_file.Reads as canonical-file-reads
-use Rattle.gateway.proofs.canonical_answer.Reads as canonical-answer-reads
+use Rattle.replies.proofs.canonical_answer.Reads as canonical-answer-reads
 
 canonical-file-requires : tie.Need-canonical-file-requires
 canonical-file-requires c κs = search needs

@@ -5,8 +5,8 @@ use Rattle.gateway.proofs.notebook_check.Statement.{statement}
 use Rattle.gateway.proofs.notebook_check.Tie as tie
 use Rattle.gateway.proofs.notebook_check.Reads as reads
 use Rattle.gateway.proofs.notebook_check.Lts as lts
-use Rattle.gateway.proofs.check_answer.Reads as check-answer-reads
-use Rattle.notebook.proofs.check.Reads as check-reads
+use Rattle.replies.proofs.check_answer.Reads as check-answer-reads
+use Rattle.checking.proofs.check.Reads as check-reads
 
 check-requires : tie.Need-check-requires
 check-requires c κs = search needs

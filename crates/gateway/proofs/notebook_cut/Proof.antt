@@ -6,7 +6,7 @@ use Rattle.gateway.proofs.notebook_cut.Tie as tie
 use Rattle.gateway.proofs.notebook_cut.Reads as reads
 use Rattle.gateway.proofs.notebook_cut.Lts as lts
 use Rattle.cut.proofs.cut.Reads as cut-reads
-use Rattle.gateway.proofs.cut_answer.Reads as cut-answer-reads
+use Rattle.replies.proofs.cut_answer.Reads as cut-answer-reads
 
 cut-requires : tie.Need-cut-requires
 cut-requires c κs = search needs

@@ -5,7 +5,7 @@ use Rattle.gateway.proofs.notebook_index.Statement.{statement}
 use Rattle.gateway.proofs.notebook_index.Tie as tie
 use Rattle.gateway.proofs.notebook_index.Reads as reads
 use Rattle.gateway.proofs.notebook_index.Lts as lts
-use Rattle.gateway.proofs.index_answer.Reads as index-answer-reads
+use Rattle.replies.proofs.index_answer.Reads as index-answer-reads
 use Rattle.index.proofs.index.Reads as index-reads
 
 index-requires : tie.Need-index-requires

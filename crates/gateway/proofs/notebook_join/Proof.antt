@@ -5,7 +5,7 @@ use Rattle.gateway.proofs.notebook_join.Statement.{statement}
 use Rattle.gateway.proofs.notebook_join.Tie as tie
 use Rattle.gateway.proofs.notebook_join.Reads as reads
 use Rattle.gateway.proofs.notebook_join.Lts as lts
-use Rattle.gateway.proofs.join_answer.Reads as join-answer-reads
+use Rattle.replies.proofs.join_answer.Reads as join-answer-reads
 use Rattle.join.proofs.join.Reads as join-reads
 
 join-requires : tie.Need-join-requires

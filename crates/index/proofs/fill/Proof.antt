@@ -1,22 +1,22 @@
 use borrow.Author.Needs.{needs}
 use Prim.Native.Nat.{_-_}
 use lib.ListN.{length}
-use Rattle.notebook.proofs.ReadLaws.{line-1-behind}
-use Rattle.notebook.proofs.CheckLaws.{check-laws}
-use Rattle.notebook.proofs.LineFacts.{line-size}
+use Rattle.checking.proofs.ReadLaws.{line-1-behind}
+use Rattle.checking.proofs.CheckLaws.{check-laws}
+use Rattle.checking.proofs.LineFacts.{line-size}
 use Rattle.lines.specs.Codes.{codes}
 use Rattle.lines.proofs.LineLaws.{lent}
 use Rattle.characters.specs.Cells.{isPair, allowed, fullRow, partRow}
-use Rattle.characters.specs.Classes.{classOf, firstOf, leadOf, trailOf}
-use Rattle.characters.proofs.TextLaws.{classes-lent}
+use Rattle.scanning.specs.Classes.{classOf, firstOf, leadOf, trailOf}
+use Rattle.scanning.proofs.TextLaws.{classes-lent}
 use Rattle.index.proofs.FileLaws.{fill-laws, fill-room}
 use Rattle.index.proofs.fill.Statement.{statement}
 use Rattle.index.proofs.fill.Tie as tie
 use Rattle.index.proofs.fill.Reads as reads
 use Rattle.index.proofs.fill.Lts as lts
-use Rattle.characters.proofs.line_at.Reads as line-at-reads
+use Rattle.scanning.proofs.line_at.Reads as line-at-reads
 use Rattle.index.proofs.fill_records.Reads as fill-records-reads
-use Rattle.notebook.proofs.direction.Reads as direction-reads
+use Rattle.checking.proofs.direction.Reads as direction-reads
 
 line-at-requires : tie.Need-line-at-requires
 unfolding classOf firstOf leadOf trailOf isPair allowed fullRow partRow

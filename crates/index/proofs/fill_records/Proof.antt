@@ -1,14 +1,14 @@
 use borrow.Author.Needs.{needs}
 use Prim.Native.Nat.{_-_}
 use lib.ListN.{length}
-use Rattle.characters.specs.Text.{Sixteen}
+use Rattle.scanning.specs.Scans.{Sixteen}
 use Rattle.index.proofs.FillLaws.{Filling, filling-laws, filling-countable, filling-span, filling-room}
 use Rattle.index.proofs.fill_records.Statement.{statement}
 use Rattle.index.proofs.fill_records.Tie as tie
 use Rattle.index.proofs.fill_records.Reads as reads
 use Rattle.index.proofs.fill_records.Lts as lts
 use Rattle.index.proofs.put_entry.Reads as put-entry-reads
-use Rattle.notebook.proofs.read_record.Reads as read-record-reads
+use Rattle.checking.proofs.read_record.Reads as read-record-reads
 use Rattle.order.proofs.State.new.Reads as new-reads
 
 abbrev Inv-loop : tie.InvT-loop

@@ -7,7 +7,7 @@ use Rattle.index.proofs.index.Tie as tie
 use Rattle.index.proofs.index.Reads as reads
 use Rattle.index.proofs.index.Lts as lts
 use Rattle.index.proofs.fill.Reads as fill-reads
-use Rattle.notebook.proofs.check.Reads as check-reads
+use Rattle.checking.proofs.check.Reads as check-reads
 
 check-requires : tie.Need-check-requires
 check-requires c κs = search needs

@@ -7,7 +7,7 @@ use Rattle.items.proofs.all_one.Statement.{statement}
 use Rattle.items.proofs.all_one.Tie as tie
 use Rattle.items.proofs.all_one.Reads as reads
 use Rattle.items.proofs.all_one.Lts as lts
-use Rattle.characters.proofs.is_one.Reads as is-one-reads
+use Rattle.scanning.proofs.is_one.Reads as is-one-reads
 
 abbrev Inv-loop : tie.InvT-loop
 Inv-loop s i₀ i = AllLeft isOne s i

@@ -6,7 +6,7 @@ use Rattle.items.proofs.all_pairs.Statement.{statement}
 use Rattle.items.proofs.all_pairs.Tie as tie
 use Rattle.items.proofs.all_pairs.Reads as reads
 use Rattle.items.proofs.all_pairs.Lts as lts
-use Rattle.characters.proofs.is_pair.Reads as is-pair-reads
+use Rattle.scanning.proofs.is_pair.Reads as is-pair-reads
 
 abbrev Inv-loop : tie.InvT-loop
 Inv-loop s i₀ i = PairsLeft s i

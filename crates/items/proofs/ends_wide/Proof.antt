@@ -6,7 +6,7 @@ use Rattle.items.proofs.ends_wide.Statement.{statement}
 use Rattle.items.proofs.ends_wide.Tie as tie
 use Rattle.items.proofs.ends_wide.Reads as reads
 use Rattle.items.proofs.ends_wide.Lts as lts
-use Rattle.characters.proofs.is_one.Reads as is-one-reads
+use Rattle.scanning.proofs.is_one.Reads as is-one-reads
 use Rattle.lists.proofs.before.Reads as before-reads
 use Rattle.lists.proofs.byte_at.Reads as byte-at-reads
 

@@ -6,7 +6,7 @@ use Rattle.items.proofs.other_item.Statement.{statement}
 use Rattle.items.proofs.other_item.Tie as tie
 use Rattle.items.proofs.other_item.Reads as reads
 use Rattle.items.proofs.other_item.Lts as lts
-use Rattle.characters.proofs.run_end.Reads as run-end-reads
+use Rattle.scanning.proofs.run_end.Reads as run-end-reads
 use Rattle.items.proofs.item_fault.Reads as item-fault-reads
 
 run-end-requires : tie.Need-run-end-requires

@@ -6,7 +6,7 @@ use Rattle.items.proofs.text_item.Statement.{statement}
 use Rattle.items.proofs.text_item.Tie as tie
 use Rattle.items.proofs.text_item.Reads as reads
 use Rattle.items.proofs.text_item.Lts as lts
-use Rattle.characters.proofs.run_end.Reads as run-end-reads
+use Rattle.scanning.proofs.run_end.Reads as run-end-reads
 use Rattle.items.proofs.blank_end.Reads as blank-end-reads
 use Rattle.items.proofs.edge.Reads as edge-reads
 use Rattle.items.proofs.inner.Reads as inner-reads

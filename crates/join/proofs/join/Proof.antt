@@ -9,7 +9,7 @@ use Rattle.join.proofs.join.Reads as reads
 use Rattle.join.proofs.join.Lts as lts
 use Rattle.buffers.proofs.put_all.Reads as put-all-reads
 use Rattle.join.proofs.join_into.Reads as join-into-reads
-use Rattle.notebook.proofs.check.Reads as check-reads
+use Rattle.checking.proofs.check.Reads as check-reads
 
 slice-aggregate-join-into : tie.Need-slice-aggregate-join-into
 slice-aggregate-join-into c = search needs

@@ -6,7 +6,7 @@ use Rattle.lines.proofs.find_line.Statement.{statement}
 use Rattle.lines.proofs.find_line.Tie as tie
 use Rattle.lines.proofs.find_line.Reads as reads
 use Rattle.lines.proofs.find_line.Lts as lts
-use Rattle.characters.proofs.line_at.Reads as line-at-reads
+use Rattle.scanning.proofs.line_at.Reads as line-at-reads
 use Rattle.lines.proofs.quick_line.Reads as quick-line-reads
 
 quick-line-requires : tie.Need-quick-line-requires

@@ -1,5 +1,5 @@
 -- `in_group` meets its contract. Assumes nothing.
-use Rattle.order.specs.Places.{inGroup}
+use Rattle.rules.specs.Places.{inGroup}
 use Rattle.order.proofs.in_group.Statement.{statement}
 use Rattle.order.proofs.in_group.Tie as tie
 

@@ -4,7 +4,7 @@ use mathlib.Core.Path.{refl, sym, _∙_}
 use mathlib.Core.Bool.{Bool, _&&_, _||_}
 use lib.Dec.{eqb}
 use Rattle.order.specs.declared.State.{State}
-use Rattle.order.specs.Places.{inHead}
+use Rattle.rules.specs.Places.{inHead}
 use Rattle.order.proofs.State.end_refusal.Statement.{statement}
 use Rattle.order.proofs.State.end_refusal.Tie as tie
 use Rattle.order.proofs.State.end_refusal.Reads as reads

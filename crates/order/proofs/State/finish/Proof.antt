@@ -1,6 +1,6 @@
 -- `State::finish` meets its contract. Assumes nothing.
 use Rattle.order.specs.State.{finishOf}
-use Rattle.order.specs.Rules.{unfinished}
+use Rattle.rules.specs.Rules.{unfinished}
 use Rattle.order.proofs.State.finish.Statement.{statement}
 use Rattle.order.proofs.State.finish.Tie as tie
 

@@ -1,5 +1,5 @@
 -- `State::group_refusal` meets its contract. Assumes nothing.
-use Rattle.order.specs.Places.{inHead}
+use Rattle.rules.specs.Places.{inHead}
 use Rattle.order.proofs.ByNumber.{closing-rp, closing-group, closing-else, of-5}
 use mathlib.Core.Path.{sym, _∙_}
 use Rattle.order.proofs.State.group_refusal.Statement.{statement}

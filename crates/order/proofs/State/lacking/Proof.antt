@@ -1,5 +1,5 @@
 -- `State::lacking` meets its contract. Assumes nothing.
-use Rattle.order.specs.Rules.{lacking}
+use Rattle.rules.specs.Rules.{lacking}
 use mathlib.Core.Path.{sym}
 use mathlib.Core.Bool.{not, _&&_, or-false}
 use lib.Dec.{eqb}

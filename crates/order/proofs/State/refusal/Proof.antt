@@ -1,7 +1,7 @@
 -- `State::refusal` meets its contract, by the law of each number. Assumes nothing.
 use Rattle.order.proofs.ByNumber.{of-1, of-2, of-3, of-4, of-11, of-15, of-51, of-281, of-291, of-311, of-391, of-401, of-411, of-501, of-601, of-other}
-use Rattle.order.proofs.Rows.{no-row}
-use Rattle.order.specs.Places.{rows, mayFollow}
+use Rattle.rules.proofs.Rows.{no-row}
+use Rattle.rules.specs.Places.{rows, mayFollow}
 use mathlib.Core.Path.{refl, sym, _∙_}
 use borrow.Author.Tests.{ne-eqb}
 use borrow.Author.Needs.{needs}

@@ -1,0 +1,227 @@
+-- The loop over lines: what is left from a position on gives the whole file's answer. One law for each way through the code.
+-- Assumes nothing.
+use Prim.Native.Nat.{ℕ, zero, suc, _+_, _-_, _≤_, _<_}
+use native.Mathlib.Nat.{zero-add, add-zero}
+use mathlib.Core.Path.{_≡_, refl, sym, ap, _∙_, subst}
+use mathlib.Core.Bool.{Bool, true, false, cond, false≢true}
+use mathlib.Core.Logic.{⊎-elim}
+use mathlib.Core.List.{List, [], _∷_, _++_}
+use native.Mathlib.Omega.{arith}
+use borrow.Author.Tests.{le-leb, lt-leb, eq-eqb, ne-eqb, eqb-true, eqb-false}
+use mir.Val.{Fits}
+use mir.Syntax.{w32, w64}
+use lib.Dec.{leb, eqb}
+use lib.ListN.{length, take, drop}
+use Rattle.lists.specs.Lists.{bytes, same, part, Res, ok, refused}
+use Rattle.scanning.specs.declared.Line.{Line}
+use Rattle.scanning.specs.declared.Line.the-variants.{Whole, Mark, End, Broken}
+use Rattle.characters.specs.Text.{allChars, text}
+use Rattle.scanning.specs.Scans.{Stops, Sixteen}
+use Rattle.characters.specs.Rows.{rows, isLine, lineEnd, endMark, WholeLine, BrokenRow}
+use Rattle.scanning.specs.Scans.{ScannedLine, LineMeans, LineOf}
+use Rattle.characters.proofs.RowLaws.{line-is, line-text, line-no-mark}
+use Rattle.records.specs.Records.{Record, faultWhere, lineFault, recordOf, header}
+use Rattle.order.specs.declared.State.{State}
+use Rattle.order.specs.declared.Moved.{Moved}
+use Rattle.order.specs.declared.Moved.the-variants.{Refused as StepRefused, On}
+use Rattle.order.specs.State.{start, finishOf, advance, Room}
+use Rattle.order.proofs.Laws.{next-line, room, room-start, line-start}
+use Rattle.notebook.specs.Facts.{factsOf}
+use Rattle.lines.specs.Codes.{Commas}
+use Rattle.replies.specs.declared.Checked.{Checked}
+use Rattle.replies.specs.declared.Checked.the-variants.{Accepted, Refused}
+use Rattle.notebook.specs.Notebook.{Notebook, stepLine, prepend, closed, onward, recordsFrom, notebookOf, readRows, readFile}
+use Rattle.notebook.specs.Check.{count, counted, checked, checkOf}
+use Rattle.checking.specs.Walking.{directionOf, tally, Judged, Behind, Closing}
+use Rattle.checking.proofs.LineFacts.{line-size, whole-line, records-end, records-mark, records-broken, records-on}
+use Rattle.checking.specs.declared.Turn.{Turn}
+use Rattle.checking.specs.declared.Turn.the-variants.{Over, Refused as TurnRefused, On as TurnOn}
+use Rattle.checking.specs.Turns.{RefusedAt, broken, faulty, TurnOf}
+use Rattle.checking.proofs.TurnLaws.{turn-facts, turn-over, turn-refused, turn-step, turn-fits}
+use Rattle.notebook.proofs.Placing.{Placed, placed}
+use Rattle.checking.proofs.ReadLaws.{read-large, read-end, read-mark, read-broken, read-provider, read-patient, read-version, direction-few, line-1-high, line-1-fits, line-1-behind}
+
+three : {a b c a′ b′ c′ : ℕ} → a ≡ a′ → b ≡ b′ → c ≡ c′ → Accepted a b c ≡ Accepted a′ b′ c′
+three p q r = cc
+
+-- ---- line 1
+
+-- the bytes of the code's literals
+abbrev line1 : ℕ → List ℕ
+line1 d = 74 ∷ 65 ∷ 72 ∷ 73 ∷ 83 ∷ 84 ∷ 67 ∷ 48 ∷ 52 ∷ 44 ∷ d ∷ []
+
+by-literals : (l : List ℕ) → directionOf l ≡ cond (same l (line1 49)) 1 (cond (same l (line1 50)) 2 0)
+unfolding directionOf header bytes
+by-literals l = refl
+
+module _ (l : List ℕ) {x : Bool} (p : x ≡ same l (line1 49)) where
+  pub direction-1 : x ≡ true → 1 ≡ directionOf l
+  direction-1 q = sym (by-literals l ∙ rw (sym p ∙ q))
+
+  module _ {y : Bool} (q : x ≡ false) (r : y ≡ same l (line1 50)) where
+    pub direction-2 : y ≡ true → 2 ≡ directionOf l
+    direction-2 t = sym (by-literals l ∙ rw (sym p ∙ q, sym r ∙ t))
+
+    pub direction-0 : y ≡ false → 0 ≡ directionOf l
+    direction-0 t = sym (by-literals l ∙ rw (sym p ∙ q, sym r ∙ t))
+
+-- ---- the end
+
+module _ (st : State) {n : ℕ} (e : n ≡ finishOf st) where
+  pub close-good : n ≡ 0 → Accepted (st .line - 1) (st .groups) (st .drugs) ≡ tally st (closed st)
+  unfolding closed count
+  close-good z = rw (eq-eqb (finishOf st) 0 (sym e ∙ z)) (three (sym (add-zero (st .line - 1))) (sym (add-zero (st .groups))) (sym (add-zero (st .drugs))))
+
+  pub close-missing : (n ≡ 0 → ⊥) → Refused n (st .line + 1) ≡ tally st (closed st)
+  unfolding closed
+  close-missing z = rw (ne-eqb (finishOf st) 0 (λ q. z (e ∙ q))) (ap (λ (k : ℕ). Refused k (st .line + 1)) e)
+
+facts-number : (r : Record) → (factsOf r) .number ≡ r .number
+unfolding factsOf
+facts-number r = refl
+
+-- ---- the counts: what a state has counted, with what follows
+
+more : (b : Bool) (g c : ℕ) → g + (cond b 1 0 + c) ≡ cond b (g + 1) g + c
+more true g c = omega arith
+more false g c = omega arith
+
+tally-on : (st : State) (rec : Record) (res : Res (List Record)) → 1 ≤ st .line → tally st (prepend rec res) ≡ tally (advance st (factsOf rec)) res
+unfolding advance count factsOf
+tally-on st rec (refused n line) h = refl
+tally-on st rec (ok rs) h =
+    three (omega arith) (more (eqb (rec .number) 5) (st .groups) (count 5 rs)) (more (eqb (rec .number) 201) (st .drugs) (count 201 rs))
+
+-- ---- the loop
+
+pub record Reading (provider : Bool) (s : List ℕ) (from : ℕ) (st : State) (at : ℕ) : Type 0 where
+  pub left : tally (start provider) (recordsFrom (start provider) (rows (drop from s))) ≡ tally st (recordsFrom st (rows (drop at s)))
+  pub room : Room st
+  pub low : 1 ≤ st .line
+  pub line : st .line ≤ at
+  pub high : at ≤ length s
+  pub small : length s ≤ 65536
+
+pub reading-start : (provider : Bool) (s : List ℕ) (from : ℕ) {st : State} → Behind s from → st ≡ start provider → Reading provider s from st from
+reading-start provider s from b e =
+    subst (λ (x : State). Reading provider s from x from) (sym e) (record {
+      left = refl;
+      room = room-start provider;
+      low = omega (arith, line-start provider);
+      line = omega (arith, line-start provider, b .low);
+      high = b .high;
+      small = b .small;
+    })
+
+module _ {provider : Bool} {s : List ℕ} {from : ℕ} {st : State} {at : ℕ} (v : Reading provider s from st at) where
+  pub reading-closing : Closing st
+  reading-closing = record { low = v .low; small = omega (arith, v .line, v .high, v .small) }
+
+  pub reading-fits : Fits w32 (st .line + 1)
+  reading-fits = omega (arith, v .line, v .high, v .small)
+
+  pub reading-room : Room st
+  reading-room = v .room
+
+  -- the answer, if what is left answers it
+  answer : {r : Checked} → r ≡ tally st (recordsFrom st (rows (drop at s))) → r ≡ tally (start provider) (recordsFrom (start provider) (rows (drop from s)))
+  answer e = e ∙ sym (v .left)
+
+  module _ {stops : List ℕ} {k : Line} (w : LineOf s at stops k) where
+    reading-end : {r : Checked} → k ≡ End → r ≡ tally st (closed st) → r ≡ tally (start provider) (recordsFrom (start provider) (rows (drop from s)))
+    reading-end e q = answer (q ∙ sym (ap (tally st) (records-end w st e)))
+
+    reading-mark : {r : Checked} → k ≡ Mark → r ≡ tally st (closed st) → r ≡ tally (start provider) (recordsFrom (start provider) (rows (drop from s)))
+    reading-mark e q = answer (q ∙ sym (ap (tally st) (records-mark w st e)))
+
+    reading-broken : k ≡ Broken → Refused 2 (st .line + 1) ≡ tally (start provider) (recordsFrom (start provider) (rows (drop from s)))
+    reading-broken e = answer (sym (ap (tally st) (records-broken w st e)))
+
+    module _ {e : ℕ} {good : Bool} {n : ℕ} (q : k ≡ Whole e good n) where
+      next : Moved → Res (List Record)
+      next = onward (st .line + 1) (recordOf (part s at e)) (λ t. recordsFrom t (rows (drop (e + 2) s)))
+
+      module _ {m : Moved} (o : m ≡ stepLine st (take (e - at) (drop at s))) where
+        reading-refused : {j : ℕ} → m ≡ StepRefused j → Refused j (st .line + 1) ≡ tally (start provider) (recordsFrom (start provider) (rows (drop from s)))
+        unfolding onward next
+        reading-refused u = sym (v .left ∙ ap (tally st) (records-on w q st ∙ ap next (sym o ∙ u)))
+
+        reading-on : {t : State} {rp d : ℕ} → m ≡ On t rp d → Reading provider s from t (e + 2)
+        unfolding onward next
+        reading-on {t} {rp} {d} u =
+            let p : Placed st (part s at e) t rp d = placed st (part s at e) t rp d (sym o ∙ u) in
+            let l : t .line ≡ st .line + 1 = next-line st (factsOf (recordOf (part s at e))) t rp d (p .step) in
+            record {
+              left = v .left ∙ ap (tally st) (records-on w q st ∙ ap next (sym o ∙ u))
+                  ∙ tally-on st (recordOf (part s at e)) (recordsFrom t (rows (drop (e + 2) s))) (v .low)
+                  ∙ ap (λ (x : State). tally x (recordsFrom t (rows (drop (e + 2) s)))) (sym (p .state));
+              room = room st (factsOf (recordOf (part s at e))) t rp d (p .step) (v .room) (omega (arith, l, v .line, v .high, v .small));
+              low = omega (arith, l);
+              line = omega (arith, l, v .line, whole-line w q .low);
+              high = whole-line w q .high;
+              small = v .small;
+            }
+
+  -- by a turn
+  module _ {stops : List ℕ} {k : Turn} (w : TurnOf st s at stops k) where
+    pub reading-over : {r : Checked} → k ≡ Over → r ≡ tally st (closed st) → r ≡ tally (start provider) (recordsFrom (start provider) (rows (drop from s)))
+    reading-over q p = ⊎-elim (λ l. reading-end l refl p) (λ l. reading-mark l refl p) (turn-over w q)
+
+    pub reading-stopped : {n : ℕ} → k ≡ TurnRefused n → Refused n (st .line + 1) ≡ tally (start provider) (recordsFrom (start provider) (rows (drop from s)))
+    reading-stopped {n} q = go (turn-refused w q)
+      where
+        go : RefusedAt st s at stops n → Refused n (st .line + 1) ≡ tally (start provider) (recordsFrom (start provider) (rows (drop from s)))
+        go (broken l e) = ap (λ (j : ℕ). Refused j (st .line + 1)) e ∙ reading-broken l refl
+        go (faulty e m x) = reading-refused (x .line) refl (x .step) refl
+
+    module _ {t : State} {rp d e n : ℕ} (q : k ≡ TurnOn t rp d e n) where
+      pub reading-next : Reading provider s from t (e + 2)
+      reading-next = let x = turn-step w q in reading-on (x .line) refl (x .step) refl
+
+      pub reading-within : Fits w64 (e + 2)
+      reading-within = turn-fits w q (v .small)
+
+pub ruleset reading-laws = (turn-facts, reading-start, reading-closing, reading-fits, reading-room, reading-over, reading-stopped, reading-next, reading-within)
+
+-- ---- the file
+
+tally-start : (provider : Bool) (res : Res (List Record)) → tally (start provider) res ≡ checked (notebookOf provider res)
+unfolding start
+tally-start provider (refused n line) = refl
+tally-start provider (ok rs) = three (zero-add (length rs)) (zero-add (count 5 rs)) (zero-add (count 201 rs))
+
+module _ (s : List ℕ) where
+  refused-as : {n line : ℕ} → readFile s ≡ refused n line → Refused n line ≡ checkOf s
+  unfolding checkOf
+  refused-as e = sym (ap checked e)
+
+  pub check-large : 65536 < length s → Refused 1 0 ≡ checkOf s
+  check-large h = refused-as (read-large s h)
+
+  module _ (h : length s ≤ 65536) {stops : List ℕ} {k : Line} (w : LineOf s 0 stops k) where
+    pub check-end : k ≡ End → Refused 2 1 ≡ checkOf s
+    check-end e = refused-as (read-end s h w e)
+
+    pub check-mark : k ≡ Mark → Refused 2 1 ≡ checkOf s
+    check-mark e = refused-as (read-mark s h w e)
+
+    pub check-broken : k ≡ Broken → Refused 2 1 ≡ checkOf s
+    check-broken e = refused-as (read-broken s h w e)
+
+    module _ {e : ℕ} {good : Bool} {n : ℕ} (q : k ≡ Whole e good n) {d : ℕ} (p : d ≡ directionOf (take (e - 0) (drop 0 s))) where
+      pub check-provider : {r : Checked} → d ≡ 1 → r ≡ tally (start true) (recordsFrom (start true) (rows (drop (e + 2) s))) → r ≡ checkOf s
+      unfolding checkOf
+      check-provider z t = t ∙ tally-start true (recordsFrom (start true) (rows (drop (e + 2) s))) ∙ sym (ap checked (read-provider s h w q p z .1))
+
+      pub check-patient : {r : Checked} → d ≡ 2 → r ≡ tally (start false) (recordsFrom (start false) (rows (drop (e + 2) s))) → r ≡ checkOf s
+      unfolding checkOf
+      check-patient z t =
+          t ∙ tally-start false (recordsFrom (start false) (rows (drop (e + 2) s))) ∙ sym (ap checked (read-patient s h w q p (λ o. omega arith) (λ o. omega arith) .1))
+
+      pub check-version : (d ≡ 1 → ⊥) → (d ≡ 2 → ⊥) → Refused 3 1 ≡ checkOf s
+      check-version y z = refused-as (read-version s h w q p (omega (arith, direction-few s h w q p)))
+
+pub zeros-size : Sixteen (0 ∷ 0 ∷ 0 ∷ 0 ∷ 0 ∷ 0 ∷ 0 ∷ 0 ∷ 0 ∷ 0 ∷ 0 ∷ 0 ∷ 0 ∷ 0 ∷ 0 ∷ 0 ∷ [])
+zeros-size = record { is = refl }
+
+pub ruleset check-laws = (line-size, zeros-size, check-large, check-end, check-mark, check-broken, line-1-high, line-1-fits, line-1-behind, check-provider, check-patient, check-version)

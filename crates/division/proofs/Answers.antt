@@ -1,0 +1,220 @@
+-- What cutting and joining answer of an accepted file by the output's size, and what they leave in the output. Assumes nothing.
+use Prim.Native.Nat.{ℕ, suc, _+_, _≤_, _<_}
+use native.Mathlib.Omega.{arith}
+use mathlib.Core.Path.{_≡_, refl, sym, ap, _∙_, subst}
+use mathlib.Core.Logic.{_↔_}
+use mathlib.Core.Bool.{Bool, true, false, cond}
+use mathlib.Core.Option.{Option, none, some}
+use mathlib.Core.List.{List, _++_, map}
+use borrow.Author.Tests.{leb-false, le-leb, lt-leb}
+use lib.Dec.{leb}
+use lib.ListN.{length, take, drop, length-append}
+use lib.Seq.{take-at}
+use Rattle.lists.specs.Lists.{All, Res, ok, refused}
+use Rattle.characters.specs.Rows.{flat}
+use Rattle.notebook.specs.Notebook.{Notebook, readFile}
+use Rattle.notebook.specs.Canonical.{canonicalBytes}
+use Rattle.division.specs.Marks.{validID}
+use Rattle.division.proofs.Chunks.{chunkBytes, chunks-once}
+use Rattle.replies.specs.declared.Cutting.{Cutting}
+use Rattle.replies.specs.declared.Cutting.the-variants.{Pieces, Refused}
+use Rattle.division.specs.Cut.{cutting, listed, found, cutList, held, cutOf, cutBuffer}
+use Rattle.division.specs.Join.{joinFile, joinOf, joinBuffer}
+use Rattle.replies.specs.declared.Reply.{Reply}
+use Rattle.replies.specs.Replies.{refusal, result, cutReply, joinReply}
+use Rattle.division.specs.Orders.{Perm}
+use Rattle.division.specs.Demand.{OnePiece, ListIn, Sound, Written, Withheld, Restored}
+use Rattle.division.proofs.Own.{sound, restores}
+use Rattle.division.proofs.Fewest.{Chunks, chunked, Listed, least}
+
+-- ---- a reply told apart: which answer it is
+
+-- refusals have numbers from 1 on
+abbrev Numbered : Cutting → Type 0
+Numbered (Pieces n t) = Unit {0}
+Numbered (Refused n line) = 1 ≤ n
+
+pub refused-told : (n : ℕ) (x : Cutting) → cutReply x ≡ refusal (suc n) 0 → x ≡ Refused (suc n) 0
+refused-told n (Pieces a t) e = absurd (omega (arith, ap (λ (r : Reply). r .refusal) e))
+refused-told n (Refused m line) e =
+    let a : m ≡ suc n = ap (λ (r : Reply). r .refusal) e in
+    let l : line ≡ 0 = ap (λ (r : Reply). r .line) e in
+    cc
+
+pub pieces-told : (x : Cutting) (n t : ℕ) → Numbered x → cutReply x ≡ result n t 0 → x ≡ Pieces n t
+pieces-told (Pieces m u) n t h e =
+    let a : m ≡ n = ap (λ (r : Reply). r .a) e in
+    let l : u ≡ t = ap (λ (r : Reply). r .b) e in
+    cc
+pieces-told (Refused m line) n t h e = absurd (omega (arith, h, ap (λ (r : Reply). r .refusal) e))
+
+pub numbered : (f : List ℕ) (b : Notebook) (c : ℕ) (id : List ℕ) (room : ℕ) → readFile f ≡ ok b → Numbered (cutOf f c id room)
+unfolding cutOf cutList
+numbered f b c id room e = rw e (valid (validID id))
+  where
+    written : (x : Bool) (ps : List (List ℕ)) → Numbered (cond x (Pieces (length ps) (length (flat ps))) (Refused 20 0))
+    written true ps = tt
+    written false ps = omega arith
+
+    list : (m : Option (List (List ℕ))) → Numbered (held (listed m) room)
+    list none = omega arith
+    list (some ps) = written (leb (length (flat ps)) room) ps
+
+    valid : (v : Bool) → Numbered (held (cond v (listed (cutting id c b)) (refused 17 0)) room)
+    valid true = list (cutting id c b)
+    valid false = omega arith
+
+-- whole pieces with equal bytes are equal
+pub pieces-once : (ps qs : List (List ℕ)) → All OnePiece ps → All OnePiece qs → flat ps ≡ flat qs → ps ≡ qs
+pieces-once ps qs a h q =
+    let x : Chunks ps = chunked ps a in
+    let y : Chunks qs = chunked qs h in
+    let z : x .chunks ≡ y .chunks =
+    chunks-once (x .chunks) (y .chunks) (x .good) (y .good) (sym (ap flat (x .bytes)) ∙ q ∙ ap flat (y .bytes)) in
+    x .bytes ∙ ap (map chunkBytes) z ∙ sym (y .bytes)
+
+-- ---- cutting's answers
+
+pieces-refused : {n t m line : ℕ} → Refused m line ≡ Pieces n t → ⊥
+pieces-refused e = let z : _≡_ {A = ℕ} 0 1 = cc in omega arith
+
+ok-refused : {A : Type 0} {m line : ℕ} {a : A} → _≡_ {A = Res A} (refused m line) (ok a) → ⊥
+ok-refused e = let z : _≡_ {A = ℕ} 0 1 = cc in omega arith
+
+-- a list was found for a valid ID
+record Found (id : List ℕ) (c : ℕ) (b : Notebook) (ps : List (List ℕ)) : Type 0 where
+  valid : validID id ≡ true
+  is : cutting id c b ≡ some ps
+
+module _ (f : List ℕ) (b : Notebook) (c : ℕ) (id : List ℕ) (e : readFile f ≡ ok b) where
+  list-found : (ps : List (List ℕ)) → cutList f c id ≡ ok ps → Found id c b ps
+  unfolding cutList
+  list-found ps l = go (validID id) refl (cutting id c b) refl (sym (ap (found id c) e) ∙ l)
+    where
+      go : (v : Bool) → validID id ≡ v → (m : Option (List (List ℕ))) → cutting id c b ≡ m → cond v (listed m) (refused 17 0) ≡ ok ps → Found id c b ps
+      go true p none q l = absurd (ok-refused l)
+      go true p (some xs) q l = let z : xs ≡ ps = cc in record { valid = p; is = q ∙ ap some z }
+      go false p m q l = absurd (ok-refused l)
+
+  list-of : validID id ≡ true → cutList f c id ≡ listed (cutting id c b)
+  unfolding cutList
+  list-of v = ap (found id c) e ∙ rw v
+
+  -- ---- a list that was written
+
+  record Wrote (out : List ℕ) (n t : ℕ) : Type 0 where
+    list : List (List ℕ)
+    found : Found id c b list
+    count : length list ≡ n
+    size : length (flat list) ≡ t
+    inside : t ≤ length (cutBuffer f c id out)
+    front : take t (cutBuffer f c id out) ≡ flat list
+
+  wrote : (out : List ℕ) (n t : ℕ) → cutOf f c id (length out) ≡ Pieces n t → Wrote out n t
+  unfolding cutOf cutBuffer
+  wrote out n t h = go (cutList f c id) refl h
+    where
+      go : (r : Res (List (List ℕ))) → cutList f c id ≡ r → held r (length out) ≡ Pieces n t → Wrote out n t
+      go (refused m line) q h = absurd (pieces-refused h)
+      go (ok ps) q h = by (leb (length (flat ps)) (length out)) refl h
+        where
+          by : (x : Bool) → leb (length (flat ps)) (length out) ≡ x → cond x (Pieces (length ps) (length (flat ps))) (Refused 20 0) ≡ Pieces n t → Wrote out n t
+          by false p h = absurd (pieces-refused h)
+          by true p h =
+              let s : length (flat ps) ≡ t = cc in
+              let w : cutBuffer f c id out ≡ flat ps ++ drop (length (flat ps)) out = rw (q, p) in
+              record {
+                list = ps;
+                found = list-found ps q;
+                count = (let z : length ps ≡ n = cc in z);
+                size = s;
+                inside = omega (arith, s, ap length w, length-append (flat ps) (drop (length (flat ps)) out));
+                front = ap (take t) w ∙ take-at (flat ps) (drop (length (flat ps)) out) t s;
+              }
+
+  pub writes : (out : List ℕ) (n t : ℕ) → cutOf f c id (length out) ≡ Pieces n t → Written f c (cutBuffer f c id out) n t
+  writes out n t h =
+      let w : Wrote out n t = wrote out n t h in
+      let s : Sound f c (w .list) = sound f id b c e (w .found .valid) (w .list) (w .found .is) in
+      record {
+        list = w .list;
+        is = record { bytes = w .front; whole = s .pieces; count = w .count };
+        inside = w .inside;
+        sound = s;
+        fewest = λ qs u. few w (least id b c f e qs u);
+        only = λ qs i. pieces-once qs (w .list) (i .whole) (s .pieces) (sym (i .bytes) ∙ w .front);
+      }
+    where
+      few : {k : ℕ} (w : Wrote out n t) → Listed id b c k → n ≤ k
+      few w l =
+          let q : some (l .list) ≡ some (w .list) = sym (l .is) ∙ w .found .is in
+          let z : l .list ≡ w .list = cc in
+          omega (arith, ap length z, l .few, w .count)
+
+  -- ---- no list
+
+  no-list-18 : validID id ≡ true → (room : ℕ) → cutting id c b ≡ none → cutOf f c id room ≡ Refused 18 0
+  unfolding cutOf
+  no-list-18 v room q = ap (λ (r : Res (List (List ℕ))). held r room) (list-of v ∙ ap listed q)
+
+  list-no-18 : validID id ≡ true → (room : ℕ) (ps : List (List ℕ)) → cutting id c b ≡ some ps → cutOf f c id room ≡ Refused 18 0 → ⊥
+  unfolding cutOf
+  list-no-18 v room ps q h = go (leb (length (flat ps)) room) (sym (ap (λ (r : Res (List (List ℕ))). held r room) (list-of v ∙ ap listed q)) ∙ h)
+    where
+      go : (x : Bool) → cond x (Pieces (length ps) (length (flat ps))) (Refused 20 0) ≡ Refused 18 0 → ⊥
+      go true h = pieces-refused (sym h)
+      go false h = let z : _≡_ {A = ℕ} 20 18 = cc in omega arith
+
+  pub finds : validID id ≡ true → (room : ℕ) → (cutOf f c id room ≡ Refused 18 0) ↔ ((qs : List (List ℕ)) → Sound f c qs → ⊥)
+  finds v room = (
+    λ h qs s. let l : Listed id b c (length qs) = least id b c f e qs s in list-no-18 v room (l .list) (l .is) h,
+    λ h. go h (cutting id c b) refl,
+  )
+    where
+      go : ((qs : List (List ℕ)) → Sound f c qs → ⊥) → (m : Option (List (List ℕ))) → cutting id c b ≡ m → cutOf f c id room ≡ Refused 18 0
+      go h none q = no-list-18 v room q
+      go h (some ps) q = absurd (h ps (sound f id b c e v ps q))
+
+-- ---- a list that is withheld
+
+pub withholds : (f : List ℕ) (c : ℕ) (id out : List ℕ) (ps : List (List ℕ)) → cutList f c id ≡ ok ps → Withheld f c id out ps
+unfolding cutOf cutBuffer
+withholds f c id out ps q = record {
+  exactly = (λ h. go (leb (length (flat ps)) (length out)) refl (sym is ∙ refused-told 19 (cutOf f c id (length out)) h), λ h. ap cutReply (twenty h));
+  kept = kept;
+  else = λ h. ap cutReply (else h);
+}
+  where
+    is : cutOf f c id (length out) ≡ cond (leb (length (flat ps)) (length out)) (Pieces (length ps) (length (flat ps))) (Refused 20 0)
+    is = rw q
+
+    go : (x : Bool) → leb (length (flat ps)) (length out) ≡ x → cond x (Pieces (length ps) (length (flat ps))) (Refused 20 0) ≡ Refused 20 0
+        → length out < length (flat ps)
+    go true p h = absurd (pieces-refused (sym h))
+    go false p h = leb-false _ _ p
+
+    twenty : length out < length (flat ps) → cutOf f c id (length out) ≡ Refused 20 0
+    twenty h = rw (q, lt-leb (length (flat ps)) (length out) h)
+
+    kept : length out < length (flat ps) → cutBuffer f c id out ≡ out
+    kept h = rw (q, lt-leb (length (flat ps)) (length out) h)
+
+    else : length (flat ps) ≤ length out → cutOf f c id (length out) ≡ Pieces (length ps) (length (flat ps))
+    else h = rw (q, le-leb (length (flat ps)) (length out) h)
+
+-- ---- joining's answers
+
+pub restored : (b : Notebook) (qs : List (List ℕ)) (to : List ℕ) → joinFile (flat qs) ≡ ok (canonicalBytes b) → Restored b qs to
+unfolding joinOf joinBuffer
+restored b qs to e = record {
+  holds = λ h. (rw (e, le-leb (length (canonicalBytes b)) (length to) h), rw (e, le-leb (length (canonicalBytes b)) (length to) h));
+  short = λ h. (rw (e, lt-leb (length (canonicalBytes b)) (length to) h), rw (e, lt-leb (length (canonicalBytes b)) (length to) h));
+}
+
+pub joins-back : (f : List ℕ) (b : Notebook) (c : ℕ) (id out : List ℕ) → readFile f ≡ ok b → (n t : ℕ) → cutOf f c id (length out) ≡ Pieces n t
+    → (ps qs : List (List ℕ)) → ListIn (cutBuffer f c id out) n t ps → Perm ps qs → (to : List ℕ) → Restored b qs to
+joins-back f b c id out e n t h ps qs i m to =
+    let w : Wrote f b c id e out n t = wrote f b c id e out n t h in
+    let s : Sound f c (w .list) = sound f id b c e (w .found .valid) (w .list) (w .found .is) in
+    let q : ps ≡ w .list = pieces-once ps (w .list) (i .whole) (s .pieces) (sym (i .bytes) ∙ w .front) in
+    restored b qs to (restores f id b c e (w .found .valid) (w .list) qs (w .found .is) (subst (λ (z : List (List ℕ)). Perm z qs) q m))

@@ -1,0 +1,89 @@
+-- Every case of specs/Cases.antt holds, by the definitions that the contracts cite. The files of the cases of cutting are read first, each once;
+-- the list is then one computation. Assumes nothing.
+use Prim.Native.Nat.{ℕ, zero, suc}
+use mathlib.Core.Path.{_≡_, refl, ap, _∙_}
+use mathlib.Core.Bool.{false, cond}
+use mathlib.Core.List.{List, [], _∷_}
+use lib.Dec.{T}
+use lib.ListN.{length}
+use Rattle.lists.specs.Lists.{bytes, Res, ok, refused}
+use Rattle.digits.specs.Digits.{spell}
+use Rattle.characters.specs.Rows.{isLine}
+use Rattle.calendar.specs.Digits.{numberFrom}
+use Rattle.eras.specs.Day.{leap, monthLength, isReal, isDay}
+use Rattle.calendar.specs.Day.{gregorian}
+use Rattle.eras.specs.Era.{eraOf, eraOn, writeDay}
+use Rattle.calendar.specs.Era.{inEra, fromEra, readDay}
+use Rattle.records.specs.Split.{joined}
+use Rattle.records.specs.Table.{table}
+use Rattle.records.specs.Items.{text, day, edge, oneWidth, decimal, sized, fault, value}
+use Rattle.records.specs.Records.{Record, itemFault, itemValue, itemsFault, itemsValue, rowIn, rowOf, pairs, t911, recordFrom, faultFrom, faultWhere, lineFault, recordOf, header, write}
+use Rattle.rules.specs.Places.{inGroup, mayFollow}
+use Rattle.rules.specs.Rules.{pairBroken, misplaced, closesRp, lacking, missing, valueWrong, newerGroup, refusal, unfinished}
+use Rattle.order.specs.State.{none, start, hadAfter, advance, refusalOf, stepOf, finishOf}
+use Rattle.notebook.specs.Facts.{factsOf}
+use Rattle.notebook.specs.Notebook.{Notebook, stepLine, closed, onward, recordsFrom, readRows, readFile}
+use Rattle.notebook.specs.Check.{count, checkOf}
+use Rattle.notebook.specs.Canonical.{recordRows, canonicalBytes, canonicalOf}
+use Rattle.packing.specs.Packing.{total, put}
+use Rattle.packing.specs.Widths.{Plan, past, digitsOf, over, serves}
+use Rattle.packing.proofs.Computed.{packed, tried, planned, plan-is}
+use Rattle.division.specs.Marks.{validID, markLine, markRow}
+use Rattle.replies.specs.declared.Cutting.{Cutting}
+use Rattle.replies.specs.declared.Cutting.the-variants.{Pieces, Refused}
+use Rattle.division.specs.Cut.{pieceBytes, numbered, planned as piecesOf, cutting, listed, found, cutList, held, cutOf}
+use Rattle.division.specs.Cases.{withNotes, cases, allHold}
+
+-- ---- the files of the cases of cutting, read
+
+notes : ℕ → List Record
+notes zero = []
+notes (suc n) = record { number = 4; values = text (bytes "x") ∷ text [] ∷ text (bytes "2") ∷ [] } ∷ notes n
+
+-- record 1, with n records 4
+book : ℕ → Notebook
+book n = record {
+  provider = false;
+  records = record {
+    number = 1;
+    values = text (bytes "A") ∷ text (bytes "1") ∷ day 19890108 ∷ text [] ∷ text [] ∷ text [] ∷ text [] ∷ text [] ∷ text [] ∷ text [] ∷ [];
+  } ∷ notes n;
+}
+
+abbrev Read : ℕ → Type 0
+Read n = readFile (withNotes n) ≡ ok (book n)
+
+reads : Read 20 × Read 18 × Read 2
+unfolding notes book bytes spell isLine numberFrom leap monthLength isReal isDay gregorian eraOf eraOn inEra fromEra readDay writeDay table edge oneWidth decimal sized fault value itemFault itemValue itemsFault itemsValue rowIn rowOf pairs t911 recordFrom faultFrom faultWhere lineFault recordOf header inGroup mayFollow pairBroken misplaced closesRp lacking missing valueWrong newerGroup refusal unfinished none start hadAfter advance refusalOf stepOf finishOf factsOf stepLine closed onward recordsFrom readRows readFile
+reads = (refl, refl, refl)
+
+-- ---- cut
+
+abbrev ident : List ℕ
+ident = bytes "20261115000001"
+
+-- the answer from the notebook on, of which only what is needed is computed
+abbrev answer : ℕ → Notebook → Cutting
+answer c b = held (cond (validID ident) (listed (piecesOf ident b (planned length c (recordRows (b .records))))) (refused 17 0)) 1000
+
+answered : (s : List ℕ) (b : Notebook) (c : ℕ) → readFile s ≡ ok b → cutOf s c ident 1000 ≡ answer c b
+unfolding cutOf cutList cutting
+answered s b c e =
+    ap (λ (r : Res Notebook). held (found ident c r) 1000) e
+    ∙ ap (λ (p : Plan (List ℕ)). held (cond (validID ident) (listed (piecesOf ident b p)) (refused 17 0)) 1000) (plan-is length c (recordRows (b .records)))
+
+abbrev Cut : ℕ → ℕ → Cutting → Type 0
+Cut n c r = cutOf (withNotes n) c ident 1000 ≡ r
+
+cut : (n c : ℕ) → Read n → Cut n c (answer c (book n))
+cut n c e = answered (withNotes n) (book n) c e
+
+cuts : Cut 20 69 (Pieces 6 404) × Cut 18 60 (Pieces 10 547) × Cut 18 59 (Refused 18 0) × Cut 2 51 (Pieces 1 51) × Cut 2 50 (Refused 18 0)
+unfolding notes book bytes spell eraOn inEra writeDay joined header write recordRows canonicalBytes total put packed past digitsOf over serves tried planned validID markLine markRow pieceBytes numbered t911
+cuts = (cut 20 69 (reads .0), cut 18 60 (reads .1), cut 18 59 (reads .1), cut 2 51 (reads .2), cut 2 50 (reads .2))
+
+-- ---- ALL CASES
+
+pub cases-hold : T (allHold cases)
+unfolding bytes spell isLine numberFrom leap monthLength isReal isDay gregorian eraOf eraOn inEra fromEra readDay writeDay table edge oneWidth decimal sized fault value itemFault itemValue itemsFault itemsValue rowIn rowOf pairs t911 recordFrom faultFrom faultWhere lineFault recordOf header inGroup mayFollow pairBroken misplaced closesRp lacking missing valueWrong newerGroup refusal unfinished none start hadAfter advance refusalOf stepOf finishOf factsOf stepLine closed onward recordsFrom readRows readFile count checkOf joined write recordRows canonicalBytes canonicalOf
+cases-hold = rw (cuts .4, cuts .3, cuts .2, cuts .1, cuts .0) tt

@@ -1,0 +1,11 @@
+pub mod AllExamples
+pub mod Chunks
+pub mod MarkLaws
+pub mod Bodies
+pub mod Orders
+pub mod Parts
+pub mod Own
+pub mod Fewest
+pub mod Answers
+pub mod Promises
+pub mod Cases

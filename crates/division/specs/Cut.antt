@@ -1,0 +1,71 @@
+-- The call cut. Document 01, "Cutting and joining": "Piece k is line 1, a run of canonical records, and 911,ID,n,k"; "Pieces are written one
+-- after another; the result holds their count and total length"; "Cutting: 1–16, 17, 18, 20".
+use Prim.Native.Nat.{ℕ, suc}
+use mathlib.Core.Bool.{Bool, true, false, cond}
+use mathlib.Core.Option.{Option, none, some}
+use mathlib.Core.List.{List, [], _∷_, _++_}
+use lib.Dec.{leb}
+use lib.ListN.{length, drop}
+use Rattle.lists.specs.Lists.{Res, ok, refused}
+use Rattle.characters.specs.Rows.{flat}
+use Rattle.notebook.specs.Notebook.{Notebook, readFile}
+use Rattle.notebook.specs.Canonical.{headRow, recordRows, canonicalBytes}
+use Rattle.packing.specs.Widths.{Plan, whole, split, fails, plan}
+use Rattle.division.specs.Marks.{validID, markRow}
+use Rattle.replies.specs.declared.Cutting.{Cutting}
+use Rattle.replies.specs.declared.Cutting.the-variants.{Pieces, Refused}
+
+-- ---- the pieces
+
+-- piece k of n
+unfoldable pub pieceBytes : Bool → List ℕ → ℕ → ℕ → List (List ℕ) → List ℕ
+pieceBytes provider id n k rs = headRow provider ++ (flat rs ++ markRow id n k)
+
+-- the runs as pieces k, k + 1, .. of n
+unfoldable pub numbered : Bool → List ℕ → ℕ → ℕ → List (List (List ℕ)) → List (List ℕ)
+numbered provider id n k [] = []
+numbered provider id n k (x ∷ xs) = pieceBytes provider id n k x ∷ numbered provider id n (suc k) xs
+
+-- "If the canonical file fits the capacity, it is the only piece. Otherwise the pieces number n"
+abbrev pub planned : List ℕ → Notebook → Plan (List ℕ) → Option (List (List ℕ))
+planned id b whole = some (canonicalBytes b ∷ [])
+planned id b (split xs) = some (numbered (b .provider) id (length xs) 1 xs)
+planned id b fails = none
+
+-- the list of pieces for an ID and a capacity, none where no width serves
+unfoldable pub cutting : List ℕ → ℕ → Notebook → Option (List (List ℕ))
+cutting id c b = planned id b (plan length c (recordRows (b .records)))
+
+-- ---- the answer, and the output at exit
+
+-- the list that is written, and its count; or a refusal. 17, then 18
+abbrev pub listed : Option (List (List ℕ)) → Res (List (List ℕ))
+listed none = refused 18 0
+listed (some ps) = ok ps
+
+abbrev pub found : List ℕ → ℕ → Res Notebook → Res (List (List ℕ))
+found id c (ok b) = cond (validID id) (listed (cutting id c b)) (refused 17 0)
+found id c (refused n line) = refused n line
+
+unfoldable pub cutList : List ℕ → ℕ → List ℕ → Res (List (List ℕ))
+cutList s c id = found id c (readFile s)
+
+-- then 20; room: the output's bytes
+abbrev pub held : Res (List (List ℕ)) → ℕ → Cutting
+held (ok ps) room = cond (leb (length (flat ps)) room) (Pieces (length ps) (length (flat ps))) (Refused 20 0)
+held (refused n line) room = Refused n line
+
+unfoldable pub cutOf : List ℕ → ℕ → List ℕ → ℕ → Cutting
+cutOf s c id room = held (cutList s c id) room
+
+abbrev pub bytesOf : Res (List (List ℕ)) → List ℕ
+bytesOf (ok ps) = flat ps
+bytesOf (refused n line) = []
+
+-- "Bytes past a written result keep their contents"
+abbrev pub bufferAfter : Cutting → List ℕ → List ℕ → List ℕ
+bufferAfter (Pieces n t) w d = w ++ drop (length w) d
+bufferAfter (Refused n line) w d = d
+
+unfoldable pub cutBuffer : List ℕ → ℕ → List ℕ → List ℕ → List ℕ
+cutBuffer s c id d = bufferAfter (cutOf s c id (length d)) (bytesOf (cutList s c id)) d

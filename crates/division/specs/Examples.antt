@@ -1,0 +1,115 @@
+-- Worked examples of cutting and joining, written from document 01: records 911, inputs of joining with what is joined or refused, and the
+-- refusals of cutting. proofs/AllExamples.antt computes them. The marked cases are in Cases.antt.
+use Prim.Native.Nat.{ℕ}
+use mathlib.Core.Option.{Option, none, some}
+use mathlib.Core.List.{List, [], _∷_, _++_}
+use Rattle.lists.specs.Lists.{bytes, Res, ok, refused}
+use Rattle.characters.specs.Rows.{lineEnd, endMark}
+use Rattle.replies.specs.declared.Cutting.{Cutting}
+use Rattle.replies.specs.declared.Cutting.the-variants.{Pieces, Refused}
+use Rattle.division.specs.Marks.{Mark}
+
+-- each line with its line end
+abbrev pub lines : List (List ℕ) → List ℕ
+lines [] = []
+lines (l ∷ ls) = l ++ lineEnd ++ lines ls
+
+abbrev pub ident : List ℕ
+ident = bytes "20261115000001"
+
+-- ---- records 911: "911,ID,n,k with no leading zeros in n and k"; "n and k have one to three digits"
+
+abbrev pub mark : ℕ → ℕ → Option Mark
+mark n k = some (record { ident = ident; count = n; place = k })
+
+abbrev pub markLines : List (List ℕ)
+markLines =
+    bytes "911,20261115000001,12,3"
+    ∷ bytes "911,20261115000001,012,003"
+    ∷ bytes "911,20261115000001,999,100"
+    ∷ bytes "911,20261115000001,1000,1"
+    ∷ bytes "911,20261115000001,2"
+    ∷ bytes "911,20261115000001,2,1,"
+    ∷ bytes "911,2026111500001,2,1"
+    ∷ bytes "911,2026111500000x,2,1"
+    ∷ []
+
+abbrev pub theirMarks : List (Option Mark)
+theirMarks = mark 12 3 ∷ mark 12 3 ∷ mark 999 100 ∷ none ∷ none ∷ none ∷ none ∷ none ∷ []
+
+-- ---- joining
+
+abbrev pub first : List ℕ
+first = lines (bytes "JAHISTC04,2" ∷ bytes "1,A,1,19890108,,,,,,," ∷ bytes "911,20261115000001,2,1" ∷ [])
+
+abbrev pub second : List ℕ
+second = lines (bytes "JAHISTC04,2" ∷ bytes "4,x,,2" ∷ bytes "911,20261115000001,2,2" ∷ [])
+
+abbrev pub whole : List ℕ
+whole = lines (bytes "JAHISTC04,2" ∷ bytes "1,A,1,19890108,,,,,,," ∷ bytes "4,x,,2" ∷ [])
+
+abbrev pub inputs : List (List ℕ)
+inputs =
+    -- "pieces in any order, an optional 1Ah after each"; "n (.. value)"
+    (first ++ second)
+    ∷ (second ++ first)
+    ∷ (first ++ endMark ++ second ++ endMark)
+    ∷ (lines (bytes "JAHISTC04,2" ∷ bytes "1,A,1,19890108,,,,,,," ∷ bytes "911,20261115000001,002,001" ∷ []) ++ second)
+    -- "one piece without a record 911"
+    ∷ whole
+    ∷ (whole ++ endMark)
+    -- 19: a piece is missing, one too many, one twice
+    ∷ first
+    ∷ (first ++ second ++ second)
+    ∷ (first ++ first)
+    -- 19: another ID, another line 1, another n
+    ∷ (first ++ lines (bytes "JAHISTC04,2" ∷ bytes "4,x,,2" ∷ bytes "911,20261115000002,2,2" ∷ []))
+    ∷ (first ++ lines (bytes "JAHISTC04,1" ∷ bytes "4,x,,2" ∷ bytes "911,20261115000001,2,2" ∷ []))
+    ∷ (first ++ lines (bytes "JAHISTC04,2" ∷ bytes "4,x,,2" ∷ bytes "911,20261115000001,3,2" ∷ []))
+    -- 19: a set of one; a 911 that is not the last line; a 911 without items; a line before the first piece
+    ∷ lines (bytes "JAHISTC04,2" ∷ bytes "1,A,1,19890108,,,,,,," ∷ bytes "911,20261115000001,1,1" ∷ [])
+    ∷ (lines (bytes "JAHISTC04,2" ∷ bytes "911,20261115000001,2,1" ∷ bytes "1,A,1,19890108,,,,,,," ∷ []) ++ second)
+    ∷ lines (bytes "JAHISTC04,2" ∷ bytes "1,A,1,19890108,,,,,,," ∷ bytes "911" ∷ [])
+    ∷ (lines (bytes "4,x,,2" ∷ []) ++ first ++ second)
+    -- 2: empty input, 1Ah alone, a 1Ah that is after no piece
+    ∷ []
+    ∷ endMark
+    ∷ (endMark ++ first ++ second)
+    -- "it is then checked as a file": an empty text is 8, in line 3 of the joined file
+    ∷ (first ++ lines (bytes "JAHISTC04,2" ∷ bytes "4,,,2" ∷ bytes "911,20261115000001,2,2" ∷ []))
+    ∷ []
+
+abbrev pub theirFiles : List (Res (List ℕ))
+theirFiles =
+    ok whole ∷ ok whole ∷ ok whole ∷ ok whole ∷ ok whole ∷ ok whole
+    ∷ refused 19 0 ∷ refused 19 0 ∷ refused 19 0
+    ∷ refused 19 0 ∷ refused 19 0 ∷ refused 19 0
+    ∷ refused 19 0 ∷ refused 19 0 ∷ refused 19 0 ∷ refused 19 0
+    ∷ refused 2 1 ∷ refused 2 1 ∷ refused 2 1
+    ∷ refused 8 3
+    ∷ []
+
+-- ---- cutting: "Cutting: 1–16, 17, 18, 20"
+
+pub record Asked : Type 0 where
+  pub file : List ℕ
+  pub capacity : ℕ
+  pub id : List ℕ
+  pub room : ℕ
+
+abbrev pub ask : List ℕ → ℕ → List ℕ → ℕ → Asked
+ask s c i room = record { file = s; capacity = c; id = i; room = room }
+
+-- its canonical file has 43 bytes
+abbrev pub asked : List Asked
+asked =
+    ask whole 43 ident 43
+    ∷ ask whole 43 ident 42
+    ∷ ask whole 42 ident 0
+    ∷ ask whole 42 (bytes "2026111500001") 0
+    ∷ ask whole 43 (bytes "2026111500000x") 43
+    ∷ ask (lines (bytes "JAHISTC04,2" ∷ [])) 43 (bytes "1") 43
+    ∷ []
+
+abbrev pub theirAnswers : List Cutting
+theirAnswers = Pieces 1 43 ∷ Refused 20 0 ∷ Refused 18 0 ∷ Refused 17 0 ∷ Refused 17 0 ∷ Refused 14 2 ∷ []

@@ -1,0 +1,2 @@
+pub mod RowsOf
+pub mod FaultLaws

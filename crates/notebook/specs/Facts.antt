@@ -1,0 +1,39 @@
+-- What the order of records looks at in a record. Document 01, "Order of records" and "Pairs" name these and no
+-- others, so a respelled file takes the same steps.
+use Prim.Native.Nat.{ℕ}
+use mathlib.Core.Bool.{cond, not, _&&_}
+use lib.Dec.{eqb}
+use Rattle.digits.specs.Short.{plainNumber}
+use Rattle.order.specs.declared.Facts.{Facts}
+use Rattle.records.specs.Items.{Value, text, num, day}
+use Rattle.records.specs.Records.{Record, nth, isEmpty}
+
+-- the value of kind R, 0 for any other
+abbrev pub numOf : Value → ℕ
+numOf (text s) = 0
+numOf (num n) = n
+numOf (day n) = 0
+
+-- the day of kind D, 0 for any other
+abbrev pub dayOf : Value → ℕ
+dayOf (text s) = 0
+dayOf (num n) = 0
+dayOf (day n) = n
+
+-- the number that the bytes spell, 0 where they spell none
+abbrev pub spelled : Value → ℕ
+spelled (text s) = plainNumber s
+spelled (num n) = 0
+spelled (day n) = 0
+
+-- rp: the first item, where it is an R (201 to 391); day: the first item, where it is a D (5); schedule: the third item of an 11
+-- (15-106 3.2.9: fee schedule); form: the fifth item of a 301; named: a 301's second item, the usage name, is not empty
+unfoldable pub factsOf : Record → Facts
+factsOf r = record {
+  number = r .number;
+  rp = numOf (nth (r .values) 1);
+  day = dayOf (nth (r .values) 1);
+  schedule = cond (eqb (r .number) 11) (spelled (nth (r .values) 3)) 0;
+  form = cond (eqb (r .number) 301) (spelled (nth (r .values) 5)) 0;
+  named = eqb (r .number) 301 && not (isEmpty (nth (r .values) 2));
+}

@@ -1,0 +1,91 @@
+-- The call index. Document 01, "Index": "Six u32 per record after line 1"; its refusals are check's, then 20. What a refusal leaves in
+-- the buffer: all of it. What lies behind the written numbers stays as well.
+use Prim.Native.Nat.{ℕ, _+_, _*_}
+use mathlib.Core.Bool.{Bool, cond, true}
+use mathlib.Core.List.{List, [], _∷_, _++_}
+use lib.Dec.{leb}
+use lib.ListN.{length, drop}
+use Rattle.lists.specs.Lists.{same, Res, ok, refused}
+use Rattle.characters.specs.Text.{text}
+use Rattle.characters.specs.Rows.{rows, isLine}
+use Rattle.records.specs.Records.{recordOf, header}
+use Rattle.order.specs.declared.State.{State}
+use Rattle.order.specs.declared.Moved.{Moved}
+use Rattle.order.specs.declared.Moved.the-variants.{Refused as StepRefused, On}
+use Rattle.order.specs.State.{start, groupOf, drugOf}
+use Rattle.buffers.specs.Buffers.{six}
+use Rattle.notebook.specs.Notebook.{Notebook, stepLine, readFile}
+use Rattle.replies.specs.declared.Indexed.{Indexed}
+use Rattle.replies.specs.declared.Indexed.the-variants.{Written, Refused}
+
+-- ---- the entry of a record
+
+pub record Entry : Type 0 where
+  -- "record number"
+  pub number : ℕ
+  -- "offset in the file from 0"
+  pub offset : ℕ
+  -- "bytes without line end"
+  pub bytes : ℕ
+  -- "group ordinal (0 outside groups; 1 first)"
+  pub group : ℕ
+  -- "line of the last preceding 55 in the group for 201–391 (else 0)"
+  pub doctor : ℕ
+  -- "line of the last preceding 201 for 281 and 291 (else 0)"
+  pub drug : ℕ
+
+-- the line l at an offset, with the state that its record moved the reader to and the doctor that the step handed back
+unfoldable pub entryOf : ℕ → List ℕ → State → ℕ → Entry
+entryOf offset l st doctor = record {
+  number = (recordOf l) .number;
+  offset = offset;
+  bytes = length l;
+  group = groupOf st;
+  doctor = doctor;
+  drug = drugOf st;
+}
+
+-- ---- the entries of a file: one for each record, up to the first that is refused
+
+unfoldable pub entered : ℕ → List ℕ → (State → List Entry) → Moved → List Entry
+entered offset l k (StepRefused n) = []
+entered offset l k (On st rp doctor) = entryOf offset l st doctor ∷ k st
+
+unfoldable pub entriesFrom : State → ℕ → List (List ℕ) → List Entry
+entriesFrom st offset [] = []
+entriesFrom st offset (r ∷ rs) = cond (isLine r) (entered offset (text r) (λ t. entriesFrom t (offset + length r) rs) (stepLine st (text r))) []
+
+-- "per record after line 1"
+unfoldable pub entriesBehind : List (List ℕ) → List Entry
+entriesBehind [] = []
+entriesBehind (r ∷ rs) = cond (isLine r) (entriesFrom (start (same (text r) (header true))) (length r) rs) []
+
+unfoldable pub entriesOf : List ℕ → List Entry
+entriesOf s = entriesBehind (rows s)
+
+-- ---- as numbers: "Six u32 per record"
+
+unfoldable pub numbers : List Entry → List ℕ
+numbers [] = []
+numbers (e ∷ es) = six (e .number) (e .offset) (e .bytes) (e .group) (e .doctor) (e .drug) ++ numbers es
+
+unfoldable pub numbersOf : List ℕ → List ℕ
+numbersOf s = numbers (entriesOf s)
+
+-- ---- the answer, and the buffer at exit
+
+-- "Index and canonical: 1–16, then 20"; "output can't hold the whole"; "Numbers 17–20 have line 0". room: how many numbers the buffer has
+abbrev pub indexed : Res Notebook → ℕ → Indexed
+indexed (ok b) room = cond (leb (6 * length (b .records)) room) (Written (length (b .records))) (Refused 20 0)
+indexed (refused n line) room = Refused n line
+
+unfoldable pub indexOf : List ℕ → ℕ → Indexed
+indexOf s room = indexed (readFile s) room
+
+-- "Bytes past a written result keep their contents"
+abbrev pub bufferAfter : Indexed → List ℕ → List ℕ → List ℕ
+bufferAfter (Written n) w d = w ++ drop (length w) d
+bufferAfter (Refused n line) w d = d
+
+unfoldable pub indexBuffer : List ℕ → List ℕ → List ℕ
+indexBuffer s d = bufferAfter (indexOf s (length d)) (numbersOf s) d

@@ -1,0 +1,4 @@
+pub mod GoingOn
+pub mod Spelled
+pub mod TooLate
+pub mod PrefixLaws

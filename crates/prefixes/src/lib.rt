@@ -1,0 +1,1 @@
+// What can follow the lines before a refused one. Claims (specs/) and their proofs, no code.

@@ -1,0 +1,32 @@
+use borrow.Author.Needs.{needs}
+use Prim.Native.Nat.{_-_}
+use lib.ListN.{length}
+use Rattle.replies.proofs.cut_answer.Statement.{statement}
+use Rattle.replies.proofs.cut_answer.Tie as tie
+use Rattle.replies.proofs.cut_answer.Reads as reads
+use Rattle.replies.proofs.cut_answer.Lts as lts
+use Rattle.replies.proofs.accepted.Reads as accepted-reads
+use Rattle.replies.proofs.refused.Reads as refused-reads
+
+enum-known-p : tie.Need-enum-known-p
+enum-known-p c = search needs
+
+accepted-requires : tie.Need-accepted-requires
+accepted-requires c κs = search needs
+
+enum-known-p-2 : tie.Need-enum-known-p-2
+enum-known-p-2 c = search needs
+
+refused-requires : tie.Need-refused-requires
+refused-requires c κs = search needs
+
+returns : tie.Need-returns
+returns c = cc
+
+returns-2 : tie.Need-returns-2
+returns-2 c = cc
+
+pub cut-answer-spec : {M : Type 1} → statement M
+cut-answer-spec =
+    tie.close
+    (tie.spec enum-known-p accepted-requires enum-known-p-2 refused-requires returns returns-2)

@@ -1,0 +1,4 @@
+pub mod Places
+pub mod Questions
+pub mod Rules
+pub mod Examples

@@ -1,0 +1,4 @@
+pub mod PairLaws
+pub mod TextLaws
+pub mod LineLaws
+pub mod RunLaws

@@ -1,0 +1,21 @@
+use borrow.Author.Needs.{needs}
+use Rattle.scanning.proofs.row3_cell.Statement.{statement}
+use Rattle.scanning.proofs.row3_cell.Tie as tie
+use Rattle.scanning.proofs.row3_cell.Reads as reads
+use Rattle.scanning.proofs.row3_cell.Lts as lts
+use Rattle.scanning.proofs.within.Reads as within-reads
+
+within-requires : tie.Need-within-requires
+within-requires c κs = search needs
+
+within-requires-2 : tie.Need-within-requires-2
+within-requires-2 c κs = search needs
+
+within-requires-3 : tie.Need-within-requires-3
+within-requires-3 c κs = search needs
+
+returns : tie.Need-returns
+returns c = cc
+
+pub row3-cell-spec : {M : Type 1} → statement M
+row3-cell-spec = tie.close (tie.spec within-requires within-requires-2 within-requires-3 returns)

@@ -1,0 +1,51 @@
+-- What a scan finds, as the code answers it: the text from a position on, its commas and their places, and what stands where a row begins.
+use Prim.Native.Nat.{ℕ, _+_, _≤_, _<_}
+use mathlib.Core.Path.{_≡_}
+use mathlib.Core.Bool.{Bool, true}
+use mathlib.Core.List.{List, [], _∷_}
+use lib.ListN.{length, drop, getD}
+use Rattle.lists.specs.Lists.{part}
+use Rattle.characters.specs.Text.{allChars, text, commaCount, commasFrom}
+use Rattle.characters.specs.Rows.{rows, endMark, WholeLine, BrokenRow}
+use Rattle.scanning.specs.declared.Scan.{Scan}
+use Rattle.scanning.specs.declared.Line.{Line}
+use Rattle.scanning.specs.declared.Line.the-variants.{Whole, Mark, End, Broken}
+
+-- a list of places, as the code keeps it: the first sixteen commas of a line
+pub record Stops (l : List ℕ) (stops : List ℕ) : Type 0 where
+  pub here : (j : ℕ) → j < length (commasFrom 0 l) → j < 16 → getD stops j 0 ≡ getD (commasFrom 0 l) j 0
+
+-- the places are sixteen
+pub record Sixteen (stops : List ℕ) : Type 0 where
+  pub is : length stops ≡ 16
+
+-- what a scan from a position finds: where the text ends, whether it is characters, how many commas it has, and where
+pub record ScanOf (s : List ℕ) (at : ℕ) (stops : List ℕ) (r : Scan) : Type 0 where
+  pub ends : r .end ≡ at + length (text (drop at s))
+  pub chars : r .good ≡ allChars (text (drop at s))
+  pub commas : r .commas ≡ commaCount (text (drop at s))
+  pub places : Stops (text (drop at s)) stops
+  pub size : Sixteen stops
+
+-- from a to e stand characters, none of them a comma
+pub record RunOf (s : List ℕ) (a e : ℕ) : Type 0 where
+  pub low : a ≤ e
+  pub high : e ≤ length s
+  pub chars : allChars (part s a e) ≡ true
+  pub plain : commaCount (part s a e) ≡ 0
+
+-- a whole line with its n commas and their places
+pub record ScannedLine (s : List ℕ) (at : ℕ) (stops : List ℕ) (e : ℕ) (good : Bool) (n : ℕ) : Type 0 where
+  pub line : WholeLine s at e good
+  pub commas : n ≡ commaCount (part s at e)
+  pub places : Stops (part s at e) stops
+
+abbrev pub LineMeans : List ℕ → ℕ → List ℕ → Line → Type 0
+LineMeans s at stops (Whole e good n) = ScannedLine s at stops e good n
+LineMeans s at stops Mark = rows (drop at s) ≡ endMark ∷ []
+LineMeans s at stops End = rows (drop at s) ≡ []
+LineMeans s at stops Broken = BrokenRow (rows (drop at s))
+
+pub record LineOf (s : List ℕ) (at : ℕ) (stops : List ℕ) (r : Line) : Type 0 where
+  pub means : LineMeans s at stops r
+  pub size : Sixteen stops

@@ -1,0 +1,10 @@
+pub mod Computed
+pub mod Machine
+pub mod Steps
+pub mod Prescriptions
+pub mod Groups
+pub mod Open
+pub mod Backwards
+pub mod Verdict
+pub mod TreeIndexLaws
+pub mod Examples

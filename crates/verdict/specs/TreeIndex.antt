@@ -1,0 +1,40 @@
+-- What is claimed of the index: it is the one read off the tree of a file's records (grammar, specs/TreeRows.antt), and no two groups share a
+-- doctor. Names of proofs/TreeIndexLaws.antt have the types: `index-is-the-trees`, `tree-shares-none`, `no-shared-doctor`.
+use Prim.Native.Nat.{ℕ}
+use mathlib.Core.Path.{_≡_}
+use mathlib.Core.List.{List, _∷_, _++_, map}
+use Rattle.lists.specs.Lists.{ok}
+use Rattle.notebook.specs.Facts.{factsOf}
+use Rattle.notebook.specs.Notebook.{Notebook, readFile}
+use Rattle.notebook.specs.Index.{Entry, entriesOf}
+use Rattle.grammar.specs.Grammar.{Tree, records}
+use Rattle.grammar.specs.TreeRows.{Row, row, treeRows}
+
+abbrev pub rowOf : Entry → Row
+rowOf e = row (e .number) (e .group) (e .doctor) (e .drug)
+
+-- the entries of an accepted file are those of every tree of its records
+abbrev pub IndexIsTheTrees : Type 0
+IndexIsTheTrees = (s : List ℕ) (b : Notebook) (t : Tree) → readFile s ≡ ok b → records t ≡ map factsOf (b .records) → map rowOf (entriesOf s) ≡ treeRows t
+
+-- a row of the list
+pub data Among (x : Row) : List Row → Type 0 where
+  here : {ws : List Row} → Among x (x ∷ ws)
+  there : {w : Row} {ws : List Row} → Among x ws → Among x (w ∷ ws)
+
+-- in every tree two records under one doctor are of one group
+abbrev pub TreeSharesNone : Type 0
+TreeSharesNone =
+    (t : Tree) (x y : Row) → Among x (treeRows t) → Among y (treeRows t) → x .doctor ≡ y .doctor → (x .doctor ≡ 0 → ⊥) → x .group ≡ y .group
+
+-- an entry of the file
+pub record IsEntry (s : List ℕ) (e : Entry) : Type 0 where
+  pub ahead : List Entry
+  pub behind : List Entry
+  pub is : entriesOf s ≡ ahead ++ e ∷ behind
+
+-- and so in every accepted file
+abbrev pub NoSharedDoctor : Type 0
+NoSharedDoctor =
+    (s : List ℕ) (b : Notebook) → readFile s ≡ ok b → (x y : Entry) → IsEntry s x → IsEntry s y
+    → x .doctor ≡ y .doctor → (x .doctor ≡ 0 → ⊥) → x .group ≡ y .group
