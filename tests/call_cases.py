@@ -1,15 +1,14 @@
-"""The cases of index, canonical, cut and join, for the test program `calls`.
+"""The cases of index, canonical, cut and join, for the test program `cases`.
 
-make_cases.py calls write(). A case is a frame and the line that the program
-has to write for it: the reply and the whole buffer after the call. As in
-make_cases.py, the answers are written by hand or given by how a family is
+make_cases.py calls call_frames(). A case is a frame and the line that the
+program has to write for it: the reply and the whole buffer after the call. As
+in make_cases.py, the answers are written by hand or given by how a family is
 built, and the oracle has to agree with each. Only the cases made by told()
 have the oracle's own answer.
 """
 
 import collections
 import itertools
-import os
 import struct
 import sys
 import zlib
@@ -27,7 +26,6 @@ ANSWERED = ["index", "canonical", "cut", "join"]
 
 MOST_BYTES = 140000
 MOST_NUMBERS = 12000
-MOST_INPUT = 131200
 SHOWN = 200
 
 # The buffers before a call.
@@ -919,24 +917,17 @@ def shown(call, after):
 
 
 def packed(one):
-    label = one.label.encode("ascii")
-    assert len(label) < 100 and len(one.ident) < 256 and len(one.content) <= MOST_INPUT
+    assert len(one.label) < 100 and len(one.ident) < 256 and len(one.content) <= MOST_BYTES
     assert one.room <= (MOST_NUMBERS if one.call == "index" else MOST_BYTES)
-    return b"".join([
-        LETTERS[one.call].encode(), bytes([len(label)]), label, struct.pack(">I", one.room),
-        struct.pack(">Q", one.capacity), bytes([len(one.ident)]), one.ident,
-        struct.pack(">I", len(one.content)), one.content])
+    return make_cases.packed(
+        LETTERS[one.call], one.label, one.content, one.room, one.capacity, one.ident)
 
 
-def write(out_dir):
-    """make_cases.all_cases() has run."""
+def call_frames():
+    """Label, frame and answer of each case. make_cases.all_cases() has run."""
     for call in ANSWERED:
         FAMILIES[call]()
-    labels = collections.Counter(one.label for one in FRAMES)
-    twice = [label for label, n in labels.items() if n > 1]
-    assert twice == [], twice
-
-    stdin, stdout, disagreements = [], [], 0
+    frames, disagreements = [], 0
     for one in FRAMES:
         found = by_oracle(one.call, one.content, one.capacity, one.ident,
                           before(one.call, one.room))
@@ -946,14 +937,11 @@ def write(out_dir):
             print("%s: here %s, oracle %s%s" % (
                 one.label, one.answer, found[0],
                 "" if found[1] == one.after else ", another buffer"), file=sys.stderr)
-        stdin.append(packed(one))
-        stdout.append("%s: %s;%s\n" % (one.label, one.answer, shown(one.call, one.after)))
+        frames.append((one.label, packed(one), "%s;%s" % (one.answer, shown(one.call, one.after))))
     assert disagreements == 0
-    stdin, stdout = b"".join(stdin), "".join(stdout).encode("ascii")
-    make_cases.write(os.path.join(out_dir, "calls", "stdin"), stdin)
-    make_cases.write(os.path.join(out_dir, "calls", "stdout"), stdout)
     for call in ANSWERED:
         mine = [one for one in FRAMES if one.call == call]
         print("%s: %d cases, %d bytes, %d ok, %d with the oracle's answer" % (
-            call, len(mine), sum(len(packed(one)) for one in mine),
+            call, len(mine), sum(len(one.content) for one in mine),
             sum(one.answer.startswith("ok") for one in mine), sum(one.told for one in mine)))
+    return frames

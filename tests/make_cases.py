@@ -1,9 +1,10 @@
-"""Writes the input and the expected output of the test programs.
+"""Writes the input and the expected output of the test program `cases`.
 
     python3 make_cases.py OUT_DIR
 
-writes OUT_DIR/cases/stdin, OUT_DIR/cases/stdout and OUT_DIR/byte_pairs/stdout,
-and by way of call_cases.py OUT_DIR/calls/stdin and OUT_DIR/calls/stdout.
+writes OUT_DIR/cases/stdin and OUT_DIR/cases/stdout: the cases of check, which
+stand here, those of the other calls, which stand in call_cases.py, and the
+table of all pairs of bytes.
 
 The answers of the cases are written here by hand, one by one or by the way a
 family is built. The oracle has to agree with each; it does not make them.
@@ -13,6 +14,7 @@ as bytes.
 
 import collections
 import os
+import re
 import sys
 
 import oracle
@@ -1455,7 +1457,7 @@ def examples():
 
 
 # =============================================================================
-# Writing
+# All of them, and all pairs of bytes
 # =============================================================================
 
 
@@ -1472,9 +1474,8 @@ def answer_of_oracle(content):
 
 
 def byte_pairs():
-    """One line per first byte, one character per second byte."""
+    """One line per first byte, one sign per second byte."""
     head = to_provider(PATIENT)
-    signs = "0123456789ABCDEFG"
     rows = []
     for a in range(256):
         row = ""
@@ -1485,48 +1486,71 @@ def byte_pairs():
             if found[0] == "ok":
                 row += "."
             else:
-                row += signs[found[1]] if found[2] == 3 else "?"
+                row += str(found[1]) if found[2] == 3 else "?"
         rows.append(row)
     flat = "".join(rows)
     assert "?" not in flat and rows[0x0D][0x0A] == "7" and rows[0x0A][0x0D] == "2"
     assert set(flat) == set(".247")
-    return "".join(row + "\n" for row in rows)
+    return rows
 
 
-def write(path, content):
-    os.makedirs(os.path.dirname(path), exist_ok=True)
-    with open(path, "wb") as out:
-        out.write(content)
+# =============================================================================
+# Writing
+# =============================================================================
 
 
-def main(out_dir):
+def packed(letter, label, content=b"", room=0, capacity=0, ident=b""):
+    """The frame of a call: tests/README.md says what stands where."""
+    name = label.encode("ascii")
+    return b"".join([
+        letter.encode("ascii"), bytes([len(name)]), name, room.to_bytes(4, "big"),
+        capacity.to_bytes(8, "big"), bytes([len(ident)]), ident,
+        len(content).to_bytes(4, "big"), content])
+
+
+def check_frames():
+    """Label, frame and answer of each case of check."""
     all_cases()
-    labels = collections.Counter(label for label, _, _ in CASES)
-    assert [label for label, n in labels.items() if n > 1] == [], labels.most_common(5)
-
-    stdin, stdout, disagreements = [], [], 0
+    frames, disagreements = [], 0
     for label, content, answer in CASES:
-        name = label.encode("ascii")
-        assert 0 < len(name) < 80 and len(content) <= 65600
+        assert 0 < len(label) < 80 and len(content) <= 65600
         found = answer_of_oracle(content)
         if found != answer:
             disagreements += 1
             print("%s: here %s, oracle %s" % (label, answer, found), file=sys.stderr)
-        stdin.append(bytes([len(name)]) + name + len(content).to_bytes(4, "big") + content)
-        stdout.append(name + b": " + answer.encode("ascii") + b"\n")
+        frames.append((label, packed("v", label, content), answer))
     assert disagreements == 0
-    stdin, stdout = b"".join(stdin), b"".join(stdout)
-    assert len(stdin) < 1_500_000
-
-    write(os.path.join(out_dir, "cases", "stdin"), stdin)
-    write(os.path.join(out_dir, "cases", "stdout"), stdout)
-    write(os.path.join(out_dir, "byte_pairs", "stdout"), byte_pairs().encode("ascii"))
 
     counts = collections.Counter(
         "ok" if answer.startswith("ok") else int(answer.split()[1]) for _, _, answer in CASES)
     assert all(counts[number] >= 3 for number in range(1, 17))
-    print("%d cases, %d bytes: %d ok" % (len(CASES), len(stdin), counts.pop("ok")))
+    print("check: %d cases, %d bytes: %d ok" % (
+        len(CASES), sum(len(content) for _, content, _ in CASES), counts.pop("ok")))
     print(", ".join("%d: %d" % pair for pair in sorted(counts.items())))
+    return frames
+
+
+def pairs_frame():
+    """The one frame that asks for the table of all pairs of bytes."""
+    label = "byte pairs"
+    return (label, packed("p", label), "\n".join(["256 lines"] + byte_pairs()))
+
+
+def write(out_dir, frames):
+    """The program's input and what it has to write for it."""
+    stdin = b"".join(frame for _, frame, _ in frames)
+    stdout = "".join("%s: %s\n" % (label, answer) for label, _, answer in frames)
+    # A label is looked up as the start of a line: it may stand at the start of one only.
+    starts = collections.Counter(
+        line[: found.start()] for line in stdout.splitlines() for found in re.finditer(": ", line))
+    twice = [label for label, _, _ in frames if starts[label] != 1]
+    assert twice == [], twice
+    assert len(stdin) < 5_000_000
+    folder = os.path.join(out_dir, "cases")
+    os.makedirs(folder, exist_ok=True)
+    for name, content in (("stdin", stdin), ("stdout", stdout.encode("ascii"))):
+        with open(os.path.join(folder, name), "wb") as out:
+            out.write(content)
 
 
 if __name__ == "__main__":
@@ -1536,5 +1560,5 @@ if __name__ == "__main__":
     import call_cases
     import make_cases
 
-    make_cases.main(sys.argv[1])
-    call_cases.write(sys.argv[1])
+    checks = make_cases.check_frames()
+    make_cases.write(sys.argv[1], checks + call_cases.call_frames() + [make_cases.pairs_frame()])

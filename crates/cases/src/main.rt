@@ -1,69 +1,302 @@
-// The test program: cases from standard input, each answered on a line of its own as `label: answer`. A case is one byte, the length
-// of its label; the label; four bytes, the length of the file, big-endian; and the file. What the answers must be is in `stdout`, which
-// tests/make_cases.py wrote from document 01, without this code.
-ghost use Prim.Native.Nat.{_<_, _≤_};
+// The test program of the five calls: frames from standard input, each answered on standard output. What the answers must be is in
+// `stdout`, which tests/make_cases.py wrote from document 01, without this code.
+//
+// A frame, numbers big-endian: one byte, the call (v check, i index, c canonical, k cut, j join, p all pairs of bytes); one byte, the
+// length of the label; the label; four bytes, the elements of the buffer that is lent; eight bytes, the capacity; one byte, the length of
+// the ID; the ID; four bytes, the length of the input; the input. What a call does not take is not given to it.
+//
+// An answer starts with the label, a colon and a space.
+// - Check: its reply as notecheck writes it.
+// - Index, canonical, cut and join: the reply (`ok` and its values, or `no`, number and line), a semicolon, and the whole buffer as the call
+//   leaves it: bytes in hexadecimal, numbers in decimal, or, where it has more than 200 elements, their count and the Adler-32 sum of its
+//   bytes (of a number, four bytes, big-endian). The buffer is filled with a pattern before the call, so that an element that the call
+//   should have left alone shows.
+// - All pairs of bytes: `256 lines`, then a line for each first byte with a sign for each second one. The pair stands inside an item of
+//   line 3; the sign is `.` where check accepts the file, the refusal's digit where it refuses line 3, and `?` where it refuses another.
+ghost use Prim.Native.Nat.{_≤_};
 use libc::STDIN_FILENO;
 use libc::STDOUT_FILENO;
 
-fn wide(b: u8) -> usize
-    ensures { λ r. ⌜ r < 256 ⌝ }
-{
-    b as usize
+// --- reading and writing ---
+
+// At the end of the input every byte is 255, which is no call.
+fn read_byte() -> u8 {
+    let mut one = [255u8; 1];
+    io::read_full(STDIN_FILENO, &mut one);
+    one[0]
 }
 
-// The number that four bytes hold, or one past the longest file where it is more.
-fn length_of(b: &[u8; 4]) -> usize
-    ensures { λ r. ⌜ r ≤ 65601 ⌝ }
+fn read_two() -> u64
+    ensures { λ r. ⌜ r ≤ 65535 ⌝ }
 {
-    let high = wide(b[0]) * 256 + wide(b[1]);
-    let low = wide(b[2]) * 256 + wide(b[3]);
-    if 1 < high {
-        return 65601;
-    }
-    let n = high * 65536 + low;
-    if 65600 < n { 65601 } else { n }
+    let high = read_byte();
+    let low = read_byte();
+    high as u64 * 256 + low as u64
 }
 
-// One case: whether there was one.
-fn answer_case(label: &mut [u8], file: &mut [u8]) -> bool {
+fn read_four() -> u64
+    ensures { λ r. ⌜ r ≤ 4294967295 ⌝ }
+{
+    let high = read_two();
+    let low = read_two();
+    high * 65536 + low
+}
+
+fn read_eight() -> u64 {
+    let high = read_four();
+    let low = read_four();
+    high * 4294967296 + low
+}
+
+// Reads so many bytes to the front of the buffer, none where it has no room for them; how many it read.
+fn read_run(buf: &mut [u8], length: u64) -> usize
+    ensures { λ r. do ⌜ r ≤ (← ⟦buf.len()⟧ .entry) ⌝ }
+{
     let start = 0;
-    let mut size = [0u8; 1];
-    if io::read_full(STDIN_FILENO, &mut size) != 1 {
-        return false;
+    let end = length as usize;
+    if buf.len() < end {
+        return 0;
     }
-    let l = wide(size[0]);
-    if label.len() < l {
-        return false;
+    io::read_full(STDIN_FILENO, &mut buf[start..end])
+}
+
+fn write_byte(b: u8) {
+    let one = [b; 1];
+    io::write_all(STDOUT_FILENO, &one);
+}
+
+// --- the buffer before the call ---
+
+fn fill_bytes(out: &mut [u8]) {
+    let mut i: usize = 0;
+    while i < out.len() {
+        out[i] = ((i % 251 * 7 + 3) % 251) as u8;
+        i += 1;
     }
-    let told = io::read_full(STDIN_FILENO, &mut label[start..l]);
-    let mut four = [0u8; 4];
-    let got = io::read_full(STDIN_FILENO, &mut four);
-    let n = length_of(&four);
-    if file.len() < n {
-        return false;
+}
+
+fn fill_numbers(out: &mut [u32]) {
+    let mut i: usize = 0;
+    while i < out.len() {
+        out[i] = ((i % 1000003 * 7919 + 13) % 1000003) as u32;
+        i += 1;
     }
-    let read = io::read_full(STDIN_FILENO, &mut file[start..n]);
-    if (told != l) | (got != 4) | (read != n) {
-        return false;
+}
+
+// --- the buffer after the call ---
+
+// The Adler-32 sum (RFC 1950) with one more byte.
+fn adler(sum: u64, byte: u64) -> u64 {
+    let a = (sum % 65536 + byte % 256) % 65521;
+    let b = (sum / 65536 % 65536 + a) % 65521;
+    b * 65536 + a
+}
+
+// The sum with one more element; the element is written where the buffer has few.
+fn add_byte(sum: u64, element: u8, count: usize) -> u64 {
+    let n = element as u64;
+    if count <= 200 {
+        io::print_hex(STDOUT_FILENO, n, 2);
     }
+    adler(sum, n)
+}
+
+fn add_number(sum: u64, element: u32, count: usize) -> u64 {
+    let n = element as u64;
+    if count <= 200 {
+        answers::write_number(n);
+    }
+    let high = adler(adler(sum, n / 16777216), n / 65536);
+    adler(adler(high, n / 256), n)
+}
+
+// The space before bytes that are written; a number has its own.
+fn begin_bytes(count: usize) {
+    if (0 < count) & (count <= 200) {
+        write_byte(b' ');
+    }
+}
+
+fn end_buffer(sum: u64, count: usize) {
+    if 200 < count {
+        answers::write_number(count as u64);
+        write_byte(b' ');
+        io::print_hex(STDOUT_FILENO, sum, 8);
+    }
+    write_byte(b'\n');
+}
+
+fn write_bytes(out: &[u8]) {
+    begin_bytes(out.len());
+    let mut sum: u64 = 1;
+    let mut i: usize = 0;
+    while i < out.len() {
+        sum = add_byte(sum, out[i], out.len());
+        i += 1;
+    }
+    end_buffer(sum, out.len());
+}
+
+fn write_numbers(out: &[u32]) {
+    let mut sum: u64 = 1;
+    let mut i: usize = 0;
+    while i < out.len() {
+        sum = add_number(sum, out[i], out.len());
+        i += 1;
+    }
+    end_buffer(sum, out.len());
+}
+
+// --- the reply ---
+
+// Fields that the reply does not use are 0; where one is not, an exclamation mark shows it.
+fn write_values(word: &[u8], first: u64, second: u64, two: bool, unused: u64) {
+    io::write_all(STDOUT_FILENO, word);
+    answers::write_number(first);
+    if two {
+        answers::write_number(second);
+    }
+    if unused != 0 {
+        write_byte(b'!');
+    }
+    write_byte(b';');
+}
+
+// Only cut has a second value, the bytes of its pieces, which is never 0.
+fn write_reply(r: replies::Reply) {
+    if r.refusal == 0 {
+        write_values(b"ok", r.a, r.b, r.b != 0, r.c | r.line);
+    } else {
+        write_values(b"no", r.refusal, r.line, true, r.a | r.b | r.c);
+    }
+}
+
+// --- the calls with a lent buffer ---
+
+// Room for every input and result. As a function, so that a proof has the length from the type and does not count the zeros.
+fn bytes() -> [u8; 140000] {
+    [0u8; 140000]
+}
+
+fn index(input: &[u8], space: &mut [u32], room: usize) {
+    let start = 0;
+    if space.len() < room {
+        return;
+    }
+    let out = &mut space[start..room];
+    fill_numbers(out);
+    write_reply(gateway::notebook_index(input, out));
+    write_numbers(out);
+}
+
+fn lend_numbers(input: &[u8], room: usize) {
+    let mut space = [0u32; 12000];
+    index(input, &mut space, room);
+}
+
+fn reply_of(call: u8, input: &[u8], capacity: u64, id: &[u8], out: &mut [u8]) -> replies::Reply {
+    match call {
+        b'c' => gateway::notebook_canonical(input, out),
+        b'k' => gateway::notebook_cut(input, capacity, id, out),
+        _ => gateway::notebook_join(input, out),
+    }
+}
+
+fn rewrite(call: u8, input: &[u8], capacity: u64, id: &[u8], space: &mut [u8], room: usize) {
+    let start = 0;
+    if space.len() < room {
+        return;
+    }
+    let out = &mut space[start..room];
+    fill_bytes(out);
+    write_reply(reply_of(call, input, capacity, id, out));
+    write_bytes(out);
+}
+
+fn lend_bytes(call: u8, input: &[u8], capacity: u64, id: &[u8], room: usize) {
+    let mut space = bytes();
+    rewrite(call, input, capacity, id, &mut space, room);
+}
+
+// --- all pairs of bytes ---
+
+fn sign(r: replies::Reply) -> u8 {
+    if r.refusal == 0 {
+        return b'.';
+    }
+    if r.line != 3 {
+        return b'?';
+    }
+    (48 + r.refusal % 200) as u8
+}
+
+fn write_pair(n: usize) {
+    let mut file = *b"JAHISTC04,2\r\n1,A,1,19890108,,,,,,,\r\n4,x__x,,2\r\n";
+    file[39] = (n / 256 % 256) as u8;
+    file[40] = (n % 256) as u8;
+    write_byte(sign(gateway::notebook_check(&file)));
+    if n % 256 == 255 {
+        write_byte(b'\n');
+    }
+}
+
+fn write_pairs() {
+    io::write_all(STDOUT_FILENO, b"256 lines\n");
+    let mut n: usize = 0;
+    while n < 65536 {
+        write_pair(n);
+        n += 1;
+    }
+}
+
+// --- frames ---
+
+fn answer(call: u8, room: u64, capacity: u64, id: &[u8], input: &[u8]) {
+    match call {
+        b'v' => answers::write_check(gateway::notebook_check(input)),
+        b'i' => lend_numbers(input, room as usize),
+        b'p' => write_pairs(),
+        _ => lend_bytes(call, input, capacity, id, room as usize),
+    }
+}
+
+fn copy_label(label: &mut [u8]) {
+    let start = 0;
+    let l = read_run(label, read_byte() as u64);
     io::write_all(STDOUT_FILENO, &label[start..l]);
-    io::write_all(STDOUT_FILENO, b": ");
-    answers::write_check(gateway::notebook_check(&file[start..n]));
+    write_byte(b':');
+    write_byte(b' ');
+}
+
+// The part of a frame behind its label.
+fn answer_rest(call: u8, id: &mut [u8], input: &mut [u8]) {
+    let start = 0;
+    let room = read_four();
+    let capacity = read_eight();
+    let i = read_run(id, read_byte() as u64);
+    let n = read_run(input, read_four());
+    answer(call, room, capacity, &id[start..i], &input[start..n]);
+}
+
+// One frame: whether there was one.
+fn next_frame() -> bool {
+    let call = read_byte();
+    if call == 255 {
+        return false;
+    }
+    let mut short = [0u8; 255];
+    let mut long = bytes();
+    copy_label(&mut short);
+    answer_rest(call, &mut short, &mut long);
     true
 }
 
-fn next_case() -> bool {
-    let mut label = [0u8; 256];
-    let mut file = [0u8; 65600];
-    answer_case(&mut label, &mut file)
-}
-
 fn main() {
-    let mut cases: usize = 0;
-    while cases < 100000 {
-        if !next_case() {
+    let mut frames: usize = 0;
+    while frames < 100000 {
+        if !next_frame() {
             return;
         }
-        cases += 1;
+        frames += 1;
     }
 }

@@ -6,25 +6,25 @@ use Rattle.cases.proofs.main.Statement.{statement}
 use Rattle.cases.proofs.main.Tie as tie
 use Rattle.cases.proofs.main.Reads as reads
 use Rattle.cases.proofs.main.Lts as lts
-use Rattle.cases.proofs.next_case.Reads as next-case-reads
+use Rattle.cases.proofs.next_frame.Reads as next-frame-reads
 
 abbrev Inv-loop : tie.InvT-loop
-Inv-loop cases₀ cases = cases ≤ 100000
+Inv-loop frames₀ frames = frames ≤ 100000
 
 abbrev μ-loop : tie.MeasureT-loop
-μ-loop cases₀ cases = 100000 - cases
+μ-loop frames₀ frames = 100000 - frames
 
 loop-holds : tie.Need-loop-holds Inv-loop μ-loop
 loop-holds c = search needs
 
-next-case-requires : tie.Need-next-case-requires Inv-loop μ-loop
-next-case-requires c κs = search needs
+next-frame-requires : tie.Need-next-frame-requires Inv-loop μ-loop
+next-frame-requires c κs = search needs
 
 returns : tie.Need-returns Inv-loop μ-loop
 returns c = search needs
 
-add-cases : tie.Need-add-cases Inv-loop μ-loop
-add-cases c = search needs
+add-frames : tie.Need-add-frames Inv-loop μ-loop
+add-frames c = search needs
 
 loop-less : tie.Need-loop-less Inv-loop μ-loop
 loop-less c = search needs
@@ -42,9 +42,9 @@ main-spec =
     Inv-loop
     μ-loop
     loop-holds
-    next-case-requires
+    next-frame-requires
     returns
-    add-cases
+    add-frames
     loop-less
     loop-again
     returns-2)

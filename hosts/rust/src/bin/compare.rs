@@ -1,13 +1,13 @@
 //! Runs the ordinary checker on frames, or compares the ordinary implementation with the gateway library.
 //!
-//! `compare` reads frames from standard input to its end (one byte label length, the label, four bytes content length,
-//! highest first, the content) and prints `label: ok R G D` or `label: no N L` for each.
+//! `compare` reads the frames of `crates/cases` from standard input to their end (tests/README.md) and prints
+//! `label: ok R G D` or `label: no N L` for each frame of check; it passes over those of other calls.
 //! `compare --against-library SEED COUNT` gives inputs near every rule to both, in every call, and prints the first
 //! differences. A run of 20,000 inputs or more fails too if a call has not given a refusal that it can give, or a reason for
 //! 19 has not occurred.
 //! `compare --minutes SEED MINUTES` is the same for so many minutes. Both tell their progress on standard error.
 //! `compare --seeds FOLDER` writes short inputs into a folder, for `fuzz/run` to begin with.
-//! `compare --frames SEED COUNT` writes the files of such a run as frames to standard output.
+//! `compare --frames SEED COUNT` writes the files of such a run as frames of check to standard output.
 
 use notebook_hosts::comparison::Comparison;
 use notebook_hosts::damage::Damage;
@@ -57,9 +57,11 @@ fn check_frames() -> Result<ExitCode, String> {
     let mut output = BufWriter::new(io::stdout().lock());
     let mut rest = &input[..];
     while !rest.is_empty() {
-        let (label, content, after) = frame(rest).ok_or("the last frame is cut short")?;
-        let label = String::from_utf8_lossy(label);
-        writeln!(output, "{label}: {}", told(ordinary::check(content))).map_err(failed)?;
+        let (call, label, content, after) = frame(rest).ok_or("the last frame is cut short")?;
+        if call == CHECK {
+            let label = String::from_utf8_lossy(label);
+            writeln!(output, "{label}: {}", told(ordinary::check(content))).map_err(failed)?;
+        }
         rest = after;
     }
     output.flush().map_err(failed)?;
@@ -73,13 +75,21 @@ fn told(answer: Result<Counts, Refusal>) -> String {
     }
 }
 
-/// Label and content of the first frame, and the bytes after it.
-fn frame(bytes: &[u8]) -> Option<(&[u8], &[u8], &[u8])> {
-    let (&length, rest) = bytes.split_first()?;
+/// The letter of check in a frame.
+const CHECK: u8 = b'v';
+
+/// Call, label and input of the first frame, and the bytes after it.
+fn frame(bytes: &[u8]) -> Option<(u8, &[u8], &[u8], &[u8])> {
+    let (&call, rest) = bytes.split_first()?;
+    let (&length, rest) = rest.split_first()?;
     let (label, rest) = rest.split_at_checked(usize::from(length))?;
+    // The buffer's length and the capacity, which check does not take; nor does it take an ID.
+    let (_, rest) = rest.split_at_checked(4 + 8)?;
+    let (&length, rest) = rest.split_first()?;
+    let (_, rest) = rest.split_at_checked(usize::from(length))?;
     let (length, rest) = rest.split_first_chunk::<4>()?;
-    let (content, rest) = rest.split_at_checked(u32::from_be_bytes(*length) as usize)?;
-    Some((label, content, rest))
+    let (input, rest) = rest.split_at_checked(u32::from_be_bytes(*length) as usize)?;
+    Some((call, label, input, rest))
 }
 
 fn write_frames(seed: u64, count: u64) -> Result<ExitCode, String> {
@@ -89,8 +99,9 @@ fn write_frames(seed: u64, count: u64) -> Result<ExitCode, String> {
     for index in 0..count {
         let file = damage.file(seed, index);
         let label = format!("{seed}-{index}");
-        output.write_all(&[label.len() as u8]).map_err(failed)?;
+        output.write_all(&[CHECK, label.len() as u8]).map_err(failed)?;
         output.write_all(label.as_bytes()).map_err(failed)?;
+        output.write_all(&[0; 4 + 8 + 1]).map_err(failed)?;
         output.write_all(&(file.len() as u32).to_be_bytes()).map_err(failed)?;
         output.write_all(&file).map_err(failed)?;
     }

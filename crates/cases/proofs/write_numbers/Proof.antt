@@ -1,18 +1,18 @@
 use borrow.Author.Needs.{needs}
 use Prim.Native.Nat.{_-_}
 use lib.ListN.{length}
-use Rattle.calls.proofs.sum_numbers.Statement.{statement}
-use Rattle.calls.proofs.sum_numbers.Tie as tie
-use Rattle.calls.proofs.sum_numbers.Reads as reads
-use Rattle.calls.proofs.sum_numbers.Lts as lts
-use Rattle.calls.proofs.Sums.add_number.Reads as add-number-reads
-use Rattle.calls.proofs.Sums.whole.Reads as whole-reads
+use Rattle.cases.proofs.write_numbers.Statement.{statement}
+use Rattle.cases.proofs.write_numbers.Tie as tie
+use Rattle.cases.proofs.write_numbers.Reads as reads
+use Rattle.cases.proofs.write_numbers.Lts as lts
+use Rattle.cases.proofs.add_number.Reads as add-number-reads
+use Rattle.cases.proofs.end_buffer.Reads as end-buffer-reads
 
 abbrev Inv-loop : tie.InvT-loop
-Inv-loop out sums₀ i₀ sums i = Unit {0}
+Inv-loop out sum₀ i₀ sum i = Unit {0}
 
 abbrev μ-loop : tie.MeasureT-loop
-μ-loop out sums₀ i₀ sums i = length out - i
+μ-loop out sum₀ i₀ sum i = length out - i
 
 loop-holds : tie.Need-loop-holds Inv-loop μ-loop
 loop-holds c = search needs
@@ -35,14 +35,14 @@ loop-less c = search needs
 loop-again : tie.Need-loop-again Inv-loop μ-loop
 loop-again c = search needs
 
-whole-requires : tie.Need-whole-requires Inv-loop μ-loop
-whole-requires c κs = search needs
+end-buffer-requires : tie.Need-end-buffer-requires Inv-loop μ-loop
+end-buffer-requires c κs = search needs
 
 returns : tie.Need-returns Inv-loop μ-loop
 returns c = search needs
 
-pub sum-numbers-spec : {M : Type 1} → statement M
-sum-numbers-spec =
+pub write-numbers-spec : {M : Type 1} → statement M
+write-numbers-spec =
     tie.close
     (tie.spec
     Inv-loop
@@ -54,5 +54,5 @@ sum-numbers-spec =
     add-i
     loop-less
     loop-again
-    whole-requires
+    end-buffer-requires
     returns)
