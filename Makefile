@@ -69,7 +69,7 @@ memcheck: target/c/test
 memcheck-rust: export CARGO_TARGET_X86_64_UNKNOWN_LINUX_GNU_RUNNER = $(VALGRIND) --quiet --error-exitcode=1
 memcheck-rust: $(LIBRARY)
 	cd hosts/rust && $(CARGO) test --offline -p notebook --lib --test cases
-	cd hosts/rust && $(CARGO) test --release --offline --test comparison
+	cd hosts/rust && $(CARGO) test --release --offline --lib comparison
 
 # The library is installed as libnotebook.a, after its header and its calls.
 install: all
