@@ -173,25 +173,18 @@ fn write_reply(r: replies::Reply) {
 
 // --- the calls with a lent buffer ---
 
-// Room for every input and result. As a function, so that a proof has the length from the type and does not count the zeros.
-fn bytes() -> [u8; 140000] {
-    [0u8; 140000]
-}
-
-fn index(input: &[u8], space: &mut [u32], room: usize) {
-    let start = 0;
-    if space.len() < room {
-        return;
-    }
-    let out = &mut space[start..room];
+fn index(input: &[u8], out: &mut [u32]) {
     fill_numbers(out);
     write_reply(gateway::notebook_index(input, out));
     write_numbers(out);
 }
 
 fn lend_numbers(input: &[u8], room: usize) {
+    let start = 0;
     let mut space = [0u32; 12000];
-    index(input, &mut space, room);
+    if room <= 12000 {
+        index(input, &mut space[start..room]);
+    }
 }
 
 fn reply_of(call: u8, input: &[u8], capacity: u64, id: &[u8], out: &mut [u8]) -> replies::Reply {
@@ -211,6 +204,12 @@ fn rewrite(call: u8, input: &[u8], capacity: u64, id: &[u8], space: &mut [u8], r
     fill_bytes(out);
     write_reply(reply_of(call, input, capacity, id, out));
     write_bytes(out);
+}
+
+// Room for every input and every result. It is a function of its own so that a proof has the length from the type: where the zeros
+// stand beside the part that is lent, the prover counts them, for seconds.
+fn bytes() -> [u8; 140000] {
+    [0u8; 140000]
 }
 
 fn lend_bytes(call: u8, input: &[u8], capacity: u64, id: &[u8], room: usize) {
