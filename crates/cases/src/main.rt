@@ -219,6 +219,7 @@ fn lend_bytes(call: u8, input: &[u8], capacity: u64, id: &[u8], room: usize) {
 
 // --- all pairs of bytes ---
 
+// 48 is the digit 0; the signs of 10 and more follow those of the digits.
 fn sign(r: replies::Reply) -> u8 {
     if r.refusal == 0 {
         return b'.';
