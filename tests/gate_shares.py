@@ -70,8 +70,12 @@ def seconds_of(pid):
 
 
 def children_of(pid):
-    with open("/proc/%d/task/%d/children" % (pid, pid), "rb") as opened:
-        return [int(word) for word in opened.read().split()]
+    """The processes that any of its threads started."""
+    found = []
+    for thread in os.listdir("/proc/%d/task" % pid):
+        with open("/proc/%d/task/%s/children" % (pid, thread), "rb") as opened:
+            found += [int(word) for word in opened.read().split()]
+    return found
 
 
 def look(pid, above, seen):
@@ -83,13 +87,16 @@ def look(pid, above, seen):
     for child in below:
         try:
             seconds, began = seconds_of(child)
-            part = part_of(words_of(child)) or above
+            words = words_of(child)
         except OSError:
             continue
-        if child != os.getpid():
-            # A process that becomes another command keeps its number and its seconds.
-            seen[(child, began)] = (part, seconds)
-            look(child, part, seen)
+        if child == os.getpid():
+            continue
+        # A process that becomes another command keeps its number and its seconds; one that has ended keeps them, but not its words.
+        key = (child, began)
+        part = part_of(words) or (seen[key][0] if key in seen and words == [""] else above)
+        seen[key] = (part, seconds)
+        look(child, part, seen)
 
 
 def watch(gate, file):
