@@ -23,24 +23,24 @@ def said_of(edit):
 
 
 def first_error(crate, label):
-    """The file and the declaration that the prover refused first; a function whose proof it makes itself where there is no such line."""
+    """The file and the declaration that the prover refused first, or a function for which it found no proof of its own making."""
     log = os.path.join(ROOT, "target", "must-fail", crate, label, ".log")
     try:
         with open(log, encoding="utf-8", errors="replace") as opened:
             text = opened.read()
     except OSError:
         sys.exit("edit_table: no %s; run rt ci first" % os.path.relpath(log, ROOT))
-    unproved = re.findall(r"^fn (?:\w+::)*([\w:]+): no proof", text, re.M)
-    if unproved:
-        return "`%s`: no proof is found for it" % unproved[0]
-    found = re.search(r"((?:specs|proofs|src)/\S+?):\d+:\d+: error(?:: `([^`]+)`)?", text)
-    return "%s%s" % (found.group(1), ", `%s`" % found.group(2) if found.group(2) else "") if found else "?"
+    found = re.search(r"((?:specs|proofs)/\S+?):\d+:\d+: error: `([^`]+)`(.*)", text)
+    unproved = re.search(r"^fn (?:\w+::)*(\w+): no proof", text, re.M)
+    if unproved and (not found or "was not admitted" in found.group(3)):
+        return "`%s`, no proof is found" % unproved.group(1)
+    return "%s, `%s`" % found.groups()[:2] if found else "?"
 
 
 def main():
     with open(os.path.join(ROOT, "crates.txt"), encoding="utf-8") as opened:
         crates = [line.split(":")[0] for line in opened if ":" in line and not line.startswith("#")]
-    lines = ["", "| what is wrong | edit | refused first |", "|---|---|---|"]
+    lines = ["", "| the sentence that it breaks, or what is wrong | edit | refused first |", "|---|---|---|"]
     for crate in crates:
         for edit in sorted(glob.glob(os.path.join(ROOT, "crates", crate, "must-fail", "*.edit"))):
             label = os.path.basename(edit)[:-5]
