@@ -8,8 +8,9 @@
 Seconds are user and system time as /proc tells them, read ten times a second from the outside, so that the gate's own commands stay as they
 are. What a process uses after the last look at it is not told: some hundredths of a second for each, and `report` says how much in all.
 
-Clocks and machines differ, so a part is compared with its kept figure times the machine's pace, which is the median of new / kept over the
-parts of a second or more; a part that grew by more than a tenth is a warning and no failure.
+Clocks and machines differ, and a machine's pace changes while the gate runs. So a part is compared with its kept figure times the pace of its
+kind (proofs come first, then edits, then programs), which is the median of new / kept over the parts of that kind that take a second or
+more. A part that grew by more than a tenth is a warning and no failure.
 """
 
 import os
@@ -125,14 +126,28 @@ def read(file):
     return {row[1].strip(): float(row[0]) for row in rows}
 
 
+def kind_of(part):
+    word = part.split()[0]
+    return word if word in ("proof", "edit", "program", "library", "host") else part
+
+
 def kinds(parts):
     """The seconds of each kind of part, and how many there are, the greatest first."""
     sums = {}
     for part, seconds in parts.items():
-        kind = part.split()[0] if part.split()[0] in ("proof", "edit", "program", "library", "host") else part
-        count, total = sums.get(kind, (0, 0))
-        sums[kind] = (count + 1, total + seconds)
+        count, total = sums.get(kind_of(part), (0, 0))
+        sums[kind_of(part)] = (count + 1, total + seconds)
     return sorted(sums.items(), key=lambda row: -row[1][1])
+
+
+def paces(now, kept):
+    """The pace of each kind that has five parts or more to tell it by, and of all parts under None; {} where nothing can be compared."""
+    ratios = {}
+    for part in kept:
+        if part in now and kept[part] >= 1:
+            for kind in (kind_of(part), None):
+                ratios.setdefault(kind, []).append(now[part] / kept[part])
+    return {kind: statistics.median(found) for kind, found in ratios.items() if kind is None or len(found) >= 5}
 
 
 def minutes(text):
@@ -152,20 +167,22 @@ def report(file, times):
     print("The ten dearest parts:")
     for part in sorted(now, key=lambda part: -now[part])[:10]:
         print("%8.1f  %2.0f%%  %s" % (now[part], 100 * now[part] / told, part))
-    ratios = [now[part] / kept[part] for part in kept if part in now and kept[part] >= 1]
-    if not ratios:
+    pace = paces(now, kept)
+    if not pace:
         print("No figures are kept to compare with (.ci/shares.txt)")
         return
-    pace = statistics.median(ratios)
-    print("Against the last landing (.ci/shares.txt, %.0f seconds), at this machine's pace of %.2f:" % (sum(kept.values()), pace))
-    grown = [part for part in kept if part in now and now[part] > kept[part] * pace * GREW and now[part] - kept[part] * pace >= LEAST]
-    for part in sorted(grown, key=lambda part: kept[part] * pace - now[part]):
-        print("  WARNING: %s grew: %.1f, was %.1f" % (part, now[part] / pace, kept[part]))
-    for part in sorted(set(now) - set(kept), key=lambda part: -now[part]):
-        print("  new: %s, %.1f" % (part, now[part] / pace))
+    # what the part would have taken at the last landing
+    then = {part: seconds / pace.get(kind_of(part), pace[None]) for part, seconds in now.items()}
+    shown = ", ".join("%s %.2f" % (kind or "all", pace[kind]) for kind in sorted(pace, key=str))
+    print("Against the last landing (.ci/shares.txt, %.0f seconds), at this machine's pace (%s):" % (sum(kept.values()), shown))
+    grown = [part for part in kept if part in then and then[part] > kept[part] * GREW and then[part] - kept[part] >= LEAST]
+    for part in sorted(grown, key=lambda part: kept[part] - then[part]):
+        print("  WARNING: %s grew: %.1f, was %.1f" % (part, then[part], kept[part]))
+    for part in sorted(set(now) - set(kept), key=lambda part: -then[part]):
+        print("  new: %s, %.1f" % (part, then[part]))
     for part in sorted(set(kept) - set(now), key=lambda part: -kept[part]):
         print("  gone: %s, was %.1f" % (part, kept[part]))
-    print("  in all %+.0f per cent" % (100 * (told / pace / sum(kept.values()) - 1)))
+    print("  in all %+.0f per cent" % (100 * (sum(then.values()) / sum(kept.values()) - 1)))
 
 
 def keep(file):
