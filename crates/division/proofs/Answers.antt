@@ -1,8 +1,8 @@
--- What cutting and joining answer of an accepted file by the output's size, and what they leave in the output. Assumes nothing.
+-- What canonical, cutting and joining answer of an accepted file by the output's size, and what they leave in the output. Assumes nothing.
 use Prim.Native.Nat.{ℕ, suc, _+_, _≤_, _<_}
 use native.Mathlib.Omega.{arith}
 use mathlib.Core.Path.{_≡_, refl, sym, ap, _∙_, subst}
-use mathlib.Core.Logic.{_↔_}
+use mathlib.Core.Logic.{_↔_, inl, inr}
 use mathlib.Core.Bool.{Bool, true, false, cond}
 use mathlib.Core.Option.{Option, none, some}
 use mathlib.Core.List.{List, _++_, map}
@@ -13,7 +13,7 @@ use lib.Seq.{take-at}
 use Rattle.lists.specs.Lists.{All, Res, ok, refused}
 use Rattle.characters.specs.Rows.{flat}
 use Rattle.notebook.specs.Notebook.{Notebook, readFile}
-use Rattle.notebook.specs.Canonical.{canonicalBytes}
+use Rattle.notebook.specs.Canonical.{canonicalBytes, canonicalOf, canonicalBuffer}
 use Rattle.division.specs.Marks.{validID}
 use Rattle.division.proofs.Chunks.{chunkBytes, chunks-once}
 use Rattle.replies.specs.declared.Cutting.{Cutting}
@@ -21,9 +21,9 @@ use Rattle.replies.specs.declared.Cutting.the-variants.{Pieces, Refused}
 use Rattle.division.specs.Cut.{cutting, listed, found, cutList, held, cutOf, cutBuffer}
 use Rattle.division.specs.Join.{joinFile, joinOf, joinBuffer}
 use Rattle.replies.specs.declared.Reply.{Reply}
-use Rattle.replies.specs.Replies.{refusal, result, cutReply, joinReply}
+use Rattle.replies.specs.Replies.{refusal, result, cutReply}
 use Rattle.division.specs.Orders.{Perm}
-use Rattle.division.specs.Demand.{OnePiece, ListIn, Sound, Written, Withheld, Restored}
+use Rattle.division.specs.Demand.{OnePiece, ListIn, Sound, Written, cutSays, Delivers, CanonicalFile, JoinedFile, Found, OneOfThree}
 use Rattle.division.proofs.Own.{sound, restores}
 use Rattle.division.proofs.Fewest.{Chunks, chunked, Listed, least}
 
@@ -64,6 +64,34 @@ numbered f b c id room e = rw e (valid (validID id))
     valid true = list (cutting id c b)
     valid false = omega arith
 
+-- ---- what a call has to write, by whether the output can hold it
+
+pub deliver : {says : List ℕ → Reply} {after : List ℕ → List ℕ} {r : Reply} {w : List ℕ} → r .refusal ≡ 0
+    → ((out : List ℕ) → leb (length w) (length out) ≡ true → (says out ≡ r) × (after out ≡ w ++ drop (length w) out))
+    → ((out : List ℕ) → leb (length w) (length out) ≡ false → (says out ≡ refusal 20 0) × (after out ≡ out))
+    → Delivers says after r w
+deliver {says} {after} {r} {w} z holds short = record {
+  withheld = λ out. (λ h. lacks out (leb (length w) (length out)) refl h, λ h. short out (lt-leb _ _ h) .0);
+  kept = λ out h. short out (lt-leb _ _ h) .1;
+  written = λ out h. holds out (le-leb _ _ h);
+}
+  where
+    lacks : (out : List ℕ) (x : Bool) → leb (length w) (length out) ≡ x → says out ≡ refusal 20 0 → length out < length w
+    lacks out true p h = absurd (omega (arith, z, ap (λ (r : Reply). r .refusal) (sym (holds out p .0) ∙ h)))
+    lacks out false p h = leb-false _ _ p
+
+-- a file is told by the call that writes it
+pub delivered-once : {says : List ℕ → Reply} {after : List ℕ → List ℕ} {v w : List ℕ}
+    → Delivers says after (result (length v) 0 0) v → Delivers says after (result (length w) 0 0) w → v ≡ w
+delivered-once {says} {after} {v} {w} x y =
+    let out : List ℕ = v ++ w in
+    let i = x .written out (omega (arith, length-append v w)) in
+    let j = y .written out (omega (arith, length-append v w)) in
+    let n : length v ≡ length w = ap (λ (r : Reply). r .a) (sym (i .0) ∙ j .0) in
+    sym (take-at v (drop (length v) out) (length v) refl)
+    ∙ ap (take (length v)) (sym (i .1) ∙ j .1)
+    ∙ take-at w (drop (length w) out) (length v) (sym n)
+
 -- whole pieces with equal bytes are equal
 pub pieces-once : (ps qs : List (List ℕ)) → All OnePiece ps → All OnePiece qs → flat ps ≡ flat qs → ps ≡ qs
 pieces-once ps qs a h q =
@@ -81,17 +109,17 @@ pieces-refused e = let z : _≡_ {A = ℕ} 0 1 = cc in omega arith
 ok-refused : {A : Type 0} {m line : ℕ} {a : A} → _≡_ {A = Res A} (refused m line) (ok a) → ⊥
 ok-refused e = let z : _≡_ {A = ℕ} 0 1 = cc in omega arith
 
--- a list was found for a valid ID
-record Found (id : List ℕ) (c : ℕ) (b : Notebook) (ps : List (List ℕ)) : Type 0 where
+-- a list was planned for a valid ID
+record Planned (id : List ℕ) (c : ℕ) (b : Notebook) (ps : List (List ℕ)) : Type 0 where
   valid : validID id ≡ true
   is : cutting id c b ≡ some ps
 
 module _ (f : List ℕ) (b : Notebook) (c : ℕ) (id : List ℕ) (e : readFile f ≡ ok b) where
-  list-found : (ps : List (List ℕ)) → cutList f c id ≡ ok ps → Found id c b ps
+  list-found : (ps : List (List ℕ)) → cutList f c id ≡ ok ps → Planned id c b ps
   unfolding cutList
   list-found ps l = go (validID id) refl (cutting id c b) refl (sym (ap (found id c) e) ∙ l)
     where
-      go : (v : Bool) → validID id ≡ v → (m : Option (List (List ℕ))) → cutting id c b ≡ m → cond v (listed m) (refused 17 0) ≡ ok ps → Found id c b ps
+      go : (v : Bool) → validID id ≡ v → (m : Option (List (List ℕ))) → cutting id c b ≡ m → cond v (listed m) (refused 17 0) ≡ ok ps → Planned id c b ps
       go true p none q l = absurd (ok-refused l)
       go true p (some xs) q l = let z : xs ≡ ps = cc in record { valid = p; is = q ∙ ap some z }
       go false p m q l = absurd (ok-refused l)
@@ -104,7 +132,7 @@ module _ (f : List ℕ) (b : Notebook) (c : ℕ) (id : List ℕ) (e : readFile f
 
   record Wrote (out : List ℕ) (n t : ℕ) : Type 0 where
     list : List (List ℕ)
-    found : Found id c b list
+    found : Planned id c b list
     count : length list ≡ n
     size : length (flat list) ≡ t
     inside : t ≤ length (cutBuffer f c id out)
@@ -175,46 +203,53 @@ module _ (f : List ℕ) (b : Notebook) (c : ℕ) (id : List ℕ) (e : readFile f
       go h none q = no-list-18 v room q
       go h (some ps) q = absurd (h ps (sound f id b c e v ps q))
 
--- ---- a list that is withheld
+  -- ---- a list that is found
 
-pub withholds : (f : List ℕ) (c : ℕ) (id out : List ℕ) (ps : List (List ℕ)) → cutList f c id ≡ ok ps → Withheld f c id out ps
-unfolding cutOf cutBuffer
-withholds f c id out ps q = record {
-  exactly = (λ h. go (leb (length (flat ps)) (length out)) refl (sym is ∙ refused-told 19 (cutOf f c id (length out)) h), λ h. ap cutReply (twenty h));
-  kept = kept;
-  else = λ h. ap cutReply (else h);
-}
-  where
-    is : cutOf f c id (length out) ≡ cond (leb (length (flat ps)) (length out)) (Pieces (length ps) (length (flat ps))) (Refused 20 0)
-    is = rw q
+  delivers : (ps : List (List ℕ)) → cutList f c id ≡ ok ps
+      → Delivers (cutSays f c id) (cutBuffer f c id) (result (length ps) (length (flat ps)) 0) (flat ps)
+  unfolding cutOf cutBuffer
+  delivers ps q = deliver refl (λ out h. (rw (q, h), rw (q, h))) (λ out h. (rw (q, h), rw (q, h)))
 
-    go : (x : Bool) → leb (length (flat ps)) (length out) ≡ x → cond x (Pieces (length ps) (length (flat ps))) (Refused 20 0) ≡ Refused 20 0
-        → length out < length (flat ps)
-    go true p h = absurd (pieces-refused (sym h))
-    go false p h = leb-false _ _ p
+  pub withholds : validID id ≡ true → (out : List ℕ) → (cutSays f c id out ≡ refusal 18 0 → ⊥) → Found f c id
+  withholds v out h = go (cutting id c b) refl
+    where
+      go : (m : Option (List (List ℕ))) → cutting id c b ≡ m → Found f c id
+      go none q = absurd (h (ap cutReply (no-list-18 v (length out) q)))
+      go (some ps) q = record { list = ps; sound = sound f id b c e v ps q; delivered = delivers ps (list-of v ∙ ap listed q) }
 
-    twenty : length out < length (flat ps) → cutOf f c id (length out) ≡ Refused 20 0
-    twenty h = rw (q, lt-leb (length (flat ps)) (length out) h)
+  pub says : validID id ≡ true → (out : List ℕ) → OneOfThree (cutSays f c id out)
+  unfolding cutOf
+  says v out = rw (list-of v) (list (cutting id c b))
+    where
+      room : (ps : List (List ℕ)) (x : Bool) → OneOfThree (cutReply (cond x (Pieces (length ps) (length (flat ps))) (Refused 20 0)))
+      room ps true = inl (record { count = length ps; size = length (flat ps); is = refl })
+      room ps false = inr (inr refl)
 
-    kept : length out < length (flat ps) → cutBuffer f c id out ≡ out
-    kept h = rw (q, lt-leb (length (flat ps)) (length out) h)
+      list : (m : Option (List (List ℕ))) → OneOfThree (cutReply (held (listed m) (length out)))
+      list none = inr (inl refl)
+      list (some ps) = room ps (leb (length (flat ps)) (length out))
 
-    else : length (flat ps) ≤ length out → cutOf f c id (length out) ≡ Pieces (length ps) (length (flat ps))
-    else h = rw (q, le-leb (length (flat ps)) (length out) h)
+-- ---- canonical's answers
+
+pub canonical-file : (f : List ℕ) (b : Notebook) → readFile f ≡ ok b → CanonicalFile f (canonicalBytes b)
+unfolding canonicalOf canonicalBuffer
+canonical-file f b e = deliver refl (λ out h. (rw (e, h), rw (e, h))) (λ out h. (rw (e, h), rw (e, h)))
+
+-- any file that canonical writes is the notebook's
+pub canonical-is : (f : List ℕ) (b : Notebook) (w : List ℕ) → readFile f ≡ ok b → CanonicalFile f w → w ≡ canonicalBytes b
+canonical-is f b w e x = delivered-once x (canonical-file f b e)
 
 -- ---- joining's answers
 
-pub restored : (b : Notebook) (qs : List (List ℕ)) (to : List ℕ) → joinFile (flat qs) ≡ ok (canonicalBytes b) → Restored b qs to
+joined-file : (s w : List ℕ) → joinFile s ≡ ok w → JoinedFile s w
 unfolding joinOf joinBuffer
-restored b qs to e = record {
-  holds = λ h. (rw (e, le-leb (length (canonicalBytes b)) (length to) h), rw (e, le-leb (length (canonicalBytes b)) (length to) h));
-  short = λ h. (rw (e, lt-leb (length (canonicalBytes b)) (length to) h), rw (e, lt-leb (length (canonicalBytes b)) (length to) h));
-}
+joined-file s w e = deliver refl (λ out h. (rw (e, h), rw (e, h))) (λ out h. (rw (e, h), rw (e, h)))
 
 pub joins-back : (f : List ℕ) (b : Notebook) (c : ℕ) (id out : List ℕ) → readFile f ≡ ok b → (n t : ℕ) → cutOf f c id (length out) ≡ Pieces n t
-    → (ps qs : List (List ℕ)) → ListIn (cutBuffer f c id out) n t ps → Perm ps qs → (to : List ℕ) → Restored b qs to
-joins-back f b c id out e n t h ps qs i m to =
-    let w : Wrote f b c id e out n t = wrote f b c id e out n t h in
-    let s : Sound f c (w .list) = sound f id b c e (w .found .valid) (w .list) (w .found .is) in
-    let q : ps ≡ w .list = pieces-once ps (w .list) (i .whole) (s .pieces) (sym (i .bytes) ∙ w .front) in
-    restored b qs to (restores f id b c e (w .found .valid) (w .list) qs (w .found .is) (subst (λ (z : List (List ℕ)). Perm z qs) q m))
+    → (ps qs : List (List ℕ)) → ListIn (cutBuffer f c id out) n t ps → Perm ps qs → (w : List ℕ) → CanonicalFile f w → JoinedFile (flat qs) w
+joins-back f b c id out e n t h ps qs i m w x =
+    let o : Wrote f b c id e out n t = wrote f b c id e out n t h in
+    let s : Sound f c (o .list) = sound f id b c e (o .found .valid) (o .list) (o .found .is) in
+    let q : ps ≡ o .list = pieces-once ps (o .list) (i .whole) (s .pieces) (sym (i .bytes) ∙ o .front) in
+    joined-file (flat qs) w
+    (restores f id b c e (o .found .valid) (o .list) qs (o .found .is) (subst (λ (z : List (List ℕ)). Perm z qs) q m) ∙ ap ok (sym (canonical-is f b w e x)))

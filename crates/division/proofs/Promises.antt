@@ -1,10 +1,12 @@
 -- DEMAND 3: each statement of specs/Demand.antt, proved. Assumes nothing.
-use mathlib.Core.Path.{ap}
+use mathlib.Core.Path.{ap, sym, _∙_}
 use lib.ListN.{length}
+use Rattle.notebook.specs.Canonical.{canonicalBytes}
 use Rattle.notebook.proofs.CanonicalLaws.{canonical-same, canonical-short}
 use Rattle.replies.specs.Replies.{cutReply}
-use Rattle.division.specs.Demand.{Cutting-writes, Cutting-finds, Cutting-withholds, Joining-restores, Canonical-same, Canonical-shortest}
-use Rattle.division.proofs.Answers.{refused-told, pieces-told, numbered, writes, finds, withholds, joins-back}
+use Rattle.division.specs.Demand.{Cutting-writes, Cutting-finds, Cutting-withholds, Cutting-says, Joining-restores}
+use Rattle.division.specs.Demand.{Canonical-writes, Canonical-same, Canonical-shortest}
+use Rattle.division.proofs.Answers.{refused-told, pieces-told, numbered, writes, finds, withholds, says, joins-back, canonical-file, canonical-is}
 
 pub cutting-writes : Cutting-writes
 cutting-writes f b c id out e n t h = writes f b c id e out n t (pieces-told _ n t (numbered f b c id (length out) e) h)
@@ -15,13 +17,23 @@ cutting-finds f b c id out e v =
     (λ h. w .0 (refused-told 17 _ h), λ h. ap cutReply (w .1 h))
 
 pub cutting-withholds : Cutting-withholds
-cutting-withholds f b c id out e = withholds f c id out
+cutting-withholds f b c id out e v = withholds f b c id e v out
+
+pub cutting-says : Cutting-says
+cutting-says f b c id out e v = says f b c id e v out
 
 pub joining-restores : Joining-restores
 joining-restores f b c id out e n t h = joins-back f b c id out e n t (pieces-told _ n t (numbered f b c id (length out) e) h)
 
+pub canonical-writes : Canonical-writes
+canonical-writes f b e = record { file = canonicalBytes b; is = canonical-file f b e }
+
 pub canonical-files-same : Canonical-same
-canonical-files-same = canonical-same
+canonical-files-same f g a b p q v w x y =
+    let i = canonical-is f a v p x in
+    let j = canonical-is g b w q y in
+    let k = canonical-same f g a b p q in
+    (λ h. k .0 (sym i ∙ h ∙ j), λ h. i ∙ k .1 h ∙ sym j)
 
 pub canonical-file-shortest : Canonical-shortest
-canonical-file-shortest = canonical-short
+canonical-file-shortest f g a b p q v w x y h = rw (canonical-is f a v p x) (canonical-short f a p, rw h (canonical-short g b q))

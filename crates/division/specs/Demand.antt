@@ -1,21 +1,22 @@
--- DEMAND 3, sentence by sentence, as statements about the definitions that the contracts of the exported calls cite. proofs/Promises.antt
--- proves each. A file f is accepted if `readFile f ≡ ok b`; b is the notebook that it carries.
+-- DEMAND 3, sentence by sentence, as statements about the definitions that the contracts of the exported calls cite: what the calls reply
+-- and what they leave in their outputs. proofs/Promises.antt proves each. A file f is accepted if `readFile f ≡ ok b`; b is the notebook
+-- that it carries.
 use Prim.Native.Nat.{ℕ, _≤_, _<_}
 use mathlib.Core.Path.{_≡_}
-use mathlib.Core.Logic.{_↔_}
+use mathlib.Core.Logic.{_↔_, _⊎_}
 use mathlib.Core.Bool.{true}
 use mathlib.Core.List.{List, [], _∷_, _++_}
 use lib.ListN.{length, take, drop}
-use Rattle.lists.specs.Lists.{All, ok, refused}
+use Rattle.lists.specs.Lists.{All, ok}
 use Rattle.characters.specs.Rows.{flat}
 use Rattle.notebook.specs.Notebook.{Notebook, readFile}
-use Rattle.notebook.specs.Canonical.{canonicalBytes}
+use Rattle.notebook.specs.Canonical.{canonicalOf, canonicalBuffer}
 use Rattle.division.specs.Marks.{validID}
 use Rattle.division.specs.Pieces.{Piece, split}
-use Rattle.division.specs.Cut.{cutList, cutOf, cutBuffer}
+use Rattle.division.specs.Cut.{cutOf, cutBuffer}
 use Rattle.division.specs.Join.{joinFile, joinOf, joinBuffer}
 use Rattle.replies.specs.declared.Reply.{Reply}
-use Rattle.replies.specs.Replies.{refusal, result, cutReply, joinReply}
+use Rattle.replies.specs.Replies.{refusal, result, canonicalReply, cutReply, joinReply}
 use Rattle.division.specs.Orders.{Perm}
 
 -- ---- "Call a list of pieces sound for an accepted file and a capacity if .."
@@ -39,13 +40,30 @@ pub record Sound (f : List ℕ) (c : ℕ) (ps : List (List ℕ)) : Type 0 where
   -- "the joined file carries the same notebook"
   pub same : readFile file ≡ readFile f
 
--- ---- what the calls reply, in document 01's numbers
+-- ---- what the calls reply, in document 01's numbers, and leave in their outputs
+
+abbrev pub canonicalSays : List ℕ → List ℕ → Reply
+canonicalSays f out = canonicalReply (canonicalOf f (length out))
 
 abbrev pub cutSays : List ℕ → ℕ → List ℕ → List ℕ → Reply
 cutSays f c id out = cutReply (cutOf f c id (length out))
 
 abbrev pub joinSays : List ℕ → List ℕ → Reply
-joinSays s to = joinReply (joinOf s (length to))
+joinSays s out = joinReply (joinOf s (length out))
+
+-- A call has the bytes w to write, the same for every output. An output that can't hold them is refused with 20 and left as lent, and no other
+-- is; another has them in front, and "Bytes past a written result keep their contents". says: the reply to an output; after: the output then
+pub record Delivers (says : List ℕ → Reply) (after : List ℕ → List ℕ) (r : Reply) (w : List ℕ) : Type 0 where
+  pub withheld : (out : List ℕ) → (says out ≡ refusal 20 0) ↔ (length out < length w)
+  pub kept : (out : List ℕ) → length out < length w → after out ≡ out
+  pub written : (out : List ℕ) → length w ≤ length out → (says out ≡ r) × (after out ≡ w ++ drop (length w) out)
+
+-- "canonical and join the bytes written"
+abbrev pub CanonicalFile : List ℕ → List ℕ → Type 0
+CanonicalFile f w = Delivers (canonicalSays f) (canonicalBuffer f) (result (length w) 0 0) w
+
+abbrev pub JoinedFile : List ℕ → List ℕ → Type 0
+JoinedFile s w = Delivers (joinSays s) (joinBuffer s) (result (length w) 0 0) w
 
 -- ---- what cutting wrote
 
@@ -74,37 +92,61 @@ pub record Written (f : List ℕ) (c : ℕ) (out : List ℕ) (n t : ℕ) : Type 
 abbrev pub Cutting-writes : Type 0
 Cutting-writes = ForFile (λ f b c id out. (n t : ℕ) → cutSays f c id out ≡ result n t 0 → Written f c (cutBuffer f c id out) n t)
 
+-- ---- what cutting finds
+
 -- "For an accepted file and a valid ID, whatever the size of the output, cutting finds no list exactly when no sound one exists": "Cutting
 -- finds no list when it answers 18"
 abbrev pub Cutting-finds : Type 0
 Cutting-finds =
     ForFile (λ f b c id out. validID id ≡ true → (cutSays f c id out ≡ refusal 18 0) ↔ ((qs : List (List ℕ)) → Sound f c qs → ⊥))
 
--- "A list found is withheld exactly when the output can't hold it": it "withholds one when it answers 20". Else it is written.
-pub record Withheld (f : List ℕ) (c : ℕ) (id out : List ℕ) (ps : List (List ℕ)) : Type 0 where
-  pub exactly : (cutSays f c id out ≡ refusal 20 0) ↔ (length out < length (flat ps))
-  pub kept : length out < length (flat ps) → cutBuffer f c id out ≡ out
-  pub else : length (flat ps) ≤ length out → cutSays f c id out ≡ result (length ps) (length (flat ps)) 0
+-- "A list found is withheld exactly when the output can't hold it": it "withholds one when it answers 20"; else it is written. A list is
+-- found if some output is not answered with 18, and it is one list for every output.
+pub record Found (f : List ℕ) (c : ℕ) (id : List ℕ) : Type 0 where
+  pub list : List (List ℕ)
+  pub sound : Sound f c list
+  pub delivered : Delivers (cutSays f c id) (cutBuffer f c id) (result (length list) (length (flat list)) 0) (flat list)
 
 abbrev pub Cutting-withholds : Type 0
-Cutting-withholds = ForFile (λ f b c id out. (ps : List (List ℕ)) → cutList f c id ≡ ok ps → Withheld f c id out ps)
+Cutting-withholds = ForFile (λ f b c id out. validID id ≡ true → (cutSays f c id out ≡ refusal 18 0 → ⊥) → Found f c id)
 
--- "Joining our pieces, in whichever order they lie, gives the canonical file of the file that was cut, when the output can hold it." to: the
--- output of joining
-pub record Restored (b : Notebook) (qs : List (List ℕ)) (to : List ℕ) : Type 0 where
-  pub holds : length (canonicalBytes b) ≤ length to
-      → (joinSays (flat qs) to ≡ result (length (canonicalBytes b)) 0 0) × (joinBuffer (flat qs) to ≡ canonicalBytes b ++ drop (length (canonicalBytes b)) to)
-  pub short : length to < length (canonicalBytes b) → (joinSays (flat qs) to ≡ refusal 20 0) × (joinBuffer (flat qs) to ≡ to)
+-- So for an accepted file and a valid ID cutting writes a list, finds none or withholds one, and says nothing else: "Cutting: 1–16, 17, 18, 20"
+pub record Writes (r : Reply) : Type 0 where
+  pub count : ℕ
+  pub size : ℕ
+  pub is : r ≡ result count size 0
 
+abbrev pub OneOfThree : Reply → Type 0
+OneOfThree r = Writes r ⊎ ((r ≡ refusal 18 0) ⊎ (r ≡ refusal 20 0))
+
+abbrev pub Cutting-says : Type 0
+Cutting-says = ForFile (λ f b c id out. validID id ≡ true → OneOfThree (cutSays f c id out))
+
+-- ---- joining and canonical
+
+-- "Joining our pieces, in whichever order they lie, gives the canonical file of the file that was cut, when the output can hold it."
 abbrev pub Joining-restores : Type 0
 Joining-restores =
     ForFile (λ f b c id out. (n t : ℕ) → cutSays f c id out ≡ result n t 0 → (ps qs : List (List ℕ)) → ListIn (cutBuffer f c id out) n t ps
-    → Perm ps qs → (to : List ℕ) → Restored b qs to)
+    → Perm ps qs → (w : List ℕ) → CanonicalFile f w → JoinedFile (flat qs) w)
 
 -- "Two accepted files have equal canonical files exactly when they carry the same notebook, and then neither is shorter than that canonical
--- file."
+-- file." Each accepted file has one:
+pub record HasCanonical (f : List ℕ) : Type 0 where
+  pub file : List ℕ
+  pub is : CanonicalFile f file
+
+abbrev pub Canonical-writes : Type 0
+Canonical-writes = (f : List ℕ) (b : Notebook) → readFile f ≡ ok b → HasCanonical f
+
+-- for two accepted files and their canonical files
+abbrev pub ForTwo : (List ℕ → List ℕ → Notebook → Notebook → List ℕ → List ℕ → Type 0) → Type 0
+ForTwo P =
+    (f g : List ℕ) (a b : Notebook) → readFile f ≡ ok a → readFile g ≡ ok b
+    → (v w : List ℕ) → CanonicalFile f v → CanonicalFile g w → P f g a b v w
+
 abbrev pub Canonical-same : Type 0
-Canonical-same = (f g : List ℕ) (a b : Notebook) → readFile f ≡ ok a → readFile g ≡ ok b → (canonicalBytes a ≡ canonicalBytes b) ↔ (a ≡ b)
+Canonical-same = ForTwo (λ f g a b v w. (v ≡ w) ↔ (a ≡ b))
 
 abbrev pub Canonical-shortest : Type 0
-Canonical-shortest = (f : List ℕ) (b : Notebook) → readFile f ≡ ok b → length (canonicalBytes b) ≤ length f
+Canonical-shortest = ForTwo (λ f g a b v w. a ≡ b → (length v ≤ length f) × (length v ≤ length g))
