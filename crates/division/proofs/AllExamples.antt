@@ -1,10 +1,14 @@
--- The worked examples of specs/Examples.antt come out as written there. Assumes nothing.
-use mathlib.Core.Path.{_≡_, refl}
-use mathlib.Core.List.{map}
+-- The worked examples of specs/Examples.antt and specs/SoundExamples.antt come out as written there. Assumes nothing.
+use Prim.Native.Nat.{ℕ, _≤_}
+use native.Mathlib.Omega.{arith}
+use mathlib.Core.Path.{_≡_, refl, sym, ap, _∙_}
+use mathlib.Core.Bool.{true, false}
+use mathlib.Core.List.{List, [], _∷_, map}
 use lib.ListN.{length}
-use Rattle.lists.specs.Lists.{bytes}
+use Rattle.lists.specs.Lists.{bytes, same, All, Res, ok, refused}
+use Rattle.lists.proofs.Tests.{same-refl}
 use Rattle.digits.specs.Digits.{value, number, spell}
-use Rattle.characters.specs.Rows.{isLine}
+use Rattle.characters.specs.Rows.{flat, isLine}
 use Rattle.calendar.specs.Digits.{numberFrom}
 use Rattle.eras.specs.Day.{leap, monthLength, isReal, isDay}
 use Rattle.eras.specs.Era.{eraOf, eraOn, writeDay}
@@ -20,14 +24,16 @@ use Rattle.rules.specs.Rules.{pairBroken, misplaced, closesRp, lacking, missing
 use Rattle.order.specs.State.{none, start, hadAfter, advance, refusalOf, stepOf, finishOf}
 use Rattle.notebook.specs.Facts.{factsOf}
 use Rattle.notebook.specs.Notebook.{stepLine, closed, onward, recordsFrom, readRows, readFile}
-use Rattle.notebook.specs.Canonical.{recordRows, canonicalBytes}
+use Rattle.notebook.specs.Canonical.{recordRows, canonicalBytes, bytesOf}
 use Rattle.packing.specs.Packing.{total, put, pack}
 use Rattle.packing.specs.Widths.{past, digitsOf, over, serves, tries, plan}
 use Rattle.division.specs.Marks.{validID, markLine, readMark}
-use Rattle.division.specs.Pieces.{kindOf, brokenFrom, brokenLine, bodyOf, piecesIn, splitRows, split, fileOf}
+use Rattle.division.specs.Pieces.{Piece, kindOf, brokenFrom, brokenLine, bodyOf, piecesIn, splitRows, split, fileOf}
 use Rattle.division.specs.Join.{unmarked, partOf, partsOf, agree, find, gather, joinPieces, joinedFile, joinFile}
 use Rattle.division.specs.Cut.{pieceBytes, numbered, cutting, cutList, cutOf}
 use Rattle.division.specs.Examples.{ident, markLines, theirMarks, inputs, theirFiles, Asked, asked, theirAnswers}
+use Rattle.division.specs.Demand.{Sound}
+use Rattle.division.specs.SoundExamples.{twoDates, theirs, Claim, notSound}
 
 pub mark-written : markLine ident 12 3 ≡ bytes "911,20261115000001,12,3"
 unfolding bytes spell joined t911 markLine
@@ -44,3 +50,47 @@ joins-hold = refl
 pub cuts-hold : map (λ (a : Asked). cutOf (a .file) (a .capacity) (a .id) (a .room)) asked ≡ theirAnswers
 unfolding bytes spell isLine numberFrom leap monthLength isReal isDay gregorian eraOf eraOn inEra fromEra readDay writeDay table edge oneWidth decimal sized fault valueOf itemFault itemValue itemsFault itemsValue rowIn rowOf pairs t911 recordFrom faultFrom faultWhere lineFault recordOf header inGroup mayFollow pairBroken misplaced closesRp lacking missing valueWrong newerGroup refusal unfinished none start hadAfter advance refusalOf stepOf finishOf factsOf stepLine closed onward recordsFrom readRows readFile joined write recordRows canonicalBytes total put pack past digitsOf over serves tries plan validID pieceBytes numbered cutting cutList cutOf
 cuts-hold = refl
+
+-- ---- sound lists
+
+pub sound-holds : Sound twoDates 62 theirs
+unfolding bytes value number spell isLine numberFrom leap monthLength isReal isDay gregorian eraOf inEra fromEra readDay table edge oneWidth decimal sized fault valueOf itemFault itemValue itemsFault itemsValue rowIn rowOf pairs t911 isMark recordFrom faultFrom faultWhere lineFault recordOf header inGroup mayFollow pairBroken misplaced closesRp lacking missing valueWrong newerGroup refusal unfinished none start hadAfter advance refusalOf stepOf finishOf factsOf stepLine closed onward recordsFrom readRows readFile validID readMark kindOf brokenFrom brokenLine bodyOf piecesIn splitRows split fileOf unmarked partOf partsOf agree find gather joinPieces joinedFile joinFile
+sound-holds = record {
+  pieces = (record { piece = _; is = refl }, (record { piece = _; is = refl }, (record { piece = _; is = refl }, tt)));
+  fits = (record { fits = omega arith }, (record { fits = omega arith }, (record { fits = omega arith }, tt)));
+  file = _;
+  joins = refl;
+  same = refl;
+}
+
+-- a refusal is no answer, and two pieces are not one
+refused-ok : {A : Type 0} {n line : ℕ} {a : A} → _≡_ {A = Res A} (refused n line) (ok a) → ⊥
+refused-ok e = let z : _≡_ {A = ℕ} 0 1 = cc in omega arith
+
+two-one : {a b c : Piece} → _≡_ {A = Res (List Piece)} (ok (a ∷ b ∷ [])) (ok (c ∷ [])) → ⊥
+two-one {a} {b} {c} e = let z : a ∷ b ∷ [] ≡ c ∷ [] = cc in omega (arith, ap length z)
+
+-- the joined file w has another canonical file, so that it carries another notebook
+other : (ps : List (List ℕ)) (c : ℕ) (w : List ℕ) → joinFile (flat ps) ≡ ok w → same (bytesOf (readFile w)) (bytesOf (readFile twoDates)) ≡ false
+    → Sound twoDates c ps → ⊥
+other ps c w j d s =
+    let q : _≡_ {A = Res (List ℕ)} (ok w) (ok (s .file)) = sym j ∙ s .joins in
+    let z : w ≡ s .file = cc in
+    let t : bytesOf (readFile w) ≡ bytesOf (readFile twoDates) = ap bytesOf (ap readFile z ∙ s .same) in
+    let u : true ≡ false = sym (same-refl (bytesOf (readFile twoDates))) ∙ ap (λ (x : List ℕ). same x (bytesOf (readFile twoDates))) (sym t) ∙ d in
+    let v : _≡_ {A = ℕ} 0 1 = cc in
+    omega arith
+
+pub not-sound : All (λ (x : Claim). Sound twoDates (x .capacity) (x .list) → ⊥) notSound
+unfolding bytes value number spell isLine numberFrom leap monthLength isReal isDay gregorian eraOf eraOn inEra fromEra readDay writeDay table edge oneWidth decimal sized fault valueOf itemFault itemValue itemsFault itemsValue rowIn rowOf pairs t911 isMark recordFrom faultFrom faultWhere lineFault recordOf header inGroup mayFollow pairBroken misplaced closesRp lacking missing valueWrong newerGroup refusal unfinished none start hadAfter advance refusalOf stepOf finishOf factsOf stepLine closed onward recordsFrom readRows readFile joined write recordRows canonicalBytes validID readMark kindOf brokenFrom brokenLine bodyOf piecesIn splitRows split fileOf unmarked partOf partsOf agree find gather joinPieces joinedFile joinFile
+not-sound = (
+  λ s. omega (arith, s .fits .1 .1 .0 .fits),
+  (λ s. two-one (s .pieces .0 .is),
+  (λ s. refused-ok (s .pieces .1 .0 .is),
+  (λ s. refused-ok (s .joins),
+  (λ s. refused-ok (s .joins),
+  (λ s. refused-ok (s .joins),
+  (other _ _ _ refl refl,
+  (other _ _ _ refl refl,
+  (other _ _ _ refl refl, tt))))))))
+)

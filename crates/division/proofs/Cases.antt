@@ -3,8 +3,7 @@
 use Prim.Native.Nat.{ℕ, zero, suc}
 use mathlib.Core.Path.{_≡_, refl, ap, _∙_}
 use mathlib.Core.Bool.{false, cond}
-use mathlib.Core.List.{List, [], _∷_}
-use lib.Dec.{T}
+use mathlib.Core.List.{List, [], _∷_, map}
 use lib.ListN.{length}
 use Rattle.lists.specs.Lists.{bytes, Res, ok, refused}
 use Rattle.digits.specs.Digits.{spell}
@@ -32,7 +31,7 @@ use Rattle.division.specs.Marks.{validID, markLine, markRow}
 use Rattle.replies.specs.declared.Cutting.{Cutting}
 use Rattle.replies.specs.declared.Cutting.the-variants.{Pieces, Refused}
 use Rattle.division.specs.Cut.{pieceBytes, numbered, planned as piecesOf, cutting, listed, found, cutList, held, cutOf}
-use Rattle.division.specs.Cases.{withNotes, cases, allHold}
+use Rattle.division.specs.Cases.{withNotes, Case, cases, answer}
 
 -- ---- the files of the cases of cutting, read
 
@@ -63,10 +62,10 @@ abbrev ident : List ℕ
 ident = bytes "20261115000001"
 
 -- the answer from the notebook on, of which only what is needed is computed
-abbrev answer : ℕ → Notebook → Cutting
-answer c b = held (cond (validID ident) (listed (piecesOf ident b (planned length c (recordRows (b .records))))) (refused 17 0)) 1000
+abbrev computed : ℕ → Notebook → Cutting
+computed c b = held (cond (validID ident) (listed (piecesOf ident b (planned length c (recordRows (b .records))))) (refused 17 0)) 1000
 
-answered : (s : List ℕ) (b : Notebook) (c : ℕ) → readFile s ≡ ok b → cutOf s c ident 1000 ≡ answer c b
+answered : (s : List ℕ) (b : Notebook) (c : ℕ) → readFile s ≡ ok b → cutOf s c ident 1000 ≡ computed c b
 unfolding cutOf cutList cutting
 answered s b c e =
     ap (λ (r : Res Notebook). held (found ident c r) 1000) e
@@ -75,7 +74,7 @@ answered s b c e =
 abbrev Cut : ℕ → ℕ → Cutting → Type 0
 Cut n c r = cutOf (withNotes n) c ident 1000 ≡ r
 
-cut : (n c : ℕ) → Read n → Cut n c (answer c (book n))
+cut : (n c : ℕ) → Read n → Cut n c (computed c (book n))
 cut n c e = answered (withNotes n) (book n) c e
 
 cuts : Cut 20 69 (Pieces 6 404) × Cut 18 60 (Pieces 10 547) × Cut 18 59 (Refused 18 0) × Cut 2 51 (Pieces 1 51) × Cut 2 50 (Refused 18 0)
@@ -84,6 +83,6 @@ cuts = (cut 20 69 (reads .0), cut 18 60 (reads .1), cut 18 59 (reads .1), cut 2 
 
 -- ---- ALL CASES
 
-pub cases-hold : T (allHold cases)
+pub cases-hold : map (λ (c : Case). answer (c .asked)) cases ≡ map (λ (c : Case). c .said) cases
 unfolding bytes spell isLine numberFrom leap monthLength isReal isDay gregorian eraOf eraOn inEra fromEra readDay writeDay table edge oneWidth decimal sized fault value itemFault itemValue itemsFault itemsValue rowIn rowOf pairs t911 recordFrom faultFrom faultWhere lineFault recordOf header inGroup mayFollow pairBroken misplaced closesRp lacking missing valueWrong newerGroup refusal unfinished none start hadAfter advance refusalOf stepOf finishOf factsOf stepLine closed onward recordsFrom readRows readFile count checkOf joined write recordRows canonicalBytes canonicalOf
-cases-hold = rw (cuts .4, cuts .3, cuts .2, cuts .1, cuts .0) tt
+cases-hold = rw (cuts .4, cuts .3, cuts .2, cuts .1, cuts .0) refl

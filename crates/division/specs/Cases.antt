@@ -1,43 +1,53 @@
--- Document 01's cases marked ● as one list, and the test of each. proofs/Cases.antt computes them all by the definitions that the
--- contracts of the exported calls cite.
+-- Document 01's cases marked ●, in its order, as one list: what is asked, and what the paper says to it. `answer` asks the definitions that
+-- the contracts of the exported calls cite; proofs/Cases.antt shows that it says the same, for all of them at once.
+-- Another kind of case is a constructor of `Asked`, its line in `answer`, and a constructor of `Said` where none of these fits.
 use Prim.Native.Nat.{ℕ, zero, suc}
 use Prim.Native.String.{String}
-use mathlib.Core.Bool.{Bool, true, false, _&&_}
 use mathlib.Core.List.{List, [], _∷_, _++_}
-use lib.Dec.{eqb}
 use lib.ListN.{length}
-use Rattle.lists.specs.Lists.{bytes, same}
+use Rattle.lists.specs.Lists.{bytes}
 use Rattle.characters.specs.Rows.{lineEnd}
 use Rattle.calendar.specs.declared.DateRead.{DateRead}
 use Rattle.calendar.specs.declared.DateRead.the-variants.{Date, NotADate}
 use Rattle.calendar.specs.Era.{readDay}
 use Rattle.eras.specs.Era.{writeDay}
-use Rattle.records.specs.Table.{Q, D}
-use Rattle.records.specs.Items.{fault}
-use Rattle.replies.specs.declared.Checked.{Checked}
-use Rattle.replies.specs.declared.Checked.the-variants.{Accepted, Refused}
+use Rattle.records.specs.Table.{Kind, Q, D}
+use Rattle.records.specs.Items.{fault as faultOf}
+use Rattle.replies.specs.declared.Reply.{Reply}
+use Rattle.replies.specs.Replies.{refusal, result, checkReply, canonicalReply, cutReply}
 use Rattle.notebook.specs.Check.{checkOf}
 use Rattle.notebook.specs.Samples.{smallFile}
-use Rattle.replies.specs.declared.Canonical.{Canonical}
-use Rattle.replies.specs.declared.Canonical.the-variants.{Written, Refused as CanonicalRefused}
 use Rattle.notebook.specs.Canonical.{canonicalOf}
-use Rattle.replies.specs.declared.Cutting.{Cutting}
-use Rattle.replies.specs.declared.Cutting.the-variants.{Pieces, Refused as CutRefused}
 use Rattle.division.specs.Cut.{cutOf}
 
-pub data Case : Type 0 where
-  -- both are read to one day, and the second is how it is written
-  sameDay : String → String → Case
-  -- no day of the type: as an item of kind D it is 11
-  noDay : String → Case
-  -- an item of kind Q and its fault, 0 for none
-  dose : String → ℕ → Case
-  -- a file of so many bytes, and the answer of check
-  file : ℕ → List ℕ → Checked → Case
-  -- a file, and how many bytes its canonical file has
-  canonical : List ℕ → ℕ → Case
-  -- a file, a capacity, and the answer of cut
-  cut : List ℕ → ℕ → Cutting → Case
+pub data Asked : Type 0 where
+  -- the day that a date is read to, and how that day is written
+  date : String → Asked
+  -- the fault of an item of a kind
+  item : Kind → String → Asked
+  -- how many bytes a file has
+  size : List ℕ → Asked
+  -- what check, canonical and cut reply of a file; cut with a capacity
+  check : List ℕ → Asked
+  canonical : List ℕ → Asked
+  cut : List ℕ → ℕ → Asked
+
+pub data Said : Type 0 where
+  -- a day as the number YYYYMMDD, and its one spelling
+  day : ℕ → List ℕ → Said
+  noDay : Said
+  -- a number of document 01's table, 0 for none
+  fault : ℕ → Said
+  count : ℕ → Said
+  reply : Reply → Said
+
+pub record Case : Type 0 where
+  pub asked : Asked
+  pub said : Said
+
+infix 90 _is_
+abbrev pub _is_ : Asked → Said → Case
+a is s = record { asked = a; said = s }
 
 -- "That file's record 1 with .. records 4,x,,2"
 abbrev pub notes : ℕ → List ℕ
@@ -49,59 +59,43 @@ withNotes n = bytes "JAHISTC04,2" ++ lineEnd ++ bytes "1,A,1,19890108,,,,,,," ++
 
 abbrev pub cases : List Case
 cases =
-    sameDay "18730101" "M060101" ∷ noDay "M051231" ∷
-    sameDay "19120729" "M450729" ∷ sameDay "19120730" "T010730" ∷
-    sameDay "19261224" "T151224" ∷ sameDay "19261225" "S011225" ∷
-    sameDay "S640107" "S640107" ∷ noDay "S640108" ∷
-    sameDay "20160411" "H280411" ∷ noDay "H290229" ∷
-    sameDay "20871231" "H991231" ∷ noDay "20880101" ∷
-    dose "0.25" 0 ∷ dose "1.50" 11 ∷ dose ".5" 11 ∷
-    file 37 smallFile (Accepted 1 0 0) ∷ canonical smallFile 35 ∷
-    cut (withNotes 20) 69 (Pieces 6 404) ∷
-    cut (withNotes 18) 60 (Pieces 10 547) ∷ cut (withNotes 18) 59 (CutRefused 18 0) ∷
-    cut (withNotes 2) 51 (Pieces 1 51) ∷ cut (withNotes 2) 50 (CutRefused 18 0) ∷
+    -- "M060101 is 18730101; M051231 is 11."
+    date "M060101" is day 18730101 (bytes "M060101") ∷ date "18730101" is day 18730101 (bytes "M060101") ∷ item D "M051231" is fault 11 ∷
+    -- "19120729 is M450729, 19120730 is T010730."
+    date "19120729" is day 19120729 (bytes "M450729") ∷ date "M450729" is day 19120729 (bytes "M450729") ∷
+    date "19120730" is day 19120730 (bytes "T010730") ∷ date "T010730" is day 19120730 (bytes "T010730") ∷
+    -- "19261224 is T151224, 19261225 is S011225."
+    date "19261224" is day 19261224 (bytes "T151224") ∷ date "T151224" is day 19261224 (bytes "T151224") ∷
+    date "19261225" is day 19261225 (bytes "S011225") ∷ date "S011225" is day 19261225 (bytes "S011225") ∷
+    -- "S640107 is good, S640108 is 11."
+    item D "S640107" is fault 0 ∷ date "S640107" is day 19890107 (bytes "S640107") ∷ item D "S640108" is fault 11 ∷
+    -- "20160411 is H280411; H290229 is 11."
+    date "20160411" is day 20160411 (bytes "H280411") ∷ date "H280411" is day 20160411 (bytes "H280411") ∷ item D "H290229" is fault 11 ∷
+    -- "20871231 is H991231; 20880101 is 11."
+    date "20871231" is day 20871231 (bytes "H991231") ∷ date "H991231" is day 20871231 (bytes "H991231") ∷ item D "20880101" is fault 11 ∷
+    -- "Dose 0.25 good, 1.50 and .5 are 11."
+    item Q "0.25" is fault 0 ∷ item Q "1.50" is fault 11 ∷ item Q ".5" is fault 11 ∷
+    -- "JAHISTC04,2 and 1,A,1,19890108,,,,,,, and 1Ah: 37 bytes, canonical 35"; "(records, groups, drugs)" are 1 0 0
+    size smallFile is count 37 ∷ canonical smallFile is reply (result 35 0 0) ∷ check smallFile is reply (result 1 0 0) ∷
+    -- "That file's record 1 with 20 records 4,x,,2: capacity 69 gives 6 pieces, 404 bytes."
+    cut (withNotes 20) 69 is reply (result 6 404 0) ∷
+    -- "With 18: capacity 60 gives 10 pieces, 547 bytes; 59 gives 18."
+    cut (withNotes 18) 60 is reply (result 10 547 0) ∷ cut (withNotes 18) 59 is reply (refusal 18 0) ∷
+    -- "With 2: 51 gives one piece, 50 gives 18."
+    cut (withNotes 2) 51 is reply (result 1 51 0) ∷ cut (withNotes 2) 50 is reply (refusal 18 0) ∷
     []
 
--- ---- the test of a case
+-- ---- what the definitions say
 
--- the reading is a day that is written so
-abbrev pub writtenAs : List ℕ → DateRead → Bool
-writtenAs s (Date d) = same (writeDay (d .ymd)) s
-writtenAs s NotADate = false
-
--- two readings are one day
-abbrev pub oneDay : DateRead → DateRead → Bool
-oneDay (Date d) (Date e) = eqb (d .ymd) (e .ymd)
-oneDay (Date d) NotADate = false
-oneDay NotADate (Date e) = false
-oneDay NotADate NotADate = false
-
--- two answers are equal
-abbrev pub sameAnswer : Checked → Checked → Bool
-sameAnswer (Accepted a b c) (Accepted x y z) = eqb a x && eqb b y && eqb c z
-sameAnswer (Accepted a b c) (Refused n line) = false
-sameAnswer (Refused n line) (Accepted a b c) = false
-sameAnswer (Refused n line) (Refused m row) = eqb n m && eqb line row
-
-abbrev pub hasBytes : ℕ → Canonical → Bool
-hasBytes n (Written m) = eqb m n
-hasBytes n (CanonicalRefused m line) = false
-
-abbrev pub sameCutting : Cutting → Cutting → Bool
-sameCutting (Pieces n t) (Pieces m u) = eqb n m && eqb t u
-sameCutting (Pieces n t) (CutRefused m line) = false
-sameCutting (CutRefused n line) (Pieces m u) = false
-sameCutting (CutRefused n line) (CutRefused m row) = eqb n m && eqb line row
+abbrev pub dated : DateRead → Said
+dated (Date d) = day (d .ymd) (writeDay (d .ymd))
+dated NotADate = noDay
 
 -- an output of a thousand bytes, and an ID of 14 digits
-abbrev pub holds : Case → Bool
-holds (sameDay s t) = oneDay (readDay (bytes s)) (readDay (bytes t)) && writtenAs (bytes t) (readDay (bytes s))
-holds (noDay s) = eqb (fault D (bytes s)) 11
-holds (dose s n) = eqb (fault Q (bytes s)) n
-holds (file n s r) = eqb (length s) n && sameAnswer (checkOf s) r
-holds (canonical s n) = hasBytes n (canonicalOf s 1000)
-holds (cut s c r) = sameCutting (cutOf s c (bytes "20261115000001") 1000) r
-
-abbrev pub allHold : List Case → Bool
-allHold [] = true
-allHold (c ∷ cs) = holds c && allHold cs
+abbrev pub answer : Asked → Said
+answer (date s) = dated (readDay (bytes s))
+answer (item k s) = fault (faultOf k (bytes s))
+answer (size s) = count (length s)
+answer (check s) = reply (checkReply (checkOf s))
+answer (canonical s) = reply (canonicalReply (canonicalOf s 1000))
+answer (cut s c) = reply (cutReply (cutOf s c (bytes "20261115000001") 1000))

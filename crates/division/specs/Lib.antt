@@ -6,3 +6,4 @@ pub mod Orders
 pub mod Demand
 pub mod Cases
 pub mod Examples
+pub mod SoundExamples
