@@ -33,7 +33,7 @@ use Rattle.division.specs.Join.{unmarked, partOf, partsOf, agree, find, 
 use Rattle.division.specs.Cut.{pieceBytes, numbered, cutting, cutList, cutOf}
 use Rattle.division.specs.Examples.{ident, markLines, theirMarks, inputs, theirFiles, Asked, asked, theirAnswers}
 use Rattle.division.specs.Demand.{Sound}
-use Rattle.division.specs.SoundExamples.{twoDates, theirs, Claim, notSound}
+use Rattle.division.specs.SoundExamples.{twoDates, Claim, theirFile, sound, notSound}
 
 pub mark-written : markLine ident 12 3 ≡ bytes "911,20261115000001,12,3"
 unfolding bytes spell joined t911 markLine
@@ -53,15 +53,18 @@ cuts-hold = refl
 
 -- ---- sound lists
 
-pub sound-holds : Sound twoDates 62 theirs
-unfolding bytes value number spell isLine numberFrom leap monthLength isReal isDay gregorian eraOf inEra fromEra readDay table edge oneWidth decimal sized fault valueOf itemFault itemValue itemsFault itemsValue rowIn rowOf pairs t911 isMark recordFrom faultFrom faultWhere lineFault recordOf header inGroup mayFollow pairBroken misplaced closesRp lacking missing valueWrong newerGroup refusal unfinished none start hadAfter advance refusalOf stepOf finishOf factsOf stepLine closed onward recordsFrom readRows readFile validID readMark kindOf brokenFrom brokenLine bodyOf piecesIn splitRows split fileOf unmarked partOf partsOf agree find gather joinPieces joinedFile joinFile
-sound-holds = record {
-  pieces = (record { piece = _; is = refl }, (record { piece = _; is = refl }, (record { piece = _; is = refl }, tt)));
-  fits = (record { fits = omega arith }, (record { fits = omega arith }, (record { fits = omega arith }, tt)));
-  file = _;
-  joins = refl;
-  same = refl;
-}
+pub sound-hold : All (λ (x : Claim). Sound twoDates (x .capacity) (x .list)) sound
+unfolding bytes value number spell isLine numberFrom leap monthLength isReal isDay gregorian eraOf eraOn inEra fromEra readDay writeDay table edge oneWidth decimal sized fault valueOf itemFault itemValue itemsFault itemsValue rowIn rowOf pairs t911 isMark recordFrom faultFrom faultWhere lineFault recordOf header inGroup mayFollow pairBroken misplaced closesRp lacking missing valueWrong newerGroup refusal unfinished none start hadAfter advance refusalOf stepOf finishOf factsOf stepLine closed onward recordsFrom readRows readFile joined write recordRows canonicalBytes validID readMark kindOf brokenFrom brokenLine bodyOf piecesIn splitRows split fileOf unmarked partOf partsOf agree find gather joinPieces joinedFile joinFile
+sound-hold = (
+  record {
+    pieces = (record { piece = _; is = refl }, (record { piece = _; is = refl }, (record { piece = _; is = refl }, tt)));
+    fits = (record { fits = omega arith }, (record { fits = omega arith }, (record { fits = omega arith }, tt)));
+    file = theirFile;
+    joins = refl;
+    same = refl;
+  },
+  (record { pieces = (record { piece = _; is = refl }, tt); fits = (record { fits = omega arith }, tt); file = twoDates; joins = refl; same = refl }, tt)
+)
 
 -- a refusal is no answer, and two pieces are not one
 refused-ok : {A : Type 0} {n line : ℕ} {a : A} → _≡_ {A = Res A} (refused n line) (ok a) → ⊥

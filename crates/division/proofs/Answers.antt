@@ -71,9 +71,9 @@ pub deliver : {says : List ℕ → Reply} {after : List ℕ → List ℕ} {r : R
     → ((out : List ℕ) → leb (length w) (length out) ≡ false → (says out ≡ refusal 20 0) × (after out ≡ out))
     → Delivers says after r w
 deliver {says} {after} {r} {w} z holds short = record {
-  withheld = λ out. (λ h. lacks out (leb (length w) (length out)) refl h, λ h. short out (lt-leb _ _ h) .0);
-  kept = λ out h. short out (lt-leb _ _ h) .1;
-  written = λ out h. holds out (le-leb _ _ h);
+  withheld = λ out. (λ h. lacks out (leb (length w) (length out)) refl h, λ h. short out (lt-leb (length w) (length out) (omega (arith, h))) .0);
+  kept = λ out h. short out (lt-leb (length w) (length out) (omega (arith, h))) .1;
+  written = λ out h. holds out (le-leb (length w) (length out) (omega (arith, h)));
 }
   where
     lacks : (out : List ℕ) (x : Bool) → leb (length w) (length out) ≡ x → says out ≡ refusal 20 0 → length out < length w

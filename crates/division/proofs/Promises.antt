@@ -1,6 +1,8 @@
 -- DEMAND 3: each statement of specs/Demand.antt, proved. Assumes nothing.
+use native.Mathlib.Omega.{arith}
 use mathlib.Core.Path.{ap, sym, _∙_}
 use lib.ListN.{length}
+use Rattle.notebook.specs.Notebook.{Notebook}
 use Rattle.notebook.specs.Canonical.{canonicalBytes}
 use Rattle.notebook.proofs.CanonicalLaws.{canonical-same, canonical-short}
 use Rattle.replies.specs.Replies.{cutReply}
@@ -36,4 +38,6 @@ canonical-files-same f g a b p q v w x y =
     (λ h. k .0 (sym i ∙ h ∙ j), λ h. i ∙ k .1 h ∙ sym j)
 
 pub canonical-file-shortest : Canonical-shortest
-canonical-file-shortest f g a b p q v w x y h = rw (canonical-is f a v p x) (canonical-short f a p, rw h (canonical-short g b q))
+canonical-file-shortest f g a b p q v w x y h =
+    let i = ap length (canonical-is f a v p x) in
+    (omega (arith, i, canonical-short f a p), omega (arith, i, ap (λ (z : Notebook). length (canonicalBytes z)) h, canonical-short g b q))

@@ -15,8 +15,17 @@ twoDates = lines (bytes "JAHISTC04,2" ∷ bytes "1,A,1,19890108,,,,,,," ∷ byte
 abbrev pub piece : String → String → List ℕ
 piece r mark = lines (bytes "JAHISTC04,2" ∷ bytes r ∷ bytes mark ∷ [])
 
--- Sound: "pieces in any order, an optional 1Ah after each", any valid ID, zeros in front of n, a piece without records, each date in the other
--- form. The longest piece has 62 bytes.
+pub record Claim : Type 0 where
+  pub capacity : ℕ
+  pub list : List (List ℕ)
+
+abbrev pub claim : ℕ → List (List ℕ) → Claim
+claim c ps = record { capacity = c; list = ps }
+
+-- ---- sound, and not ours
+
+-- "pieces in any order, an optional 1Ah after each", any valid ID, n with zeros in front, a piece without records, and each date in its other
+-- form: the joined file is neither the file that was cut nor the canonical file
 abbrev pub theirs : List (List ℕ)
 theirs =
     (piece "4,x,20160411,2" "911,98765432109876,003,3" ++ endMark)
@@ -24,12 +33,14 @@ theirs =
     ∷ (piece "1,A,1,H010108,,,,,,," "911,98765432109876,003,1" ++ endMark)
     ∷ []
 
-pub record Claim : Type 0 where
-  pub capacity : ℕ
-  pub list : List (List ℕ)
+abbrev pub theirFile : List ℕ
+theirFile = lines (bytes "JAHISTC04,2" ∷ bytes "1,A,1,H010108,,,,,,," ∷ bytes "4,x,20160411,2" ∷ [])
 
-abbrev pub claim : ℕ → List (List ℕ) → Claim
-claim c ps = record { capacity = c; list = ps }
+-- the longest piece has 62 bytes; "one piece without a record 911", of 52
+abbrev pub sound : List Claim
+sound = claim 62 theirs ∷ claim 52 ((twoDates ++ endMark) ∷ []) ∷ []
+
+-- ---- not sound
 
 abbrev pub one : List ℕ
 one = piece "1,A,1,19890108,,,,,,," "911,20261115000001,2,1"
