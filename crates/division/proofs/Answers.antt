@@ -71,7 +71,7 @@ pub deliver : {says : List ℕ → Reply} {after : List ℕ → List ℕ} {r : R
     → ((out : List ℕ) → leb (length w) (length out) ≡ false → (says out ≡ refusal 20 0) × (after out ≡ out))
     → Delivers says after r w
 deliver {says} {after} {r} {w} z holds short = record {
-  withheld = λ out. (λ h. lacks out (leb (length w) (length out)) refl h, λ h. short out (lt-leb (length w) (length out) (omega (arith, h))) .0);
+  withheld = λ out. (λ h. omega (arith, lacks out (leb (length w) (length out)) refl h), λ h. short out (lt-leb (length w) (length out) (omega (arith, h))) .0);
   kept = λ out h. short out (lt-leb (length w) (length out) (omega (arith, h))) .1;
   written = λ out h. holds out (le-leb (length w) (length out) (omega (arith, h)));
 }
@@ -169,7 +169,7 @@ module _ (f : List ℕ) (b : Notebook) (c : ℕ) (id : List ℕ) (e : readFile f
         is = record { bytes = w .front; whole = s .pieces; count = w .count };
         inside = w .inside;
         sound = s;
-        fewest = λ qs u. few w (least id b c f e qs u);
+        fewest = λ qs u. omega (arith, few w (least id b c f e qs u));
         only = λ qs i. pieces-once qs (w .list) (i .whole) (s .pieces) (sym (i .bytes) ∙ w .front);
       }
     where

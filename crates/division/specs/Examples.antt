@@ -100,16 +100,31 @@ pub record Asked : Type 0 where
 abbrev pub ask : List ℕ → ℕ → List ℕ → ℕ → Asked
 ask s c i room = record { file = s; capacity = c; id = i; room = room }
 
--- its canonical file has 43 bytes
+-- a file that is cut in two: its canonical file has 70 bytes, its pieces 67 and 64
+abbrev pub longer : List ℕ
+longer = lines (bytes "JAHISTC04,2" ∷ bytes "1,A,1,19890108,,,,,,," ∷ bytes "4,x,,2" ∷ bytes "4,xxxxxxxxxxxxxxxxxxxx,,2" ∷ [])
+
 abbrev pub asked : List Asked
 asked =
+    -- the canonical file of `whole` has 43 bytes: outputs that hold it, and one that does not
     ask whole 43 ident 43
+    ∷ ask whole 43 ident 44
     ∷ ask whole 43 ident 42
+    -- no width serves; two pieces
     ∷ ask whole 42 ident 0
+    ∷ ask longer 67 ident 131
+    -- "A valid ID is 14 digits and nothing else."
+    ∷ ask whole 43 (bytes "98765432109876") 43
     ∷ ask whole 42 (bytes "2026111500001") 0
     ∷ ask whole 43 (bytes "2026111500000x") 43
+    -- the file comes first
     ∷ ask (lines (bytes "JAHISTC04,2" ∷ [])) 43 (bytes "1") 43
     ∷ []
 
 abbrev pub theirAnswers : List Cutting
-theirAnswers = Pieces 1 43 ∷ Refused 20 0 ∷ Refused 18 0 ∷ Refused 17 0 ∷ Refused 17 0 ∷ Refused 14 2 ∷ []
+theirAnswers =
+    Pieces 1 43 ∷ Pieces 1 43 ∷ Refused 20 0
+    ∷ Refused 18 0 ∷ Pieces 2 131
+    ∷ Pieces 1 43 ∷ Refused 17 0 ∷ Refused 17 0
+    ∷ Refused 14 2
+    ∷ []
