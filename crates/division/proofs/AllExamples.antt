@@ -53,18 +53,28 @@ cuts-hold = refl
 
 -- ---- sound lists
 
+infixr 5 _also_
+_also_ : {A B : Type 0} → A → B → A × B
+x also y = (x, y)
+
 pub sound-hold : All (λ (x : Claim). Sound twoDates (x .capacity) (x .list)) sound
 unfolding bytes value number spell isLine numberFrom leap monthLength isReal isDay gregorian eraOf eraOn inEra fromEra readDay writeDay table edge oneWidth decimal sized fault valueOf itemFault itemValue itemsFault itemsValue rowIn rowOf pairs t911 isMark recordFrom faultFrom faultWhere lineFault recordOf header inGroup mayFollow pairBroken misplaced closesRp lacking missing valueWrong newerGroup refusal unfinished none start hadAfter advance refusalOf stepOf finishOf factsOf stepLine closed onward recordsFrom readRows readFile joined write recordRows canonicalBytes validID readMark kindOf brokenFrom brokenLine bodyOf piecesIn splitRows split fileOf unmarked partOf partsOf agree find gather joinPieces joinedFile joinFile
-sound-hold = (
-  record {
-    pieces = (record { piece = _; is = refl }, (record { piece = _; is = refl }, (record { piece = _; is = refl }, tt)));
-    fits = (record { fits = omega arith }, (record { fits = omega arith }, (record { fits = omega arith }, tt)));
-    file = theirFile;
-    joins = refl;
-    same = refl;
-  },
-  (record { pieces = (record { piece = _; is = refl }, tt); fits = (record { fits = omega arith }, tt); file = twoDates; joins = refl; same = refl }, tt)
-)
+sound-hold =
+    record {
+      pieces = record { piece = _; is = refl } also record { piece = _; is = refl } also record { piece = _; is = refl } also tt;
+      fits = record { fits = omega arith } also record { fits = omega arith } also record { fits = omega arith } also tt;
+      file = theirFile;
+      joins = refl;
+      same = refl;
+    }
+    also record {
+      pieces = record { piece = _; is = refl } also tt;
+      fits = record { fits = omega arith } also tt;
+      file = twoDates;
+      joins = refl;
+      same = refl;
+    }
+    also tt
 
 -- a refusal is no answer, and two pieces are not one
 refused-ok : {A : Type 0} {n line : ℕ} {a : A} → _≡_ {A = Res A} (refused n line) (ok a) → ⊥
@@ -86,14 +96,14 @@ other ps c w j d s =
 
 pub not-sound : All (λ (x : Claim). Sound twoDates (x .capacity) (x .list) → ⊥) notSound
 unfolding bytes value number spell isLine numberFrom leap monthLength isReal isDay gregorian eraOf eraOn inEra fromEra readDay writeDay table edge oneWidth decimal sized fault valueOf itemFault itemValue itemsFault itemsValue rowIn rowOf pairs t911 isMark recordFrom faultFrom faultWhere lineFault recordOf header inGroup mayFollow pairBroken misplaced closesRp lacking missing valueWrong newerGroup refusal unfinished none start hadAfter advance refusalOf stepOf finishOf factsOf stepLine closed onward recordsFrom readRows readFile joined write recordRows canonicalBytes validID readMark kindOf brokenFrom brokenLine bodyOf piecesIn splitRows split fileOf unmarked partOf partsOf agree find gather joinPieces joinedFile joinFile
-not-sound = (
-  λ s. omega (arith, s .fits .1 .1 .0 .fits),
-  (λ s. two-one (s .pieces .0 .is),
-  (λ s. refused-ok (s .pieces .1 .0 .is),
-  (λ s. refused-ok (s .joins),
-  (λ s. refused-ok (s .joins),
-  (λ s. refused-ok (s .joins),
-  (other _ _ _ refl refl,
-  (other _ _ _ refl refl,
-  (other _ _ _ refl refl, tt))))))))
-)
+not-sound =
+    (λ s. omega (arith, s .fits .1 .1 .0 .fits))
+    also (λ s. two-one (s .pieces .0 .is))
+    also (λ s. refused-ok (s .pieces .1 .0 .is))
+    also (λ s. refused-ok (s .joins))
+    also (λ s. refused-ok (s .joins))
+    also (λ s. refused-ok (s .joins))
+    also other _ _ _ refl refl
+    also other _ _ _ refl refl
+    also other _ _ _ refl refl
+    also tt

@@ -1,11 +1,12 @@
 -- What canonical, cutting and joining answer of an accepted file by the output's size, and what they leave in the output. Assumes nothing.
 use Prim.Native.Nat.{ℕ, suc, _+_, _≤_, _<_}
 use native.Mathlib.Omega.{arith}
+use native.Mathlib.Nat.{le-refl}
 use mathlib.Core.Path.{_≡_, refl, sym, ap, _∙_, subst}
 use mathlib.Core.Logic.{_↔_, inl, inr}
 use mathlib.Core.Bool.{Bool, true, false, cond}
 use mathlib.Core.Option.{Option, none, some}
-use mathlib.Core.List.{List, _++_, map}
+use mathlib.Core.List.{List, _∷_, _++_, map}
 use borrow.Author.Tests.{leb-false, le-leb, lt-leb}
 use lib.Dec.{leb}
 use lib.ListN.{length, take, drop, length-append}
@@ -19,9 +20,9 @@ use Rattle.division.proofs.Chunks.{chunkBytes, chunks-once}
 use Rattle.replies.specs.declared.Cutting.{Cutting}
 use Rattle.replies.specs.declared.Cutting.the-variants.{Pieces, Refused}
 use Rattle.division.specs.Cut.{cutting, listed, found, cutList, held, cutOf, cutBuffer}
-use Rattle.division.specs.Join.{joinFile, joinOf, joinBuffer}
+use Rattle.division.specs.Join.{joinFile, held as held-join, joinOf, joinBuffer}
 use Rattle.replies.specs.declared.Reply.{Reply}
-use Rattle.replies.specs.Replies.{refusal, result, cutReply}
+use Rattle.replies.specs.Replies.{refusal, result, cutReply, joinReply}
 use Rattle.division.specs.Orders.{Perm}
 use Rattle.division.specs.Demand.{OnePiece, ListIn, Sound, Written, cutSays, Delivers, CanonicalFile, JoinedFile, Found, OneOfThree}
 use Rattle.division.proofs.Own.{sound, restores}
@@ -244,6 +245,18 @@ canonical-is f b w e x = delivered-once x (canonical-file f b e)
 joined-file : (s w : List ℕ) → joinFile s ≡ ok w → JoinedFile s w
 unfolding joinOf joinBuffer
 joined-file s w e = deliver refl (λ out h. (rw (e, h), rw (e, h))) (λ out h. (rw (e, h), rw (e, h)))
+
+-- a refusal holds no bytes
+pub accepts : (s : List ℕ) (x : ℕ) (w : List ℕ) → (joinFile s ≡ ok (x ∷ w)) ↔ JoinedFile s (x ∷ w)
+unfolding joinOf
+accepts s x w = (joined-file s (x ∷ w), λ d. go (joinFile s) refl d)
+  where
+    go : (r : Res (List ℕ)) → joinFile s ≡ r → JoinedFile s (x ∷ w) → joinFile s ≡ ok (x ∷ w)
+    go (ok v) q d = q ∙ ap ok (delivered-once (joined-file s v q) d)
+    go (refused n line) q d =
+        let a : joinReply (held-join (joinFile s) (length (x ∷ w))) ≡ result (length (x ∷ w)) 0 0 = d .written (x ∷ w) (le-refl _) .0 in
+        let z : 0 ≡ length (x ∷ w) = ap (λ (r : Reply). r .a) (rw q at a) in
+        absurd (omega (arith, z))
 
 pub joins-back : (f : List ℕ) (b : Notebook) (c : ℕ) (id out : List ℕ) → readFile f ≡ ok b → (n t : ℕ) → cutOf f c id (length out) ≡ Pieces n t
     → (ps qs : List (List ℕ)) → ListIn (cutBuffer f c id out) n t ps → Perm ps qs → (w : List ℕ) → CanonicalFile f w → JoinedFile (flat qs) w

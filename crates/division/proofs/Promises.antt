@@ -6,9 +6,9 @@ use Rattle.notebook.specs.Notebook.{Notebook}
 use Rattle.notebook.specs.Canonical.{canonicalBytes}
 use Rattle.notebook.proofs.CanonicalLaws.{canonical-same, canonical-short}
 use Rattle.replies.specs.Replies.{cutReply}
-use Rattle.division.specs.Demand.{Cutting-writes, Cutting-finds, Cutting-withholds, Cutting-says, Joining-restores}
+use Rattle.division.specs.Demand.{Cutting-writes, Cutting-finds, Cutting-withholds, Cutting-says, Joining-accepts, Joining-restores}
 use Rattle.division.specs.Demand.{Canonical-writes, Canonical-same, Canonical-shortest}
-use Rattle.division.proofs.Answers.{refused-told, pieces-told, numbered, writes, finds, withholds, says, joins-back, canonical-file, canonical-is}
+use Rattle.division.proofs.Answers.{refused-told, pieces-told, numbered, writes, finds, withholds, says, accepts, joins-back, canonical-file, canonical-is}
 
 pub cutting-writes : Cutting-writes
 cutting-writes f b c id out e n t h = writes f b c id e out n t (pieces-told _ n t (numbered f b c id (length out) e) h)
@@ -23,6 +23,9 @@ cutting-withholds f b c id out e v = withholds f b c id e v out
 
 pub cutting-says : Cutting-says
 cutting-says f b c id out e v = says f b c id e v out
+
+pub joining-accepts : Joining-accepts
+joining-accepts = accepts
 
 pub joining-restores : Joining-restores
 joining-restores f b c id out e n t h = joins-back f b c id out e n t (pieces-told _ n t (numbered f b c id (length out) e) h)

@@ -124,6 +124,11 @@ Cutting-says = ForFile (λ f b c id out. validID id ≡ true → OneOfThree (cut
 
 -- ---- joining and canonical
 
+-- "the output's size and 20 have no part in that": what `Sound` asks of a list is that the call join has a file to write for it. No file that
+-- joining accepts is empty.
+abbrev pub Joining-accepts : Type 0
+Joining-accepts = (s : List ℕ) (x : ℕ) (w : List ℕ) → (joinFile s ≡ ok (x ∷ w)) ↔ JoinedFile s (x ∷ w)
+
 -- "Joining our pieces, in whichever order they lie, gives the canonical file of the file that was cut, when the output can hold it."
 abbrev pub Joining-restores : Type 0
 Joining-restores =
@@ -131,7 +136,7 @@ Joining-restores =
     → Perm ps qs → (w : List ℕ) → CanonicalFile f w → JoinedFile (flat qs) w)
 
 -- "Two accepted files have equal canonical files exactly when they carry the same notebook, and then neither is shorter than that canonical
--- file." Each accepted file has one:
+-- file." The canonical file is what the call canonical has to write, and each accepted file has one.
 pub record HasCanonical (f : List ℕ) : Type 0 where
   pub file : List ℕ
   pub is : CanonicalFile f file
