@@ -1,11 +1,11 @@
 -- The worked examples of specs/Examples.antt and specs/SoundExamples.antt come out as written there. Assumes nothing.
-use Prim.Native.Nat.{ℕ, _≤_}
+use Prim.Native.Nat.{ℕ}
 use native.Mathlib.Omega.{arith}
 use mathlib.Core.Path.{_≡_, refl, sym, ap, _∙_}
 use mathlib.Core.Bool.{true, false}
 use mathlib.Core.List.{List, [], _∷_, map}
 use lib.ListN.{length}
-use Rattle.lists.specs.Lists.{bytes, same, All, Res, ok, refused}
+use Rattle.lists.specs.Lists.{bytes, same, All, Res, ok}
 use Rattle.lists.proofs.Tests.{same-refl}
 use Rattle.digits.specs.Digits.{value, number, spell}
 use Rattle.characters.specs.Rows.{flat, isLine}
@@ -24,6 +24,7 @@ use Rattle.rules.specs.Rules.{pairBroken, misplaced, closesRp, lacking, missing
 use Rattle.order.specs.State.{none, start, hadAfter, advance, refusalOf, stepOf, finishOf}
 use Rattle.notebook.specs.Facts.{factsOf}
 use Rattle.notebook.specs.Notebook.{stepLine, closed, onward, recordsFrom, readRows, readFile}
+use Rattle.notebook.proofs.Accepted.{no-refusal}
 use Rattle.notebook.specs.Canonical.{recordRows, canonicalBytes, bytesOf}
 use Rattle.packing.specs.Packing.{total, put, pack}
 use Rattle.packing.specs.Widths.{past, digitsOf, over, serves, tries, plan}
@@ -76,10 +77,6 @@ sound-hold =
     }
     also tt
 
--- a refusal is no answer, and two pieces are not one
-refused-ok : {A : Type 0} {n line : ℕ} {a : A} → _≡_ {A = Res A} (refused n line) (ok a) → ⊥
-refused-ok e = let z : _≡_ {A = ℕ} 0 1 = cc in omega arith
-
 two-one : {a b c : Piece} → _≡_ {A = Res (List Piece)} (ok (a ∷ b ∷ [])) (ok (c ∷ [])) → ⊥
 two-one {a} {b} {c} e = let z : a ∷ b ∷ [] ≡ c ∷ [] = cc in omega (arith, ap length z)
 
@@ -99,10 +96,10 @@ unfolding bytes value number spell isLine numberFrom leap monthLength isReal isD
 not-sound =
     (λ s. omega (arith, s .fits .1 .1 .0 .fits))
     also (λ s. two-one (s .pieces .0 .is))
-    also (λ s. refused-ok (s .pieces .1 .0 .is))
-    also (λ s. refused-ok (s .joins))
-    also (λ s. refused-ok (s .joins))
-    also (λ s. refused-ok (s .joins))
+    also (λ s. no-refusal (s .pieces .1 .0 .is))
+    also (λ s. no-refusal (s .joins))
+    also (λ s. no-refusal (s .joins))
+    also (λ s. no-refusal (s .joins))
     also other _ _ _ refl refl
     also other _ _ _ refl refl
     also other _ _ _ refl refl

@@ -15,6 +15,7 @@ use Rattle.lists.specs.Lists.{All, Res, ok, refused}
 use Rattle.characters.specs.Rows.{flat}
 use Rattle.notebook.specs.Notebook.{Notebook, readFile}
 use Rattle.notebook.specs.Canonical.{canonicalBytes, canonicalOf, canonicalBuffer}
+use Rattle.notebook.proofs.Accepted.{no-refusal}
 use Rattle.division.specs.Marks.{validID}
 use Rattle.division.proofs.Chunks.{chunkBytes, chunks-once}
 use Rattle.replies.specs.declared.Cutting.{Cutting}
@@ -107,9 +108,6 @@ pieces-once ps qs a h q =
 pieces-refused : {n t m line : ℕ} → Refused m line ≡ Pieces n t → ⊥
 pieces-refused e = let z : _≡_ {A = ℕ} 0 1 = cc in omega arith
 
-ok-refused : {A : Type 0} {m line : ℕ} {a : A} → _≡_ {A = Res A} (refused m line) (ok a) → ⊥
-ok-refused e = let z : _≡_ {A = ℕ} 0 1 = cc in omega arith
-
 -- a list was planned for a valid ID
 record Planned (id : List ℕ) (c : ℕ) (b : Notebook) (ps : List (List ℕ)) : Type 0 where
   valid : validID id ≡ true
@@ -121,9 +119,9 @@ module _ (f : List ℕ) (b : Notebook) (c : ℕ) (id : List ℕ) (e : readFile f
   list-found ps l = go (validID id) refl (cutting id c b) refl (sym (ap (found id c) e) ∙ l)
     where
       go : (v : Bool) → validID id ≡ v → (m : Option (List (List ℕ))) → cutting id c b ≡ m → cond v (listed m) (refused 17 0) ≡ ok ps → Planned id c b ps
-      go true p none q l = absurd (ok-refused l)
+      go true p none q l = absurd (no-refusal l)
       go true p (some xs) q l = let z : xs ≡ ps = cc in record { valid = p; is = q ∙ ap some z }
-      go false p m q l = absurd (ok-refused l)
+      go false p m q l = absurd (no-refusal l)
 
   list-of : validID id ≡ true → cutList f c id ≡ listed (cutting id c b)
   unfolding cutList
