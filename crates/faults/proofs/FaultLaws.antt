@@ -181,7 +181,7 @@ lowest-of n (up {lo = lo} {hi = hi} {x = x} {ns = ns} a b r) h e = by x b (lowes
 -- ---- the numbers of items
 
 -- 0, or one of 8 to 11
-abbrev OfItem : ℕ → Type 0
+abbrev pub OfItem : ℕ → Type 0
 OfItem n = 0 < n → (8 ≤ n) × (n ≤ 11)
 
 unless-item : (b : Bool) (n : ℕ) → 8 ≤ n → n ≤ 11 → OfItem (unless b n)
@@ -226,7 +226,7 @@ unfolding itemFault
 item-item provider i s =
     cond-case OfItem (empty s) _ _ (λ _. unless-item (not (required provider (i .need))) 8 (omega arith) (omega arith)) (λ _. fault-item (i .kind) s)
 
-items-item : (provider : Bool) (is : List Item) (ss : List (List ℕ)) → OfItem (itemsFault provider is ss)
+pub items-item : (provider : Bool) (is : List Item) (ss : List (List ℕ)) → OfItem (itemsFault provider is ss)
 unfolding itemsFault
 items-item provider [] [] = λ h. absurd (omega arith)
 items-item provider [] (s ∷ ss) = λ h. absurd (omega arith)

@@ -1,0 +1,4 @@
+pub mod LineEnds
+pub mod Numbers
+pub mod Reading
+pub mod Promises

@@ -1,0 +1,145 @@
+-- DEMAND 1, as statements about the definitions that the contracts of the exported calls cite: "The answer to every input, of any length and content,
+-- is a result or one refusal from document 01 with its line. It always comes, and a refusal leaves all lent memory as lent." One statement for all
+-- calls: `Always-answered`, `Refusal-keeps`, `Zero-is-a-result`, `Large-first`. proofs/Promises.antt proves each.
+use Prim.Native.Nat.{ℕ, _+_, _≤_, _<_}
+use mathlib.Core.Path.{_≡_}
+use mathlib.Core.Bool.{true, false, cond, _&&_}
+use mathlib.Core.List.{List, [], _∷_, _++_}
+use lib.Dec.{eqb}
+use lib.ListN.{length}
+use Rattle.lists.specs.Lists.{member}
+use Rattle.replies.specs.declared.Reply.{Reply}
+use Rattle.replies.specs.Replies.{refusal, result, checkReply, indexReply, canonicalReply, cutReply, joinReply}
+use Rattle.notebook.specs.Check.{checkOf}
+use Rattle.notebook.specs.Index.{indexOf, indexBuffer}
+use Rattle.notebook.specs.Canonical.{canonicalOf, canonicalBuffer}
+use Rattle.division.specs.Cut.{cutOf, cutBuffer}
+use Rattle.division.specs.Join.{joinOf, joinBuffer}
+
+-- ---- the five calls and their inputs; out: the buffer at entry
+
+pub data Call : Type 0 where
+  check : (file : List ℕ) → Call
+  index : (file out : List ℕ) → Call
+  canonical : (file out : List ℕ) → Call
+  cut : (file : List ℕ) (capacity : ℕ) (id out : List ℕ) → Call
+  join : (pieces out : List ℕ) → Call
+
+-- the reply that the contract promises
+abbrev pub replyOf : Call → Reply
+replyOf (check f) = checkReply (checkOf f)
+replyOf (index f out) = indexReply (indexOf f (length out))
+replyOf (canonical f out) = canonicalReply (canonicalOf f (length out))
+replyOf (cut f c id out) = cutReply (cutOf f c id (length out))
+replyOf (join s out) = joinReply (joinOf s (length out))
+
+-- the lent buffer at entry, and at exit as the contract promises; check is lent none
+abbrev pub lent : Call → List ℕ
+lent (check f) = []
+lent (index f out) = out
+lent (canonical f out) = out
+lent (cut f c id out) = out
+lent (join s out) = out
+
+abbrev pub left : Call → List ℕ
+left (check f) = []
+left (index f out) = indexBuffer f out
+left (canonical f out) = canonicalBuffer f out
+left (cut f c id out) = cutBuffer f c id out
+left (join s out) = joinBuffer s out
+
+-- the bytes whose lines are counted: the file, or the pieces as given
+abbrev pub given : Call → List ℕ
+given (check f) = f
+given (index f out) = f
+given (canonical f out) = f
+given (cut f c id out) = f
+given (join s out) = s
+
+-- ---- the numbers that a call gives
+
+-- 1 to 16 of the table
+abbrev pub checkNumbers : List ℕ
+checkNumbers = 1 ∷ 2 ∷ 3 ∷ 4 ∷ 5 ∷ 6 ∷ 7 ∷ 8 ∷ 9 ∷ 10 ∷ 11 ∷ 12 ∷ 13 ∷ 14 ∷ 15 ∷ 16 ∷ []
+
+-- "Index and canonical: 1–16, then 20"
+abbrev pub writingNumbers : List ℕ
+writingNumbers = checkNumbers ++ 20 ∷ []
+
+-- "Cutting: 1–16, 17, 18, 20"
+abbrev pub cutNumbers : List ℕ
+cutNumbers = checkNumbers ++ 17 ∷ 18 ∷ 20 ∷ []
+
+-- "Joining: 1 and 2 on the input, 19, then 1–16 on the joined file, then 20". The joined file begins with a line 1 and is "without 911", so that it
+-- never has 3 or 6.
+abbrev pub joinNumbers : List ℕ
+joinNumbers = 1 ∷ 2 ∷ 4 ∷ 5 ∷ 7 ∷ 8 ∷ 9 ∷ 10 ∷ 11 ∷ 12 ∷ 13 ∷ 14 ∷ 15 ∷ 16 ∷ 19 ∷ 20 ∷ []
+
+abbrev pub numbersOf : Call → List ℕ
+numbersOf (check f) = checkNumbers
+numbersOf (index f out) = writingNumbers
+numbersOf (canonical f out) = writingNumbers
+numbersOf (cut f c id out) = cutNumbers
+numbersOf (join s out) = joinNumbers
+
+-- ---- the lines
+
+-- how often 0Dh 0Ah stand in the bytes
+unfoldable pub lineEnds : List ℕ → ℕ
+lineEnds [] = 0
+lineEnds (a ∷ []) = 0
+lineEnds (a ∷ b ∷ s) = cond (eqb a 0x0d && eqb b 0x0a) 1 0 + lineEnds (b ∷ s)
+
+-- "Number 1 comes first, with line 0"; "Numbers 17–20 have line 0"
+abbrev pub lineless : List ℕ
+lineless = 1 ∷ 17 ∷ 18 ∷ 19 ∷ 20 ∷ []
+
+-- "A line's number is one more than the line ends before it; empty input has line 1. Number 14 at the end has the line count plus 1."
+pub record AtLine (s : List ℕ) (line : ℕ) : Type 0 where
+  pub from : 1 ≤ line
+  pub to : line ≤ lineEnds s + 1
+
+-- ---- a result, or one refusal with its line
+
+-- the refusal n with this line, for the bytes s: n is one of the numbers and never 0, and its line is 0 or a line of s
+pub record Given (numbers s : List ℕ) (n line : ℕ) : Type 0 where
+  pub listed : member numbers n ≡ true
+  pub some : 0 < n
+  pub none : member lineless n ≡ true → line ≡ 0
+  pub at : member lineless n ≡ false → AtLine s line
+
+-- a result has refusal 0 and line 0, a refusal has 0 for each value (replies, specs/Replies.antt)
+pub data Answer (numbers s : List ℕ) : Reply → Type 0 where
+  gives : {a b c : ℕ} → Answer numbers s (result a b c)
+  refuses : {n line : ℕ} → Given numbers s n line → Answer numbers s (refusal n line)
+
+-- "The answer to every input, of any length and content, is a result or one refusal from document 01 with its line. It always comes"
+abbrev pub Always-answered : Type 0
+Always-answered = (x : Call) → Answer (numbersOf x) (given x) (replyOf x)
+
+-- "a refusal leaves all lent memory as lent"
+abbrev pub Refusal-keeps : Type 0
+Refusal-keeps = (x : Call) → (replyOf x .refusal ≡ 0 → ⊥) → left x ≡ lent x
+
+-- no refusal has the number 0: a reply with refusal 0 is a result
+pub record IsResult (r : Reply) : Type 0 where
+  pub a : ℕ
+  pub b : ℕ
+  pub c : ℕ
+  pub is : r ≡ result a b c
+
+abbrev pub Zero-is-a-result : Type 0
+Zero-is-a-result = (x : Call) → replyOf x .refusal ≡ 0 → IsResult (replyOf x)
+
+-- ---- "Number 1 comes first, with line 0"
+
+-- "A file has at most 65,536 bytes"; "Joining takes such bytes, at most 131,072"
+abbrev pub limit : Call → ℕ
+limit (check f) = 65536
+limit (index f out) = 65536
+limit (canonical f out) = 65536
+limit (cut f c id out) = 65536
+limit (join s out) = 131072
+
+abbrev pub Large-first : Type 0
+Large-first = (x : Call) → limit x < length (given x) → replyOf x ≡ refusal 1 0
