@@ -2,3 +2,4 @@ pub mod LineEnds
 pub mod Numbers
 pub mod Reading
 pub mod Promises
+pub mod Joining

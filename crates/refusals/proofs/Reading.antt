@@ -1,5 +1,5 @@
--- What a file is refused with, and at which line (`file-refuses`); and the same of a line 1 and lines without record 911 (`joined-refuses`), which has
--- neither 3 nor 6. Assumes nothing.
+-- What a file is refused with, and at which line (`file-refuses`); and what follows a line 1, which has no 3, and 6 only for a record 911
+-- (`book-refuses`). Assumes nothing.
 use Prim.Native.Nat.{ℕ, zero, suc, _+_, _≤_, _<_}
 use native.Mathlib.Omega.{arith}
 use mathlib.Core.Path.{_≡_, refl, sym, ap, _∙_, subst}
@@ -40,7 +40,7 @@ Refuses P (refused n line) = P n line
 abbrev pub Covers : List ℕ → List ℕ → Type 0
 Covers xs ns = below (λ m. orMember (member xs m) ns m) 17 ≡ true
 
-covered : (xs ns : List ℕ) (n : ℕ) → Covers xs ns → n ≤ 16 → member xs n ≡ false → member ns n ≡ true
+pub covered : (xs ns : List ℕ) (n : ℕ) → Covers xs ns → n ≤ 16 → member xs n ≡ false → member ns n ≡ true
 covered xs ns n c h e = rw e at (below-at (λ m. orMember (member xs m) ns m) 17 c n (omega arith))
 
 -- "Number 1 comes first, with line 0"; "Numbers 17–20 have line 0"
@@ -113,7 +113,7 @@ records-refuse (r ∷ rs) st ends h =
 
 -- ---- line 1, and the file
 
-weaker : {A : Type 0} (P Q : ℕ → ℕ → Type 0) → ((n line : ℕ) → P n line → Q n line) → (res : Res A) → Refuses P res → Refuses Q res
+pub weaker : {A : Type 0} (P Q : ℕ → ℕ → Type 0) → ((n line : ℕ) → P n line → Q n line) → (res : Res A) → Refuses P res → Refuses Q res
 weaker P Q f (ok a) h = tt
 weaker P Q f (refused n line) h = f n line h
 
@@ -122,7 +122,7 @@ of-book P d (ok rs) h = tt
 of-book P d (refused n line) h = h
 
 -- what follows a line 1
-book-refuses : (d : Bool) (rs : List (List ℕ)) (ends : ℕ) → suc (lineEnds (flat rs)) ≤ ends
+pub book-refuses : (d : Bool) (rs : List (List ℕ)) (ends : ℕ) → suc (lineEnds (flat rs)) ≤ ends
     → Refuses (RowsRefused ends (unmarked rs)) (notebookOf d (recordsFrom (start d) rs))
 book-refuses d rs ends h = of-book _ d (recordsFrom (start d) rs) (records-refuse rs (start d) ends (omega (arith, line-start d)))
 
