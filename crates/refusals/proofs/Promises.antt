@@ -24,12 +24,16 @@ use Rattle.replies.specs.declared.Joining.the-variants.{Joined, Refused as Join
 use Rattle.replies.specs.Replies.{checkReply, indexReply, canonicalReply, cutReply, joinReply}
 use Rattle.notebook.specs.Notebook.{Notebook, readFile}
 use Rattle.notebook.specs.Check.{checked, checkOf}
-use Rattle.notebook.specs.Index.{indexed, indexOf, bufferAfter as indexAfter, indexBuffer}
-use Rattle.notebook.specs.Canonical.{canonicalBytes, answered, canonicalOf, bufferAfter as canonicalAfter, canonicalBuffer}
+use Rattle.notebook.specs.Index.{numbersOf as entryNumbers, indexed, indexOf, bufferAfter as indexAfter, indexBuffer}
+use Rattle.notebook.specs.Canonical.{canonicalBytes, bytesOf as canonicalBytesOf, answered, canonicalOf, bufferAfter as canonicalAfter, canonicalBuffer}
 use Rattle.division.specs.Marks.{validID}
-use Rattle.division.specs.Cut.{cutting, listed, found, cutList, held as cutHeld, cutOf, bufferAfter as cutAfter, cutBuffer}
-use Rattle.refusals.specs.Refusals.{checkNumbers, writingNumbers, cutNumbers, Given, Answer, gives, refuses}
-use Rattle.refusals.proofs.Reading.{Refuses, Covers, without-line, file-refuses}
+use Rattle.division.specs.Cut.{cutting, listed, found, cutList, held as cutHeld, bytesOf as cutBytesOf, cutOf, bufferAfter as cutAfter, cutBuffer}
+use Rattle.division.specs.Join.{joinedFile, joinFile, held as joinHeld, bytesOf as joinBytesOf, joinOf, bufferAfter as joinAfter, joinBuffer}
+use Rattle.refusals.specs.Refusals.{check, index, canonical, cut, join, checkNumbers, writingNumbers, cutNumbers, joinNumbers, numbersOf}
+use Rattle.refusals.specs.Refusals.{given, replyOf, Given, Answer, gives, refuses, IsResult}
+use Rattle.refusals.specs.Refusals.{Always-answered, Refusal-keeps, Zero-is-a-result, Large-first}
+use Rattle.refusals.proofs.Reading.{Refuses, without-line, file-refuses}
+use Rattle.refusals.proofs.Joining.{join-refuses}
 
 -- ---- check
 
@@ -88,3 +92,77 @@ cut-answers s c id room = go (readFile s) (file-refuses cutNumbers refl s)
     go : (res : Res Notebook) → Refuses (Given cutNumbers s) res → Answer cutNumbers s (cutReply (cutHeld (found id c res) room))
     go (ok b) h = valid (validID id) (cutting id c b)
     go (refused n line) h = refuses h
+
+-- ---- join: then 20
+
+join-answers : (s : List ℕ) (room : ℕ) → Answer joinNumbers s (joinReply (joinOf s room))
+unfolding joinOf below
+join-answers s room = go (joinFile s) (join-refuses joinNumbers refl s refl)
+  where
+    short : (b : Bool) (n : ℕ) → Answer joinNumbers s (joinReply (cond b (Joined n) (JoinRefused 20 0)))
+    short true n = gives
+    short false n = refuses (without-line 20 (omega arith) refl refl)
+
+    go : (res : Res (List ℕ)) → Refuses (Given joinNumbers s) res → Answer joinNumbers s (joinReply (joinHeld res room))
+    go (ok w) h = short (leb (length w) room) (length w)
+    go (refused n line) h = refuses h
+
+-- ---- EVERY CALL
+
+pub always-answered : Always-answered
+always-answered (check f) = check-answers f
+always-answered (index f out) = index-answers f (length out)
+always-answered (canonical f out) = canonical-answers f (length out)
+always-answered (cut f c id out) = cut-answers f c id (length out)
+always-answered (join s out) = join-answers s (length out)
+
+pub zero-is-a-result : Zero-is-a-result
+zero-is-a-result x e = go (always-answered x) e
+  where
+    go : {r : Reply} → Answer (numbersOf x) (given x) r → r .refusal ≡ 0 → IsResult r
+    go (gives {a = a} {b = b} {c = c}) e = record { a = a; b = b; c = c; is = refl }
+    go (refuses h) e = absurd (omega (arith, h .some))
+
+-- ---- the lent buffer
+
+index-keeps : (x : Indexed) (w d : List ℕ) → (indexReply x .refusal ≡ 0 → ⊥) → indexAfter x w d ≡ d
+index-keeps (Written n) w d h = absurd (h refl)
+index-keeps (Refused n line) w d h = refl
+
+canonical-keeps : (x : Canonical) (w d : List ℕ) → (canonicalReply x .refusal ≡ 0 → ⊥) → canonicalAfter x w d ≡ d
+canonical-keeps (CanonicalWritten n) w d h = absurd (h refl)
+canonical-keeps (CanonicalRefused n line) w d h = refl
+
+cut-keeps : (x : Cutting) (w d : List ℕ) → (cutReply x .refusal ≡ 0 → ⊥) → cutAfter x w d ≡ d
+cut-keeps (Pieces n t) w d h = absurd (h refl)
+cut-keeps (CutRefused n line) w d h = refl
+
+join-keeps : (x : Joining) (w d : List ℕ) → (joinReply x .refusal ≡ 0 → ⊥) → joinAfter x w d ≡ d
+join-keeps (Joined n) w d h = absurd (h refl)
+join-keeps (JoinRefused n line) w d h = refl
+
+pub refusal-keeps : Refusal-keeps
+unfolding indexBuffer canonicalBuffer cutBuffer joinBuffer
+refusal-keeps (check f) h = refl
+refusal-keeps (index f out) h = index-keeps (indexOf f (length out)) (entryNumbers f) out h
+refusal-keeps (canonical f out) h = canonical-keeps (canonicalOf f (length out)) (canonicalBytesOf (readFile f)) out h
+refusal-keeps (cut f c id out) h = cut-keeps (cutOf f c id (length out)) (cutBytesOf (cutList f c id)) out h
+refusal-keeps (join s out) h = join-keeps (joinOf s (length out)) (joinBytesOf (joinFile s)) out h
+
+-- ---- number 1
+
+large : (s : List ℕ) → 65536 < length s → readFile s ≡ refused 1 0
+unfolding readFile
+large s h = rw (lt-leb (length s) 65536 h)
+
+large-pieces : (s : List ℕ) → 131072 < length s → joinFile s ≡ refused 1 0
+unfolding joinFile joinedFile
+large-pieces s h = rw (lt-leb (length s) 131072 h)
+
+pub large-first : Large-first
+unfolding checkOf indexOf canonicalOf cutOf cutList joinOf
+large-first (check f) h = rw (large f h)
+large-first (index f out) h = rw (large f h)
+large-first (canonical f out) h = rw (large f h)
+large-first (cut f c id out) h = rw (large f h)
+large-first (join s out) h = rw (large-pieces s h)
