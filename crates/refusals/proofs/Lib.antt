@@ -1,3 +1,4 @@
+pub mod AllExamples
 pub mod LineEnds
 pub mod Numbers
 pub mod Reading

@@ -1,0 +1,41 @@
+-- The examples of specs/Examples.antt come out as written there, and reach every number of every call but 1. Assumes nothing.
+use mathlib.Core.Path.{_≡_, refl}
+use mathlib.Core.Bool.{true}
+use mathlib.Core.List.{List, [], _∷_, _++_}
+use Rattle.lists.specs.Lists.{bytes}
+use Rattle.digits.specs.Digits.{value, number, spell}
+use Rattle.digits.specs.Short.{plainNumber}
+use Rattle.characters.specs.Rows.{isLine}
+use Rattle.calendar.specs.Digits.{numberFrom}
+use Rattle.eras.specs.Day.{leap, monthLength, isReal, isDay}
+use Rattle.eras.specs.Era.{eraOf, eraOn, writeDay}
+use Rattle.calendar.specs.Day.{gregorian}
+use Rattle.calendar.specs.Era.{inEra, fromEra, readDay}
+use Rattle.records.specs.Split.{joined}
+use Rattle.records.specs.Table.{table}
+use Rattle.records.specs.Items.{edge, oneWidth, decimal, sized, fault, value as valueOf, seven, postal, prefecture}
+use Rattle.records.specs.Records.{itemFault, itemValue, itemsFault, itemsValue, rowIn, rowOf, pairs, codePair, t911, isMark, recordFrom, faultFrom, faultWhere}
+use Rattle.records.specs.Records.{lineFault, recordOf, header, write}
+use Rattle.rules.specs.Places.{inGroup, mayFollow}
+use Rattle.rules.specs.Rules.{pairBroken, misplaced, continues, closesRp, lacking, missing, valueWrong, newerGroup, refusal, unfinished}
+use Rattle.order.specs.State.{none, start, hadAfter, advance, refusalOf, stepOf, finishOf}
+use Rattle.notebook.specs.Facts.{factsOf}
+use Rattle.notebook.specs.Notebook.{stepLine, closed, onward, recordsFrom, readRows, readFile}
+use Rattle.notebook.specs.Check.{checkOf}
+use Rattle.notebook.specs.Index.{indexOf}
+use Rattle.notebook.specs.Canonical.{recordRows, canonicalBytes, canonicalOf}
+use Rattle.packing.specs.Packing.{total, put, pack}
+use Rattle.packing.specs.Widths.{past, digitsOf, over, serves, tries, plan}
+use Rattle.division.specs.Marks.{validID, markLine, readMark}
+use Rattle.division.specs.Pieces.{kindOf, brokenFrom, brokenLine, bodyOf, piecesIn, splitRows, split, fileOf}
+use Rattle.division.specs.Join.{unmarked, partOf, partsOf, agree, find, gather, joinPieces, joinedFile, joinFile, joinOf}
+use Rattle.division.specs.Cut.{pieceBytes, numbered, cutting, cutList, cutOf}
+use Rattle.refusals.specs.Refusals.{lineEnds}
+use Rattle.refusals.specs.Examples.{checks, indexes, canonicals, cuts, joins, allHold, allReached}
+
+pub examples-reach : allReached ≡ true
+examples-reach = refl
+
+pub examples-hold : allHold (checks ++ (indexes ++ (canonicals ++ (cuts ++ joins)))) ≡ true
+unfolding bytes value number spell plainNumber isLine numberFrom leap monthLength isReal isDay gregorian eraOf eraOn inEra fromEra readDay writeDay joined table edge oneWidth decimal sized fault valueOf seven postal prefecture itemFault itemValue itemsFault itemsValue rowIn rowOf pairs codePair t911 isMark recordFrom faultFrom faultWhere lineFault recordOf header write inGroup mayFollow pairBroken misplaced continues closesRp lacking missing valueWrong newerGroup refusal unfinished none start hadAfter advance refusalOf stepOf finishOf factsOf stepLine closed onward recordsFrom readRows readFile checkOf indexOf recordRows canonicalBytes canonicalOf total put pack past digitsOf over serves tries plan validID markLine readMark kindOf brokenFrom brokenLine bodyOf piecesIn splitRows split fileOf unmarked partOf partsOf agree find gather joinPieces joinedFile joinFile joinOf pieceBytes numbered cutting cutList cutOf lineEnds
+examples-hold = refl
