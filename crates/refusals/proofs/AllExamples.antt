@@ -1,7 +1,7 @@
 -- The examples of specs/Examples.antt come out as written there, and reach every number of every call but 1. Assumes nothing.
 use mathlib.Core.Path.{_≡_, refl}
 use mathlib.Core.Bool.{true}
-use mathlib.Core.List.{List, [], _∷_, _++_}
+use mathlib.Core.List.{_++_}
 use Rattle.lists.specs.Lists.{bytes}
 use Rattle.digits.specs.Digits.{value, number, spell}
 use Rattle.digits.specs.Short.{plainNumber}

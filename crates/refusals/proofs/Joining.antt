@@ -3,10 +3,10 @@
 use Prim.Native.Nat.{ℕ, zero, suc, _+_, _≤_, _<_}
 use native.Mathlib.Omega.{arith}
 use mathlib.Core.Path.{_≡_, refl, sym, ap, _∙_, subst}
-use mathlib.Core.Bool.{Bool, true, false, cond, not, _&&_}
+use mathlib.Core.Bool.{Bool, true, false, cond, not}
 use mathlib.Core.Option.{Option, none, some}
 use mathlib.Core.List.{List, [], _∷_, _++_, map, append-assoc, append-nil, head-eq-of-cons-eq, tail-eq-of-cons-eq, nil≢cons}
-use borrow.Author.Tests.{eqb-true, eqb-false, ne-eqb, leb-true, leb-false, le-leb, lt-leb}
+use borrow.Author.Tests.{eqb-true, eqb-false, ne-eqb, leb-true, le-leb, lt-leb}
 use lib.Dec.{eqb, leb}
 use lib.ListN.{length, length-append}
 use Rattle.lists.specs.Lists.{bytes, same, All, Res, ok, refused, member}
@@ -20,7 +20,7 @@ use Rattle.notebook.specs.Notebook.{Notebook, recordsFrom, notebookOf, readRows
 use Rattle.notebook.specs.Canonical.{headRow}
 use Rattle.notebook.proofs.Accepted.{IsLine, head-line, row-cut, rows-flat}
 use Rattle.division.specs.Marks.{Mark, readMark}
-use Rattle.division.specs.Pieces.{Kind, head, endHead, body, end, broken, kindOf, judged, brokenFrom, brokenLine, Piece, startsWell, piecesIn, splitRows, split, fileOf}
+use Rattle.division.specs.Pieces.{Kind, head, endHead, body, end, broken, kindOf, judged, brokenFrom, brokenLine, Piece, startsWell, splitRows, split, fileOf}
 use Rattle.division.specs.Join.{unmarked, Part, before, lastMark, partOf, with, partsOf, find, behind, gather, joinParts, joinPieces}
 use Rattle.division.specs.Join.{orSet, joinSplit, joinedFile, checkedFile, thenChecked, joinFile}
 use Rattle.division.proofs.Chunks.{Chunk, mark, chunkBytes, pieceOf, Body, Good, body-line, Chunked, split-is}
@@ -120,8 +120,14 @@ unfolding lineEnds linesOf chunkBytes
 chunk-ends [] h = refl
 chunk-ends (x ∷ xs) (h, t) =
     let u : List ℕ = flat (map chunkBytes xs) in
-    omega (arith, ap lineEnds (whole u), line-ends (headRow (x .provider)) (flat (x .rows) ++ (mark (x .ended) ++ u)) (head-line (x .provider)),
-    lines-ends (x .rows) (mark (x .ended) ++ u) (bodies-lines (x .rows) h), marked (x .ended) u, chunk-ends xs t)
+    omega (
+      arith,
+      ap lineEnds (whole u),
+      line-ends (headRow (x .provider)) (flat (x .rows) ++ (mark (x .ended) ++ u)) (head-line (x .provider)),
+      lines-ends (x .rows) (mark (x .ended) ++ u) (bodies-lines (x .rows) h),
+      marked (x .ended) u,
+      chunk-ends xs t,
+    )
   where
     marked : (e : Bool) (u : List ℕ) → lineEnds (mark e ++ u) ≡ lineEnds u
     marked true u = skip-byte 0x1a u refl
@@ -229,7 +235,8 @@ gather-rows ps h zero k ls e = subst (λ (z : List (List ℕ)). All Kept z × (l
 gather-rows ps h (suc n) k ls e = go (find k ps) refl (gather ps n (suc k)) (gather-rows ps h n (suc k)) e
   where
     go : (m : Option Part) → find k ps ≡ m → (g : Option (List (List ℕ)))
-        → ((us : List (List ℕ)) → g ≡ some us → All Kept us × (length us ≤ rowsFrom (suc k) ps)) → behind m g ≡ some ls → All Kept ls × (length ls ≤ rowsFrom k ps)
+        → ((us : List (List ℕ)) → g ≡ some us → All Kept us × (length us ≤ rowsFrom (suc k) ps)) → behind m g ≡ some ls
+        → All Kept ls × (length ls ≤ rowsFrom k ps)
     go none q g ih f = absurd (no-none f)
     go (some p) q none ih f = absurd (no-none f)
     go (some p) q (some us) ih f =
@@ -273,11 +280,10 @@ unfolding readRows header bytes
 rows-read true rs = rw (head-line true)
 rows-read false rs = rw (head-line false)
 
--- every number to 16 but 3 and 6 is one of these
-abbrev pub CoversJoined : List ℕ → Type 0
-CoversJoined ns = Covers (0 ∷ 3 ∷ 6 ∷ []) ns
+abbrev never : List ℕ
+never = 0 ∷ 3 ∷ 6 ∷ []
 
-module _ (ns : List ℕ) (c : CoversJoined ns) (s : List ℕ) where
+module _ (ns : List ℕ) (c : Covers never ns) (s : List ℕ) where
   file-refuses : (w : Piece) → All Kept (w .rows) → suc (length (w .rows)) ≤ lineEnds s → Refuses (Given ns s) (readFile (fileOf w))
   unfolding readFile fileOf lineEnds
   file-refuses w h few =
@@ -291,12 +297,12 @@ module _ (ns : List ℕ) (c : CoversJoined ns) (s : List ℕ) where
       (λ _. subst (Refuses (Given ns s)) (sym (ap readRows cut ∙ rows-read d rs))
       (weaker (RowsRefused (lineEnds s) (unmarked rs)) (Given ns s) (told (kept-unmarked rs h)) (notebookOf d (recordsFrom (start d) rs))
       (book-refuses d rs (lineEnds s) (omega arith))))
-      (λ _. without-line 1 (omega arith) (covered (0 ∷ 3 ∷ 6 ∷ []) ns 1 c (omega arith) refl) refl)
+      (λ _. without-line 1 (omega arith) (covered never ns 1 c (omega arith) refl) refl)
     where
       told : unmarked (w .rows) ≡ true → (n line : ℕ) → RowsRefused (lineEnds s) (unmarked (w .rows)) n line → Given ns s n line
       told u n line x =
-          let other : member (0 ∷ 3 ∷ 6 ∷ []) n ≡ false = rw (ne-eqb n 0 (λ e. omega (arith, x .low)), ne-eqb n 3 (x .three), ne-eqb n 6 (x .six u)) in
-          with-line n line (x .low) (x .high) (covered (0 ∷ 3 ∷ 6 ∷ []) ns n c (x .high) other) (record { from = x .from; to = x .to })
+          let other : member never n ≡ false = rw (ne-eqb n 0 (λ e. omega (arith, x .low)), ne-eqb n 3 (x .three), ne-eqb n 6 (x .six u)) in
+          with-line n line (x .low) (x .high) (covered never ns n c (x .high) other) (record { from = x .from; to = x .to })
 
   -- ---- the input, the set, and the joined file
 
@@ -305,7 +311,7 @@ module _ (ns : List ℕ) (c : CoversJoined ns) (s : List ℕ) where
   split-refuses m =
       cond-case (Refuses (Given ns s)) (eqb (brokenLine (rows s)) 0) _ _
       (λ _. cond-case (Refuses (Given ns s)) (startsWell (rows s)) _ _ (λ _. tt) (λ _. without-line 19 (omega arith) m refl))
-      (λ e. with-line 2 (brokenLine (rows s)) (omega arith) (omega arith) (covered (0 ∷ 3 ∷ 6 ∷ []) ns 2 c (omega arith) refl) (broken-line s (eqb-false _ _ e)))
+      (λ e. with-line 2 (brokenLine (rows s)) (omega arith) (omega arith) (covered never ns 2 c (omega arith) refl) (broken-line s (eqb-false _ _ e)))
 
   chunks-bodies : (xs : List Chunk) → All Good xs → All Bodies (map pieceOf xs)
   chunks-bodies [] h = tt
@@ -335,7 +341,7 @@ module _ (ns : List ℕ) (c : CoversJoined ns) (s : List ℕ) where
   join-refuses m =
       cond-case (λ (r : Res (List ℕ)). Refuses (Given ns s) (thenChecked r)) (leb (length s) 131072) _ _
       (λ _. by (split s) refl (split-refuses m))
-      (λ _. without-line 1 (omega arith) (covered (0 ∷ 3 ∷ 6 ∷ []) ns 1 c (omega arith) refl) refl)
+      (λ _. without-line 1 (omega arith) (covered never ns 1 c (omega arith) refl) refl)
     where
       by : (r : Res (List Piece)) → split s ≡ r → Refuses (Given ns s) r → Refuses (Given ns s) (thenChecked (joinSplit r))
       by (ok ps) q h = set-refuses m ps (split-is s ps q)

@@ -1,11 +1,11 @@
 -- DEMAND 1 (specs/Refusals.antt): every call's reply is a result or one of its refusals with its line, and a refusal leaves the lent buffer as it was.
 -- Assumes nothing.
-use Prim.Native.Nat.{ℕ, _*_, _≤_, _<_}
+use Prim.Native.Nat.{ℕ, _*_, _<_}
 use native.Mathlib.Omega.{arith}
-use mathlib.Core.Path.{_≡_, refl, ap}
+use mathlib.Core.Path.{_≡_, refl}
 use mathlib.Core.Bool.{Bool, true, false, cond}
 use mathlib.Core.Option.{Option, none, some}
-use mathlib.Core.List.{List, [], _∷_}
+use mathlib.Core.List.{List}
 use borrow.Author.Tests.{lt-leb}
 use lib.Dec.{leb}
 use lib.ListN.{length}
@@ -30,7 +30,7 @@ use Rattle.division.specs.Marks.{validID}
 use Rattle.division.specs.Cut.{cutting, listed, found, cutList, held as cutHeld, bytesOf as cutBytesOf, cutOf, bufferAfter as cutAfter, cutBuffer}
 use Rattle.division.specs.Join.{joinedFile, joinFile, held as joinHeld, bytesOf as joinBytesOf, joinOf, bufferAfter as joinAfter, joinBuffer}
 use Rattle.refusals.specs.Refusals.{check, index, canonical, cut, join, checkNumbers, writingNumbers, cutNumbers, joinNumbers, numbersOf}
-use Rattle.refusals.specs.Refusals.{given, replyOf, Given, Answer, gives, refuses, IsResult}
+use Rattle.refusals.specs.Refusals.{given, Given, Answer, gives, refuses, IsResult}
 use Rattle.refusals.specs.Refusals.{Always-answered, Refusal-keeps, Zero-is-a-result, Large-first}
 use Rattle.refusals.proofs.Reading.{Refuses, without-line, file-refuses}
 use Rattle.refusals.proofs.Joining.{join-refuses}
@@ -161,8 +161,8 @@ large-pieces s h = rw (lt-leb (length s) 131072 h)
 
 pub large-first : Large-first
 unfolding checkOf indexOf canonicalOf cutOf cutList joinOf
-large-first (check f) h = rw (large f h)
-large-first (index f out) h = rw (large f h)
-large-first (canonical f out) h = rw (large f h)
-large-first (cut f c id out) h = rw (large f h)
-large-first (join s out) h = rw (large-pieces s h)
+large-first (check f) h = rw (large f (omega arith))
+large-first (index f out) h = rw (large f (omega arith))
+large-first (canonical f out) h = rw (large f (omega arith))
+large-first (cut f c id out) h = rw (large f (omega arith))
+large-first (join s out) h = rw (large-pieces s (omega arith))

@@ -1,14 +1,14 @@
 -- What a file is refused with, and at which line (`file-refuses`); and what follows a line 1, which has no 3, and 6 only for a record 911
 -- (`book-refuses`). Assumes nothing.
-use Prim.Native.Nat.{ℕ, zero, suc, _+_, _≤_, _<_}
+use Prim.Native.Nat.{ℕ, suc, _+_, _≤_, _<_}
 use native.Mathlib.Omega.{arith}
-use mathlib.Core.Path.{_≡_, refl, sym, ap, _∙_, subst}
-use mathlib.Core.Bool.{Bool, true, false, cond, not, _&&_, _||_, false≢true, true≢false}
+use mathlib.Core.Path.{_≡_, refl, sym, _∙_, subst}
+use mathlib.Core.Bool.{Bool, true, false, cond, not, _&&_, _||_, true≢false}
 use mathlib.Core.List.{List, [], _∷_, _++_}
-use borrow.Author.Tests.{ne-eqb, le-leb, lt-leb}
+use borrow.Author.Tests.{ne-eqb, lt-leb}
 use lib.Dec.{eqb, leb}
 use lib.ListN.{length}
-use Rattle.lists.specs.Lists.{same, All, member, orMember, Res, ok, refused}
+use Rattle.lists.specs.Lists.{same, member, orMember, Res, ok, refused}
 use Rattle.lists.proofs.Tests.{cond-case, both, below, below-at, not-true′}
 use Rattle.characters.specs.Text.{text}
 use Rattle.characters.specs.Rows.{rows, flat, isLine, endMark}
@@ -22,7 +22,6 @@ use Rattle.order.specs.Questions.{beforeOf}
 use Rattle.order.specs.State.{start, finishOf}
 use Rattle.order.proofs.Laws.{line-start}
 use Rattle.notebook.specs.Notebook.{Notebook, stepLine, prepend, closed, onward, recordsFrom, notebookOf, readRows, readFile}
-use Rattle.notebook.proofs.Accepted.{IsLine}
 use Rattle.faults.proofs.FaultLaws.{stepped}
 use Rattle.division.specs.Join.{unmarked}
 use Rattle.refusals.specs.Refusals.{lineEnds, lineless, AtLine, Given}
@@ -81,7 +80,8 @@ earlier r (ok rs) ends c d f h = tt
 earlier r (refused n line) ends c d f h =
     record { low = h .low; high = h .high; three = h .three; six = λ e. h .six (f e); from = h .from; to = h .to }
 
-records-refuse : (rs : List (List ℕ)) (st : State) (ends : ℕ) → st .line + lineEnds (flat rs) ≤ ends → Refuses (RowsRefused ends (unmarked rs)) (recordsFrom st rs)
+records-refuse : (rs : List (List ℕ)) (st : State) (ends : ℕ) → st .line + lineEnds (flat rs) ≤ ends
+    → Refuses (RowsRefused ends (unmarked rs)) (recordsFrom st rs)
 unfolding recordsFrom onward unmarked
 records-refuse [] st ends h = closed-refuses st ends true (omega arith)
 records-refuse (r ∷ rs) st ends h =

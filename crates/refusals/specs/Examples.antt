@@ -145,4 +145,6 @@ abbrev pub reached : List ℕ → List Example → Bool
 reached ns es = all (λ n. eqb n 1 || member (numbersIn es) n) ns
 
 abbrev pub allReached : Bool
-allReached = reached checkNumbers checks && reached writingNumbers indexes && reached writingNumbers canonicals && reached cutNumbers cuts && reached joinNumbers joins
+allReached =
+    reached checkNumbers checks && reached writingNumbers indexes && reached writingNumbers canonicals && reached cutNumbers cuts
+    && reached joinNumbers joins
