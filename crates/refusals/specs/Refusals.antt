@@ -113,7 +113,8 @@ pub data Answer (numbers s : List ℕ) : Reply → Type 0 where
   gives : {a b c : ℕ} → Answer numbers s (result a b c)
   refuses : {n line : ℕ} → Given numbers s n line → Answer numbers s (refusal n line)
 
--- "The answer to every input, of any length and content, is a result or one refusal from document 01 with its line. It always comes"
+-- "The answer to every input, of any length and content, is a result or one refusal from document 01 with its line. It always comes": the functions of
+-- `gateway` are proved to end, for any input, with this reply
 abbrev pub Always-answered : Type 0
 Always-answered = (x : Call) → Answer (numbersOf x) (given x) (replyOf x)
 
