@@ -149,33 +149,34 @@ fn write_numbers(out: &[u32]) {
 
 // --- the reply ---
 
-// Fields that the reply does not use are 0; where one is not, an exclamation mark shows it.
-fn write_values(word: &[u8], first: u64, second: u64, two: bool, unused: u64) {
-    io::write_all(STDOUT_FILENO, word);
-    answers::write_number(first);
-    if two {
-        answers::write_number(second);
+// The fields that a reply of index, canonical, cut or join does not use.
+fn unused(values: usize, r: replies::Reply) -> u64 {
+    if r.refusal != 0 {
+        return r.a | r.b | r.c;
     }
-    if unused != 0 {
+    if values == 2 {
+        return r.line | r.c;
+    }
+    r.line | r.b | r.c
+}
+
+// The line of a reply without its 0Ah, and a semicolon. Fields that the reply does not use are 0; where one is not, an exclamation mark shows it.
+fn write_reply(values: usize, r: replies::Reply) {
+    let start = 0;
+    let mut text = [0u8; 66];
+    let end = lists::before(answers::print(values, r, &mut text));
+    io::write_all(STDOUT_FILENO, &text[start..end]);
+    if unused(values, r) != 0 {
         write_byte(b'!');
     }
     write_byte(b';');
-}
-
-// Only cut has a second value, the bytes of its pieces, which is never 0.
-fn write_reply(r: replies::Reply) {
-    if r.refusal == 0 {
-        write_values(b"ok", r.a, r.b, r.b != 0, r.c | r.line);
-    } else {
-        write_values(b"no", r.refusal, r.line, true, r.a | r.b | r.c);
-    }
 }
 
 // --- the calls with a lent buffer ---
 
 fn index(input: &[u8], out: &mut [u32]) {
     fill_numbers(out);
-    write_reply(gateway::notebook_index(input, out));
+    write_reply(1, gateway::notebook_index(input, out));
     write_numbers(out);
 }
 
@@ -195,6 +196,13 @@ fn reply_of(call: u8, input: &[u8], capacity: u64, id: &[u8], out: &mut [u8]) ->
     }
 }
 
+fn values_of(call: u8) -> usize {
+    match call {
+        b'k' => 2,
+        _ => 1,
+    }
+}
+
 fn rewrite(call: u8, input: &[u8], capacity: u64, id: &[u8], space: &mut [u8], room: usize) {
     let start = 0;
     if space.len() < room {
@@ -202,7 +210,8 @@ fn rewrite(call: u8, input: &[u8], capacity: u64, id: &[u8], space: &mut [u8], r
     }
     let out = &mut space[start..room];
     fill_bytes(out);
-    write_reply(reply_of(call, input, capacity, id, out));
+    let r = reply_of(call, input, capacity, id, out);
+    write_reply(values_of(call), r);
     write_bytes(out);
 }
 
@@ -253,7 +262,7 @@ fn write_pairs() {
 
 fn answer(call: u8, room: u64, capacity: u64, id: &[u8], input: &[u8]) {
     match call {
-        b'v' => answers::write_check(gateway::notebook_check(input)),
+        b'v' => answers::write_reply(STDOUT_FILENO, 3, gateway::notebook_check(input)),
         b'i' => lend_numbers(input, room as usize),
         b'p' => write_pairs(),
         _ => lend_bytes(call, input, capacity, id, room as usize),

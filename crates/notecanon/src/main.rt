@@ -22,6 +22,6 @@ fn main() {
     if r.refusal == 0 {
         write_file(&canonical, r.a);
     } else {
-        answers::refusal_to(STDERR_FILENO, r);
+        answers::write_reply(STDERR_FILENO, 1, r);
     }
 }

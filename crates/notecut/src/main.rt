@@ -208,23 +208,16 @@ fn write_pieces(pieces: &[u8], words: usize) -> bool {
     }
 }
 
-fn write_counts(count: u64, bytes: u64) {
-    io::write_all(STDERR_FILENO, b"ok ");
-    io::print_decimal(STDERR_FILENO, count);
-    io::write_all(STDERR_FILENO, b" ");
-    io::print_decimal(STDERR_FILENO, bytes);
-    io::write_all(STDERR_FILENO, b"\n");
-}
-
 // --- the program ---
 
-fn write_result(out: &[u8], words: usize, count: u64, bytes: u64) {
+fn write_result(out: &[u8], words: usize, r: replies::Reply) {
+    let bytes = r.b;
     if bytes <= 131072 {
         let start: usize = 0;
         let end = bytes as usize;
         if end <= out.len() {
             if write_pieces(&out[start..end], words) {
-                write_counts(count, bytes);
+                answers::write_reply(STDERR_FILENO, 2, r);
             }
         }
     }
@@ -239,9 +232,9 @@ fn cut(capacity: u64, words: usize) {
     let digits = os::arg(2, &mut id);
     let r = gateway::notebook_cut(&file[..n], capacity, &id[..digits], &mut out);
     if r.refusal == 0 {
-        write_result(&out, words, r.a, r.b);
+        write_result(&out, words, r);
     } else {
-        answers::refusal_to(STDERR_FILENO, r);
+        answers::write_reply(STDERR_FILENO, 2, r);
     }
 }
 

@@ -39,6 +39,6 @@ fn main() {
     if r.refusal == 0 {
         write_entries(&entries, r.a);
     } else {
-        answers::write_refusal(r);
+        answers::write_reply(STDOUT_FILENO, 1, r);
     }
 }

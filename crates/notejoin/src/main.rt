@@ -112,7 +112,7 @@ fn join(pieces: &[u8], bytes: usize) {
     if r.refusal == 0 {
         write_file(&file, r.a);
     } else {
-        answers::refusal_to(STDERR_FILENO, r);
+        answers::write_reply(STDERR_FILENO, 1, r);
     }
 }
 

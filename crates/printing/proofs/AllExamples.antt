@@ -1,0 +1,11 @@
+-- The lines and numbers of specs/Examples.antt come out as written there. Assumes nothing.
+use Prim.Native.Nat.{ℕ}
+use mathlib.Core.Path.{_≡_, refl}
+use mathlib.Core.List.{List, map, _++_}
+use Rattle.lists.specs.Lists.{bytes}
+use Rattle.printing.specs.Printed.{digitsOf, decimal, numbers, line, printed}
+use Rattle.printing.specs.Examples.{lines, theirLines, values, theirDigits}
+
+pub examples-hold : map decimal values ++ lines ≡ theirDigits ++ theirLines
+unfolding bytes digitsOf decimal numbers line printed
+examples-hold = refl

@@ -1,0 +1,46 @@
+-- The line that a program prints of a reply. Document 01, Cases: "prints `ok 1 0 0` (records, groups, drugs) and 0Ah; a refusal prints `no`,
+-- number, line, with single spaces, and 0Ah." The names here: decimal, numbers, line, printed; Decimal-digits says what decimal is.
+use Prim.Native.Nat.{ℕ, zero, suc, _+_, _/_, _%_}
+use mathlib.Core.Path.{_≡_}
+use mathlib.Core.Bool.{cond}
+use mathlib.Core.List.{List, [], _∷_, _++_}
+use lib.Dec.{leb, eqb}
+use lib.ListN.{length, take, drop}
+use Rattle.lists.specs.Lists.{bytes}
+use Rattle.replies.specs.declared.Reply.{Reply}
+
+-- the digits of n, none of 0; at most k of them, since a definition must say how often it calls itself
+unfoldable pub digitsOf : ℕ → ℕ → List ℕ
+digitsOf zero n = []
+digitsOf (suc k) zero = []
+digitsOf (suc k) (suc n) = digitsOf k (suc n / 10) ++ ((48 + suc n % 10) ∷ [])
+
+-- n in decimal, without leading zeros; n has at most n digits
+unfoldable pub decimal : ℕ → List ℕ
+decimal zero = 48 ∷ []
+decimal (suc n) = digitsOf (suc n) (suc n)
+
+-- the same without k: one digit; or n / 10 in decimal, then the last digit
+abbrev pub Decimal-digits : Type 0
+Decimal-digits = (n : ℕ) → decimal n ≡ cond (leb n 9) ((48 + n) ∷ []) (decimal (n / 10) ++ ((48 + n % 10) ∷ []))
+
+-- "with single spaces": one before each number
+unfoldable pub numbers : List ℕ → List ℕ
+numbers [] = []
+numbers (n ∷ ns) = 0x20 ∷ decimal n ++ numbers ns
+
+-- a word, its numbers, "and 0Ah"
+unfoldable pub line : List ℕ → List ℕ → List ℕ
+line word ns = word ++ numbers ns ++ (0x0a ∷ [])
+
+-- A reply's line, where the call's result has so many values: check 3 ("records, groups, drugs"), cut 2 ("their count and total length"), index,
+-- canonical and join 1 ("the count of records", "the bytes written").
+unfoldable pub printed : ℕ → Reply → List ℕ
+printed values r =
+    cond (eqb (r .refusal) 0) (line (bytes "ok") (take values (r .a ∷ r .b ∷ r .c ∷ [])))
+    (line (bytes "no") (r .refusal ∷ r .line ∷ []))
+
+-- What the function that prints leaves in a buffer d: the line, then what was lent there; n is the line's length.
+pub record Prints (values : ℕ) (r : Reply) (d d′ : List ℕ) (n : ℕ) : Type 0 where
+  pub count : n ≡ length (printed values r)
+  pub buffer : d′ ≡ printed values r ++ drop n d
