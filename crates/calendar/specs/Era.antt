@@ -29,7 +29,8 @@ abbrev pub eraNumber : ℕ → Number → DateRead
 eraNumber c (Is n) = fromEra c n
 eraNumber c NoNumber = NotADate
 
--- "YYYYMMDD, or era letter and YYMMDD"
+-- "YYYYMMDD, or era letter and YYMMDD". 15-106 3.2.9, dates of records 1, 3, 4, 5, 601 and 701: eight places YYYYMMDD, or seven GYYMMDD with the
+-- letter G of appended table 1.
 unfoldable pub readDay : List ℕ → DateRead
 readDay s =
     cond (eqb (length s) 8) (gregorianNumber (numberFrom 0 s))

@@ -1,4 +1,4 @@
--- Characters of a list of bytes, and the text up to a line's end. Document 01, "Lines and characters"; refusals 2 and 4; 15-106 3.2.4.
+-- Characters of a list of bytes, and the text up to a line's end. Document 01, "Lines and characters"; refusals 2 and 4; 15-106 3.2.4, 3.2.5.
 use Prim.Native.Nat.{ℕ, suc, _+_}
 use mathlib.Core.Bool.{Bool, true, false, cond, not, _&&_, _||_}
 use mathlib.Core.List.{List, [], _∷_}
@@ -21,7 +21,8 @@ charOf (a ∷ b ∷ r) = cond (isOne a) One (cond (isPair a b) Two Bad)
 unfoldable pub charAt : List ℕ → ℕ → Char
 charAt s i = charOf (drop i s)
 
--- the list is characters and nothing else; refusal 4 where a line is not
+-- the list is characters and nothing else; refusal 4 where a line is not. 15-106 3.2.5: the characters of JIS X 0201-1976 (8 bits) and JIS X 0208-1983,
+-- annex 1, and no others. The clause also keeps 81A1h out but for what has no replacement; document 01's cells have it.
 abbrev pub allChars : List ℕ → Bool
 allChars [] = true
 allChars (a ∷ []) = isOne a

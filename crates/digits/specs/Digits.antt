@@ -15,7 +15,8 @@ unfoldable pub value : ℕ → List ℕ → ℕ
 value a [] = a
 value a (b ∷ s) = value (10 * a + (b - 48)) s
 
--- "one to three digits .. leading zeros are read"
+-- "one to three digits .. leading zeros are read". 15-106 3.2.9: RP numbers, a 301's quantity and a 911's n and k have type 9 (3.2.2: a number),
+-- three bytes; it does not say whether zeros may stand in front.
 unfoldable pub number : List ℕ → Option ℕ
 number s = cond (leb 1 (length s) && (leb (length s) 3 && all isDigit s)) (some (value 0 s)) none
 

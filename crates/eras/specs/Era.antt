@@ -1,4 +1,4 @@
--- The eras, and the era form that a day is written in. Document 01, kind D. A new era is a new row of `eras`, in front.
+-- The eras, and the era form that a day is written in. Document 01, kind D; 15-106 appended table 1. A new era is a new row of `eras`, in front.
 use Prim.Native.Nat.{ℕ, _+_, _-_, _/_, _%_}
 use mathlib.Core.List.{List, [], _∷_}
 use mathlib.Core.Bool.{Bool, cond}
@@ -15,7 +15,8 @@ abbrev pub noEra : Era
 noEra = era 0 0 1 0
 
 -- "M ends 29 July 1912; T runs from 30 July 1912 to 24 December 1926; S from 25 December 1926 to 7 January 1989; H from 8 January
--- 1989 on. Year 1 is 1868, 1912, 1926, 1989." The newest first: H, S, T, M
+-- 1989 on. Year 1 is 1868, 1912, 1926, 1989." The newest first: H, S, T, M. 15-106 appended table 1 gives these four letters with the eras' names,
+-- and no days.
 abbrev pub eras : List Era
 eras =
     era 72 19880000 19890108 lastDay ∷

@@ -79,7 +79,7 @@ unhyphened s = take 3 s ++ drop 4 s
 unfoldable pub postal : List ℕ → Bool
 postal s = seven s || (eqb (getD s 3 0) 0x2d && seven (unhyphened s))
 
--- F: "01–47"; 528 is what the bytes of 00 give
+-- F: "01–47". 15-106 appended table 2 lists these codes; 3.2.9, records 11 and 51: type X, two bytes. 528 is what the bytes of 00 give
 unfoldable pub prefecture : List ℕ → Bool
 prefecture s = eqb (length s) 2 && (all isDigit s && within (528 + 1) (528 + 47) (getD s 0 0 * 10 + getD s 1 0))
 

@@ -41,10 +41,12 @@ row n is = record { number = n; items = is }
 abbrev pub author : Item
 author = A !
 
--- the dosage forms of a 301
+-- the dosage forms of a 301, 15-106 appended table 4: 1 oral, 2 oral drops, 3 single doses, 4 injected, 5 external, 6 infusion, 7 decoction, 9 material,
+-- 10 other
 abbrev pub forms : List ℕ
 forms = 1 ∷ 2 ∷ 3 ∷ 4 ∷ 5 ∷ 6 ∷ 7 ∷ 9 ∷ 10 ∷ []
 
+-- The third item of an 11 and of a 51 is a code of 15-106 appended table 3 (1 medical, 3 dental, 4 dispensing); 3.2.9 lists 1 and 3 for a 51.
 unfoldable pub table : List Row
 table =
     row 1 (U 40 ! ∷ among (1 ∷ 2 ∷ []) ! ∷ D ! ∷ P ¿ ∷ N 800 ¿ ∷ X 13 ¿ ∷ N 800 ¿ ∷ N 20 ¿ ∷ W ¿ ∷ U 40 ¿ ∷ []) ∷

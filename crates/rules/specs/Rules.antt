@@ -32,15 +32,17 @@ misplaced b r =
 -- ---- 14 missing
 
 -- "A 201 with another value than the open RP begins a new RP; so does any 201 after a 301 or 391." So a 201 is of the open RP if no 301,
--- 311, 391 or 55 stands between and it has the same value.
+-- 311, 391 or 55 stands between and it has the same value. 15-106 3.2.7: an RP is its drugs, then a 301 with its 311s, then 391s; 3.2.10: all
+-- 201s with one RP number have the 301 with that number.
 unfoldable pub continues : Before → Asked → Bool
 continues b r = eqb (r .number) 201 && inDrugs (b .place) && r .same
 
--- an RP closes "at the first record not of it"
+-- an RP closes "at the first record not of it". 3.2.7: one RP after another, then 401 to 601 or, with pattern 1, the next 55.
 unfoldable pub closesRp : Before → Asked → Bool
 closesRp b r = inRp (b .place) && not (ofOpenRp (r .number)) && not (continues b r)
 
--- Direction 1: "each has 11" (3.2.8); "a group with an RP and an 11 with 4 has 51" (3.2.8 note 1); "a group without RP has a 411" (3.2.10)
+-- Direction 1: "each has 11" (3.2.8); "a group with an RP and an 11 with 4 has 51" (3.2.8 note 1); "a group without RP has a 411" (3.2.10: without
+-- dispensing the information is recorded there; 3.2.8 alone lets a 411 be left out)
 unfoldable pub lacking : Before → Bool
 lacking b = not (b .had11) || not (b .noRp) && b .dispensing && not (b .had51) || b .noRp && not (b .had411)
 
@@ -77,7 +79,8 @@ refusal b r =
     12
     (cond (misplaced b r) 13 (cond (missing b r) 14 (cond (valueWrong b r) 15 (cond (newerGroup b r) 16 0))))
 
--- 14 at the end: "a 55, or in direction 1 a 51, at the end", and what the parts that the end closes lack
+-- 14 at the end: "a 55, or in direction 1 a 51, at the end" (3.2.7: RPs stand under a 55; 3.2.8 note 2: 51 and 55 only where something is dispensed),
+-- and what the parts that the end closes lack (3.2.8, required output: in direction 2 a 1, in direction 1 a 5, 11, 51 and 301)
 unfoldable pub unfinished : Before → Bool
 unfinished b =
     eqb (b .place) 55
