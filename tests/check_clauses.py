@@ -1,4 +1,4 @@
-"""Checks that every name which the documents give exists in the tree.
+"""Checks that every name which the documents give exists in the tree, and that every must-fail edit tries what it says.
 
 A reference stands in backticks and names a file, and most often something in it:
 
@@ -9,11 +9,22 @@ A reference stands in backticks and names a file, and most often something in it
     `tests/make_cases.py:edges`              a function of a script
 
 Also read are names with their file behind them, as in "`rows`, `flat` (characters/specs/Rows.antt)", labels of cases/stdout behind
-"Cases:", and a crate with its must-fail edit in a table cell, as in "| order `equal_days` |". Prints each reference that is missing or
-has another answer, with its place; exit status 1 if there is one. Run it from anywhere: python3 tests/check_clauses.py
+"Cases:", and a crate with its must-fail edit in a table cell, as in "| order `equal_days` |".
+
+A must-fail edit, crates/CRATE/must-fail/NAME.edit, has these lines and no others, since rt passes over what it does not know and an edit with a
+second line of text would try another change than it shows:
+
+    # what is wrong
+    file: src/.. or specs/..
+    old: a text that stands once in the file (after the pairs before this one)
+    new: another text                                    and so on, in pairs
+
+Prints each reference that is missing or has another answer, and each line of an edit that is not so, with its place; exit status 1 if there is
+one. Run it from anywhere: python3 tests/check_clauses.py
 """
 
 import functools
+import glob
 import os
 import re
 import sys
@@ -113,6 +124,46 @@ def references(text):
         yield found.start(), "%s/must-fail/%s.edit" % found.groups(), None, None
 
 
+def edit_fault(edit):
+    """The line of a must-fail edit that rt would not read as it is meant, and what is wrong with it; or None."""
+    with open(edit, encoding="utf-8") as opened:
+        lines = opened.read().split("\n")
+    if lines[-1] == "":
+        lines.pop()
+    begins = ["# ", "file: "] + ["old: ", "new:"] * ((len(lines) - 1) // 2)
+    for at, begin in enumerate(begins):
+        if at == len(lines) or not lines[at].startswith(begin):
+            return at + 1, "a line `%s` is wanted here" % begin.strip()
+    if len(lines) != len(begins) or len(lines) < 4:
+        return len(lines), "not a comment, a file and pairs of old and new"
+    name = lines[1][len("file: "):]
+    changed = os.path.join(os.path.dirname(os.path.dirname(edit)), name)
+    if not re.match(r"(?:src|specs)/", name) or "/../" in "/%s/" % name or not os.path.isfile(changed):
+        return 2, "no file of the crate's src/ or specs/"
+    with open(changed, encoding="utf-8") as opened:
+        text = opened.read()
+    for at in range(2, len(lines), 2):
+        old, new = lines[at][len("old: "):], re.sub("^ ", "", lines[at + 1][len("new:"):])
+        if old == "" or text.count(old) != 1:
+            return at + 1, "the old text stands %d times in %s" % (text.count(old) if old else 0, name)
+        if old == new:
+            return at + 2, "the new text is the old one"
+        text = text.replace(old, new)
+    return None
+
+
+def check_edits():
+    """How many must-fail edits there are, and how many are faulty; prints the faults."""
+    edits = sorted(glob.glob(os.path.join(ROOT, "crates", "*", "must-fail", "*.edit")))
+    faulty = 0
+    for edit in edits:
+        wrong = edit_fault(edit)
+        if wrong:
+            faulty += 1
+            print("%s:%d: %s" % (os.path.relpath(edit, ROOT), *wrong))
+    return len(edits), faulty
+
+
 def main():
     count, missing = 0, 0
     for document in DOCUMENTS:
@@ -124,10 +175,11 @@ def main():
             if wrong:
                 missing += 1
                 print("%s:%d: %s: %s" % (document, text.count("\n", 0, at) + 1, file + (":" + name if name else ""), wrong))
-    if missing:
-        print("%d references, %d missing" % (count, missing))
+    edits, faulty = check_edits()
+    if missing or faulty:
+        print("%d references, %d missing; %d must-fail edits, %d faulty" % (count, missing, edits, faulty))
         return 1
-    print("%d references, all there" % count)
+    print("%d references, all there; %d must-fail edits, each as rt reads it" % (count, edits))
     return 0
 
 
