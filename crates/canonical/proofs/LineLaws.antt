@@ -21,9 +21,10 @@ use Rattle.records.specs.Items.{writeValue}
 use Rattle.records.specs.Records.{itemValue, itemFault, itemsFault, itemsValue, rowOf, recordFrom, recordOf, write}
 use Rattle.records.proofs.LineLaws.{row-spelled, Good, line-good}
 use Rattle.items.specs.Codes.{itemOf}
-use Rattle.lines.specs.Codes.{codes, RowCode, places, placeIn, sliceOf, placeOf, Lent, Commas, InCodes}
+use Rattle.codes.specs.Codes.{codes, RowCode, places, placeIn, sliceOf, placeOf, Lent, InCodes}
+use Rattle.lines.specs.Codes.{Commas}
 use Rattle.lines.proofs.SplitLaws.{items-count}
-use Rattle.lines.proofs.TableLaws.{RowAt, row-of, slice-length, codes-length}
+use Rattle.codes.proofs.TableLaws.{RowAt, row-of, slice-length, codes-length}
 use Rattle.lines.proofs.WalkLaws.{left, left-all, left-first}
 use Rattle.buffers.specs.Buffers.{Room, Wrote}
 use Rattle.buffers.proofs.Runs.{carry}

@@ -18,7 +18,8 @@ use Rattle.records.specs.Records.{Record, itemValue, lineFault, recordOf}
 use Rattle.order.specs.declared.State.{State}
 use Rattle.order.specs.State.{finishOf}
 use Rattle.items.specs.Codes.{itemOf}
-use Rattle.lines.specs.Codes.{codes, placeOf, sliceOf, Spanned}
+use Rattle.codes.specs.Codes.{codes, placeOf, sliceOf}
+use Rattle.lines.specs.Codes.{Spanned}
 use Rattle.buffers.specs.Buffers.{Wrote}
 use Rattle.notebook.specs.Notebook.{Notebook}
 use Rattle.replies.specs.declared.Canonical.{Canonical}

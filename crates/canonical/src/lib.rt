@@ -12,7 +12,8 @@ ghost use Rattle.characters.specs.Rows.{rows};
 ghost use Rattle.scanning.specs.Scans.{Stops, Sixteen};
 ghost use Rattle.records.specs.Records.{recordOf};
 ghost use Rattle.order.specs.State.{start};
-ghost use Rattle.lines.specs.Codes.{placeOf, Lent, Commas, Spanned};
+ghost use Rattle.codes.specs.Codes.{placeOf, Lent};
+ghost use Rattle.lines.specs.Codes.{Commas, Spanned};
 ghost use Rattle.buffers.specs.Buffers.{Room, Wrote};
 ghost use Rattle.notebook.specs.Notebook.{recordsFrom, readFile};
 ghost use Rattle.checking.specs.Walking.{Behind, Closing};
@@ -329,7 +330,7 @@ pub fn canonical_into(s: &[u8], out: &mut [u8]) -> Canonical
         return Canonical::Refused(1, 0);
     }
     let classes = scanning::CLASSES;
-    let codes = lines::CODES;
+    let codes = codes::item_codes();
     let mut stops = [0usize; 16];
     let start = 0;
     match scanning::line_at(&classes, &mut stops, s, start) {

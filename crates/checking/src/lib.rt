@@ -7,7 +7,8 @@ ghost use Rattle.characters.specs.Rows.{rows};
 ghost use Rattle.scanning.specs.Classes.{Classes};
 ghost use Rattle.scanning.specs.Scans.{Stops, Sixteen};
 ghost use Rattle.order.specs.State.{start, Room};
-ghost use Rattle.lines.specs.Codes.{Lent, Commas};
+ghost use Rattle.codes.specs.Codes.{Lent};
+ghost use Rattle.lines.specs.Codes.{Commas};
 ghost use Rattle.lines.specs.Found.{Told};
 ghost use Rattle.notebook.specs.Notebook.{stepLine, closed as closedOf, recordsFrom};
 ghost use Rattle.checking.specs.Turns.{TurnOf};
@@ -143,7 +144,7 @@ pub fn check(s: &[u8]) -> Checked
         return Checked::Refused(1, 0);
     }
     let classes = scanning::CLASSES;
-    let codes = lines::CODES;
+    let codes = codes::item_codes();
     let mut stops = [0usize; 16];
     let start = 0;
     match scanning::line_at(&classes, &mut stops, s, start) {

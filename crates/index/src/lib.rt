@@ -8,7 +8,7 @@ ghost use Rattle.characters.specs.Rows.{rows};
 ghost use Rattle.order.specs.State.{start, groupOf, drugOf};
 ghost use Rattle.scanning.specs.Classes.{Classes};
 ghost use Rattle.scanning.specs.Scans.{Sixteen};
-ghost use Rattle.lines.specs.Codes.{Lent};
+ghost use Rattle.codes.specs.Codes.{Lent};
 ghost use Rattle.buffers.specs.Buffers.{Room, Wrote, six};
 ghost use Rattle.checking.specs.Walking.{Behind};
 ghost use Rattle.notebook.specs.Index.{entriesFrom, numbers, numbersOf, indexOf, indexBuffer};
@@ -74,7 +74,7 @@ fn fill(s: &[u8], out: &mut [u32]) -> usize
     ensures { λ r. ⌜ Wrote (now (out .entry)) (now (out .exit)) 0 r (numbersOf (now (s .entry))) ⌝ }
 {
     let classes = scanning::CLASSES;
-    let codes = lines::CODES;
+    let codes = codes::item_codes();
     let mut stops = [0usize; 16];
     let start = 0;
     match scanning::line_at(&classes, &mut stops, s, start) {

@@ -21,8 +21,9 @@ use Rattle.records.specs.Items.{Value, text, num, day, value, numberValue, dayV
 use Rattle.records.specs.Records.{Record, itemValue, itemsValue, nth, isEmpty, codePair, formPair, pairs}
 use Rattle.items.specs.Codes.{kindOf, itemOf}
 use Rattle.notebook.specs.Facts.{numOf, dayOf, spelled, factsOf}
-use Rattle.lines.specs.Codes.{codes, sliceOf, placeOf, placeIn, quantity, codeRaw, formRaw, pairsRaw, orZero, rpRaw, dayRaw, rpRecords, factsRaw}
-use Rattle.lines.proofs.TableLaws.{rowBy, allRows, listed-row}
+use Rattle.codes.specs.Codes.{codes, sliceOf, placeOf, placeIn}
+use Rattle.lines.specs.Codes.{quantity, codeRaw, formRaw, pairsRaw, orZero, rpRaw, dayRaw, rpRecords, factsRaw}
+use Rattle.codes.proofs.TableLaws.{rowBy, allRows, listed-row}
 
 -- ---- values by their place
 

@@ -1,5 +1,4 @@
 pub mod SplitLaws
-pub mod TableLaws
 pub mod WalkLaws
 pub mod PairLaws
 pub mod DetailLaws

@@ -26,13 +26,11 @@ use Rattle.lines.specs.declared.Numbered.{Numbered}
 use Rattle.notebook.specs.Facts.{factsOf}
 use Rattle.lines.specs.Found.{lineRead}
 use Rattle.lines.specs.Found.{Sound, Told, NumberedAs}
-use Rattle.lines.specs.Codes.{codes, sliceOf, placeOf, placeIn, Lent, Commas, InCodes, Spanned, pairsRaw, factsRaw, detailsRaw}
+use Rattle.codes.specs.Codes.{sliceOf, placeOf, placeIn, InCodes}
+use Rattle.lines.specs.Codes.{Commas, Spanned, pairsRaw, factsRaw, detailsRaw}
 use Rattle.lines.proofs.SplitLaws.{items-all, item-cut, items-count, items-some}
-use Rattle.lines.proofs.TableLaws.{rowBy, RowAt, row-of, row-of-number, slice-length}
+use Rattle.codes.proofs.TableLaws.{rowBy, RowAt, row-of, row-of-number, slice-length}
 use Rattle.lines.proofs.FactLaws.{pairs-is, facts-is}
-
-pub lent : Lent codes
-lent = record { is = refl }
 
 -- what the code has found: the first item, its number, its row's place, the other items
 record Cut (s h : List ℕ) (ss : List (List ℕ)) (n place : ℕ) : Type 0 where

@@ -29,10 +29,10 @@ use Rattle.items.specs.Codes.{itemOf}
 use Rattle.items.specs.declared.Spelled.{Spelled}
 use Rattle.items.specs.Ends.{FineItem, EndOf, SpelledAt}
 use Rattle.lines.specs.declared.Quick.{Quick}
-use Rattle.lines.specs.Codes.{codes, sliceOf, placeOf, placeIn, Lent, InCodes}
+use Rattle.codes.specs.Codes.{codes, sliceOf, placeOf, placeIn, Lent, InCodes}
 use Rattle.lines.specs.Found.{Sound, Told, LineEnds, LineEndsIf, QuickLine, QuickItems, QuickOf}
 use Rattle.lines.proofs.SplitLaws.{items-plain, items-snoc}
-use Rattle.lines.proofs.TableLaws.{codes-length}
+use Rattle.codes.proofs.TableLaws.{codes-length}
 
 -- ---- the line end
 

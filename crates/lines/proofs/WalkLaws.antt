@@ -12,10 +12,11 @@ use Rattle.records.specs.Table.{Item}
 use Rattle.records.specs.Split.{itemsOf}
 use Rattle.records.specs.Records.{itemFault, itemsFault}
 use Rattle.items.specs.Codes.{itemOf}
-use Rattle.lines.specs.Codes.{codes, sliceOf, Lent, InCodes, Spanned, SpanAt}
+use Rattle.codes.specs.Codes.{codes, sliceOf, Lent, InCodes}
+use Rattle.lines.specs.Codes.{Spanned, SpanAt}
 use Rattle.lines.specs.declared.Span.{Span}
 use Rattle.lines.proofs.SplitLaws.{items-count}
-use Rattle.lines.proofs.TableLaws.{codes-length}
+use Rattle.codes.proofs.TableLaws.{codes-length}
 
 -- the items of a row from its code k on
 abbrev pub left : List ℕ → ℕ → ℕ → List Item

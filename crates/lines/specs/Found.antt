@@ -22,7 +22,7 @@ use Rattle.lines.specs.declared.Quick.{Quick}
 use Rattle.lines.specs.declared.Found.{Found}
 use Rattle.lines.specs.declared.Found.the-variants.{Whole, Mark, End, Broken}
 use Rattle.notebook.specs.Facts.{factsOf}
-use Rattle.lines.specs.Codes.{sliceOf, placeOf, InCodes}
+use Rattle.codes.specs.Codes.{sliceOf, placeOf, InCodes}
 
 -- a line's fault, or its facts; good: it is characters
 unfoldable pub lineRead : Bool → Bool → List ℕ → LineRead

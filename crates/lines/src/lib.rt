@@ -1,7 +1,6 @@
 // One record line: its items at positions, its fault, and the facts of a record that the order of records looks at.
-// Definitions: records, specs/Records.antt (the fault); notebook, specs/Facts.antt (the facts); specs/Codes.antt (the table as numbers). A
-// changed row of the table moves CODES and `place_of` here and `codes` and `places` there; proofs/TableLaws.antt compares both with
-// the table.
+// Definitions: records, specs/Records.antt (the fault); notebook, specs/Facts.antt (the facts); codes, specs/Codes.antt (the table as numbers);
+// specs/Codes.antt (a line by its items at positions).
 ghost use mathlib.Core.Path.{_≡_};
 ghost use mathlib.Core.List.{[], _∷_};
 ghost use Prim.Native.Nat.{_≤_, _%_};
@@ -13,7 +12,8 @@ ghost use Rattle.records.specs.Records.{orEmpty, isNum, itemsFault};
 ghost use Rattle.scanning.specs.Classes.{Classes};
 ghost use Rattle.lines.specs.Found.{lineRead};
 ghost use Rattle.lines.specs.Found.{Told, NumberedAs, LineEndsIf, QuickItems, QuickOf, FoundOf};
-ghost use Rattle.lines.specs.Codes.{Lent, Commas, InCodes, Spanned, SpanAt, placeOf, sliceOf, quantity, codeRaw, formRaw, rpRaw, dayRaw, detailsRaw, bareDetails, otherDetails, usageRaw};
+ghost use Rattle.codes.specs.Codes.{Lent, InCodes, sliceOf};
+ghost use Rattle.lines.specs.Codes.{Commas, Spanned, SpanAt, quantity, codeRaw, formRaw, rpRaw, dayRaw, detailsRaw, bareDetails, otherDetails, usageRaw};
 
 // ---- items at positions
 
@@ -63,125 +63,7 @@ fn number_end(stops: &[usize; 16], n: usize, s: &[u8]) -> usize
     stops[0]
 }
 
-// ---- the table
-
-// For each item of each record, in the order of `place_of`: need + 4 times kind + 64 times the most bytes or the set of values.
-// Lent to the functions below, since a constant array is made anew wherever it is named.
-pub const CODES: [usize; 83] = [
-    2564,
-    44,
-    40,
-    26,
-    51202,
-    842,
-    51202,
-    1282,
-    34,
-    2566,
-    108,
-    7680,
-    12,
-    7680,
-    42,
-    42,
-    12,
-    25600,
-    42,
-    12,
-    40,
-    12,
-    7680,
-    17,
-    173,
-    22,
-    26,
-    51202,
-    842,
-    12,
-    2560,
-    51202,
-    12,
-    7680,
-    17,
-    237,
-    22,
-    12,
-    2560,
-    5122,
-    12,
-    28,
-    7680,
-    36,
-    768,
-    301,
-    842,
-    12,
-    28,
-    6400,
-    12,
-    28,
-    6400,
-    12,
-    28,
-    25600,
-    12,
-    28,
-    25600,
-    12,
-    28,
-    6402,
-    29,
-    6401,
-    365,
-    45,
-    1034,
-    12,
-    25600,
-    12,
-    25600,
-    12,
-    25600,
-    428,
-    12,
-    25600,
-    42,
-    2560,
-    7680,
-    51200,
-    42,
-    42,
-    12,
-];
-
-// Where a record's row stands in the codes: start times 16 and count; 0 where the number is not listed.
-pub fn place_of(n: u32) -> usize
-    ensures { λ r. ⌜ r ≡ placeOf n ⌝ }
-    ensures { λ r. ⌜ InCodes r ⌝ }
-{
-    match n {
-        1 => 10,
-        2 => 163,
-        3 => 212,
-        4 => 275,
-        5 => 322,
-        11 => 360,
-        15 => 483,
-        51 => 533,
-        55 => 611,
-        201 => 663,
-        281 => 771,
-        311 => 819,
-        291 => 867,
-        391 => 915,
-        301 => 968,
-        401 => 1090,
-        501 => 1122,
-        411 => 1155,
-        601 => 1202,
-        701 => 1238,
-        _ => 0,
-    }
-}
+// ---- the items
 
 // The first fault of the items behind the number, item by item from the left.
 fn items_fault(
@@ -494,7 +376,7 @@ fn number_of(
             number: 0,
         };
     }
-    let place = place_of(n);
+    let place = codes::place_of(n);
     if place == 0 {
         return Numbered {
             fault: 5,
@@ -676,7 +558,7 @@ fn quick_line(
     let number = items::spelled_at(s, at);
     let from = number.end;
     let n = number.value;
-    let place = place_of(n);
+    let place = codes::place_of(n);
     if place == 0 {
         return Quick {
             end: 0,

@@ -1,8 +1,6 @@
 use borrow.Author.Needs.{needs}
 use Prim.Native.Nat.{_-_}
 use lib.ListN.{length}
-use Rattle.lines.specs.Codes.{codes}
-use Rattle.lines.proofs.LineLaws.{lent}
 use Rattle.characters.specs.Cells.{isPair, allowed, fullRow, partRow}
 use Rattle.scanning.specs.Classes.{classOf, firstOf, leadOf, trailOf}
 use Rattle.scanning.proofs.TextLaws.{classes-lent}
@@ -14,12 +12,16 @@ use Rattle.canonical.proofs.canonical_into.Statement.{statement}
 use Rattle.canonical.proofs.canonical_into.Tie as tie
 use Rattle.canonical.proofs.canonical_into.Reads as reads
 use Rattle.canonical.proofs.canonical_into.Lts as lts
+use Rattle.codes.proofs.item_codes.Reads as item-codes-reads
 use Rattle.canonical.proofs.write_records.Reads as write-records-reads
 use Rattle.scanning.proofs.line_at.Reads as line-at-reads
 use Rattle.checking.proofs.direction.Reads as direction-reads
 
 returns : tie.Need-returns
 returns c = search (needs, into-laws)
+
+item-codes-requires : tie.Need-item-codes-requires
+item-codes-requires c κs = search needs
 
 line-at-requires : tie.Need-line-at-requires
 unfolding classOf firstOf leadOf trailOf isPair allowed fullRow partRow
@@ -56,8 +58,8 @@ add-from : tie.Need-add-from
 add-from c = search (needs, into-laws)
 
 write-records-requires : tie.Need-write-records-requires
-unfolding codes classOf firstOf leadOf trailOf isPair allowed fullRow partRow
-write-records-requires c κs = (search (needs, classes-lent), (search (needs, lent), (search (needs, line-size), (search (needs, line-1-behind), search (needs, into-room)))))
+unfolding classOf firstOf leadOf trailOf isPair allowed fullRow partRow
+write-records-requires c κs = (search (needs, classes-lent), (search needs, (search (needs, line-size), (search (needs, line-1-behind), search (needs, into-room)))))
 
 returns-3 : tie.Need-returns-3
 returns-3 c = search (needs, into-laws)
@@ -79,6 +81,7 @@ canonical-into-spec =
     tie.close
     (tie.spec
     returns
+    item-codes-requires
     line-at-requires
     enum-told
     enum-told-2

@@ -1,7 +1,7 @@
 use borrow.Author.Needs.{needs}
 use Prim.Native.Nat.{_-_}
 use lib.ListN.{length}
-use Rattle.lines.specs.Codes.{placeOf}
+use Rattle.codes.specs.Codes.{placeOf}
 use Rattle.canonical.proofs.LineLaws.{Spotting, spotting-laws, spotting-item, spotting-spellable, spotting-ready}
 use Rattle.canonical.proofs.put_items.Statement.{statement}
 use Rattle.canonical.proofs.put_items.Tie as tie

@@ -1,7 +1,7 @@
 use borrow.Author.Needs.{needs}
 use mathlib.Core.Path.{_≡_, refl, sym, ap, _∙_}
 use borrow.Author.Tests.{ne-eqb}
-use Rattle.lines.specs.Codes.{codes, placeOf, placeIn}
+use Rattle.codes.specs.Codes.{codes, placeOf, placeIn}
 use Rattle.canonical.specs.Writing.{spotsFrom, spotsOf}
 use Rattle.canonical.proofs.spots.Statement.{statement}
 use Rattle.canonical.proofs.spots.Tie as tie

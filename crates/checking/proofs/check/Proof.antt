@@ -4,8 +4,6 @@ use lib.ListN.{length}
 use Rattle.checking.proofs.CheckLaws.{check-laws}
 use Rattle.checking.proofs.LineFacts.{line-size}
 use Rattle.checking.proofs.ReadLaws.{line-1-behind}
-use Rattle.lines.specs.Codes.{codes}
-use Rattle.lines.proofs.LineLaws.{lent}
 use Rattle.characters.specs.Cells.{isPair, allowed, fullRow, partRow}
 use Rattle.scanning.specs.Classes.{classOf, firstOf, leadOf, trailOf}
 use Rattle.scanning.proofs.TextLaws.{classes-lent}
@@ -13,34 +11,38 @@ use Rattle.checking.proofs.check.Statement.{statement}
 use Rattle.checking.proofs.check.Tie as tie
 use Rattle.checking.proofs.check.Reads as reads
 use Rattle.checking.proofs.check.Lts as lts
+use Rattle.codes.proofs.item_codes.Reads as item-codes-reads
 use Rattle.scanning.proofs.line_at.Reads as line-at-reads
 use Rattle.checking.proofs.check_records.Reads as check-records-reads
 use Rattle.checking.proofs.direction.Reads as direction-reads
 
 returns : tie.Need-returns
-returns c = search (needs, check-laws, lent, classes-lent)
+returns c = search (needs, check-laws, classes-lent)
+
+item-codes-requires : tie.Need-item-codes-requires
+item-codes-requires c κs = search needs
 
 line-at-requires : tie.Need-line-at-requires
 unfolding classOf firstOf leadOf trailOf isPair allowed fullRow partRow
-line-at-requires c κs = search (needs, check-laws, lent, classes-lent)
+line-at-requires c κs = search (needs, check-laws, classes-lent)
 
 enum-told : tie.Need-enum-told
 enum-told c = search needs
 
 returns-2 : tie.Need-returns-2
-returns-2 c = search (needs, check-laws, lent, classes-lent)
+returns-2 c = search (needs, check-laws, classes-lent)
 
 enum-told-2 : tie.Need-enum-told-2
 enum-told-2 c = search needs
 
 returns-3 : tie.Need-returns-3
-returns-3 c = search (needs, check-laws, lent, classes-lent)
+returns-3 c = search (needs, check-laws, classes-lent)
 
 enum-told-3 : tie.Need-enum-told-3
 enum-told-3 c = search needs
 
 returns-4 : tie.Need-returns-4
-returns-4 c = search (needs, check-laws, lent, classes-lent)
+returns-4 c = search (needs, check-laws, classes-lent)
 
 enum-known-end : tie.Need-enum-known-end
 enum-known-end c = search needs
@@ -52,36 +54,37 @@ part-direction-start : tie.Need-part-direction-start
 part-direction-start c = search needs
 
 part-direction-end : tie.Need-part-direction-end
-part-direction-end c = search (needs, check-laws, lent, classes-lent)
+part-direction-end c = search (needs, check-laws, classes-lent)
 
 direction-requires : tie.Need-direction-requires
 direction-requires c κs = search needs
 
 add-from : tie.Need-add-from
-add-from c = search (needs, check-laws, lent, classes-lent)
+add-from c = search (needs, check-laws, classes-lent)
 
 check-records-requires : tie.Need-check-records-requires
-unfolding codes classOf firstOf leadOf trailOf isPair allowed fullRow partRow
-check-records-requires c κs = (search (needs, classes-lent), (search (needs, lent), (search (needs, line-size), search (needs, line-1-behind))))
+unfolding classOf firstOf leadOf trailOf isPair allowed fullRow partRow
+check-records-requires c κs = (search (needs, classes-lent), (search needs, (search (needs, line-size), search (needs, line-1-behind))))
 
 returns-5 : tie.Need-returns-5
-returns-5 c = search (needs, check-laws, lent, classes-lent)
+returns-5 c = search (needs, check-laws, classes-lent)
 
 check-records-requires-2 : tie.Need-check-records-requires-2
-unfolding codes classOf firstOf leadOf trailOf isPair allowed fullRow partRow
-check-records-requires-2 c κs = (search (needs, classes-lent), (search (needs, lent), (search (needs, line-size), search (needs, line-1-behind))))
+unfolding classOf firstOf leadOf trailOf isPair allowed fullRow partRow
+check-records-requires-2 c κs = (search (needs, classes-lent), (search needs, (search (needs, line-size), search (needs, line-1-behind))))
 
 returns-6 : tie.Need-returns-6
-returns-6 c = search (needs, check-laws, lent, classes-lent)
+returns-6 c = search (needs, check-laws, classes-lent)
 
 returns-7 : tie.Need-returns-7
-returns-7 c = search (needs, check-laws, lent, classes-lent)
+returns-7 c = search (needs, check-laws, classes-lent)
 
 pub check-spec : {M : Type 1} → statement M
 check-spec =
     tie.close
     (tie.spec
     returns
+    item-codes-requires
     line-at-requires
     enum-told
     returns-2

@@ -4,8 +4,6 @@ use lib.ListN.{length}
 use Rattle.checking.proofs.ReadLaws.{line-1-behind}
 use Rattle.checking.proofs.CheckLaws.{check-laws}
 use Rattle.checking.proofs.LineFacts.{line-size}
-use Rattle.lines.specs.Codes.{codes}
-use Rattle.lines.proofs.LineLaws.{lent}
 use Rattle.characters.specs.Cells.{isPair, allowed, fullRow, partRow}
 use Rattle.scanning.specs.Classes.{classOf, firstOf, leadOf, trailOf}
 use Rattle.scanning.proofs.TextLaws.{classes-lent}
@@ -14,13 +12,17 @@ use Rattle.index.proofs.fill.Statement.{statement}
 use Rattle.index.proofs.fill.Tie as tie
 use Rattle.index.proofs.fill.Reads as reads
 use Rattle.index.proofs.fill.Lts as lts
+use Rattle.codes.proofs.item_codes.Reads as item-codes-reads
 use Rattle.scanning.proofs.line_at.Reads as line-at-reads
 use Rattle.index.proofs.fill_records.Reads as fill-records-reads
 use Rattle.checking.proofs.direction.Reads as direction-reads
 
+item-codes-requires : tie.Need-item-codes-requires
+item-codes-requires c κs = search needs
+
 line-at-requires : tie.Need-line-at-requires
 unfolding classOf firstOf leadOf trailOf isPair allowed fullRow partRow
-line-at-requires c κs = search (needs, check-laws, fill-laws, lent, classes-lent)
+line-at-requires c κs = search (needs, check-laws, fill-laws, classes-lent)
 
 enum-told : tie.Need-enum-told
 enum-told c = search needs
@@ -41,37 +43,38 @@ part-direction-start : tie.Need-part-direction-start
 part-direction-start c = search needs
 
 part-direction-end : tie.Need-part-direction-end
-part-direction-end c = search (needs, check-laws, fill-laws, lent, classes-lent)
+part-direction-end c = search (needs, check-laws, fill-laws, classes-lent)
 
 direction-requires : tie.Need-direction-requires
 direction-requires c κs = search needs
 
 add-from : tie.Need-add-from
-add-from c = search (needs, check-laws, fill-laws, lent, classes-lent)
+add-from c = search (needs, check-laws, fill-laws, classes-lent)
 
 fill-records-requires : tie.Need-fill-records-requires
-unfolding codes classOf firstOf leadOf trailOf isPair allowed fullRow partRow
-fill-records-requires c κs = (search (needs, classes-lent), (search (needs, lent), (search (needs, line-size), (search (needs, line-1-behind), search (needs, fill-room)))))
+unfolding classOf firstOf leadOf trailOf isPair allowed fullRow partRow
+fill-records-requires c κs = (search (needs, classes-lent), (search needs, (search (needs, line-size), (search (needs, line-1-behind), search (needs, fill-room)))))
 
 returns : tie.Need-returns
-returns c = search (needs, check-laws, fill-laws, lent, classes-lent)
+returns c = search (needs, check-laws, fill-laws, classes-lent)
 
 returns-2 : tie.Need-returns-2
-returns-2 c = search (needs, check-laws, fill-laws, lent, classes-lent)
+returns-2 c = search (needs, check-laws, fill-laws, classes-lent)
 
 returns-3 : tie.Need-returns-3
-returns-3 c = search (needs, check-laws, fill-laws, lent, classes-lent)
+returns-3 c = search (needs, check-laws, fill-laws, classes-lent)
 
 same-length : tie.Need-same-length
 same-length c = search needs
 
 returns-4 : tie.Need-returns-4
-returns-4 c = search (needs, check-laws, fill-laws, lent, classes-lent)
+returns-4 c = search (needs, check-laws, fill-laws, classes-lent)
 
 pub fill-spec : {M : Type 1} → statement M
 fill-spec =
     tie.close
     (tie.spec
+    item-codes-requires
     line-at-requires
     enum-told
     enum-told-2

@@ -9,7 +9,7 @@ use Rattle.lines.proofs.number_of.Lts as lts
 use Rattle.digits.proofs.plain_number.Reads as plain-number-reads
 use Rattle.lines.proofs.items_fault.Reads as items-fault-reads
 use Rattle.lines.proofs.number_end.Reads as number-end-reads
-use Rattle.lines.proofs.place_of.Reads as place-of-reads
+use Rattle.codes.proofs.place_of.Reads as place-of-reads
 
 returns : tie.Need-returns
 returns c = search (needs, numbered-laws)

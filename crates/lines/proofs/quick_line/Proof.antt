@@ -7,7 +7,7 @@ use Rattle.lines.proofs.quick_line.Tie as tie
 use Rattle.lines.proofs.quick_line.Reads as reads
 use Rattle.lines.proofs.quick_line.Lts as lts
 use Rattle.items.proofs.spelled_at.Reads as spelled-at-reads
-use Rattle.lines.proofs.place_of.Reads as place-of-reads
+use Rattle.codes.proofs.place_of.Reads as place-of-reads
 use Rattle.lines.proofs.quick_items.Reads as quick-items-reads
 
 returns : tie.Need-returns

@@ -1,7 +1,7 @@
 -- The numbers that the code holds are the table, compared by one computation and one induction: nothing is argued for one record.
 -- Assumes nothing.
-use Prim.Native.Nat.{ℕ, zero, suc, _+_, _/_, _%_, _≤_}
-use mathlib.Core.Path.{_≡_, refl, sym, ap, _∙_}
+use Prim.Native.Nat.{ℕ, _/_, _%_, _≤_}
+use mathlib.Core.Path.{_≡_, refl, sym, _∙_}
 use mathlib.Core.Bool.{Bool, true, false, cond, _&&_, false≢true}
 use mathlib.Core.List.{List, [], _∷_}
 use native.Mathlib.Omega.{arith}
@@ -11,11 +11,11 @@ use lib.ListN.{length, length-map, length-take, length-drop, take, drop}
 use Rattle.lists.proofs.Tests.{both}
 use Rattle.digits.specs.Short.{plainNumber}
 use Rattle.digits.proofs.Spelling.{same-spell}
-use Rattle.records.specs.Table.{Item, Row, table}
+use Rattle.records.specs.Table.{Row, table}
 use Rattle.records.specs.Records.{rowIn, rowOf, noRow}
 use Rattle.items.specs.Codes.{itemOf, kindOf}
 use Rattle.items.proofs.SetLaws.{small, small-is}
-use Rattle.lines.specs.Codes.{codes, sliceOf, RowCode, places, placeIn, placeOf, InCodes}
+use Rattle.codes.specs.Codes.{codes, sliceOf, RowCode, places, placeIn, placeOf, InCodes}
 
 -- a row by its number
 unfoldable pub rowBy : List Row → ℕ → Row

@@ -1,12 +1,11 @@
-use borrow.Author.Needs.{needs}
 use native.Mathlib.Omega.{arith}
-use mathlib.Core.Path.{_≡_, refl, sym, ap, _∙_}
+use mathlib.Core.Path.{sym, ap}
 use borrow.Author.Tests.{ne-eqb}
-use Rattle.lines.specs.Codes.{placeOf, placeIn}
-use Rattle.lines.proofs.place_of.Statement.{statement}
-use Rattle.lines.proofs.place_of.Tie as tie
-use Rattle.lines.proofs.place_of.Reads as reads
-use Rattle.lines.proofs.place_of.Lts as lts
+use Rattle.codes.specs.Codes.{placeOf, placeIn}
+use Rattle.codes.proofs.place_of.Statement.{statement}
+use Rattle.codes.proofs.place_of.Tie as tie
+use Rattle.codes.proofs.place_of.Reads as reads
+use Rattle.codes.proofs.place_of.Lts as lts
 
 returns : tie.Need-returns
 unfolding placeOf placeIn
