@@ -15,6 +15,7 @@ use Rattle.records.specs.Table.{Kind, Q, D}
 use Rattle.records.specs.Items.{fault as faultOf}
 use Rattle.replies.specs.declared.Reply.{Reply}
 use Rattle.replies.specs.Replies.{refusal, result, checkReply, canonicalReply, cutReply}
+use Rattle.printing.specs.Printed.{printed}
 use Rattle.notebook.specs.Check.{checkOf}
 use Rattle.notebook.specs.Samples.{smallFile}
 use Rattle.notebook.specs.Canonical.{canonicalOf}
@@ -31,6 +32,8 @@ pub data Asked : Type 0 where
   check : List ℕ → Asked
   canonical : List ℕ → Asked
   cut : List ℕ → ℕ → Asked
+  -- what `notecheck` prints of a file
+  prints : List ℕ → Asked
 
 pub data Said : Type 0 where
   -- a day as the number YYYYMMDD, and its one spelling
@@ -40,6 +43,7 @@ pub data Said : Type 0 where
   fault : ℕ → Said
   count : ℕ → Said
   reply : Reply → Said
+  line : List ℕ → Said
 
 pub record Case : Type 0 where
   pub asked : Asked
@@ -75,8 +79,10 @@ cases =
     date "20871231" is day 20871231 (bytes "H991231") ∷ date "H991231" is day 20871231 (bytes "H991231") ∷ item D "20880101" is fault 11 ∷
     -- "Dose 0.25 good, 1.50 and .5 are 11."
     item Q "0.25" is fault 0 ∷ item Q "1.50" is fault 11 ∷ item Q ".5" is fault 11 ∷
-    -- "JAHISTC04,2 and 1,A,1,19890108,,,,,,, and 1Ah: 37 bytes, canonical 35"; "(records, groups, drugs)" are 1 0 0
+    -- "JAHISTC04,2 and 1,A,1,19890108,,,,,,, and 1Ah: 37 bytes, canonical 35. The program `notecheck` .. prints `ok 1 0 0` (records, groups,
+    -- drugs) and 0Ah"
     size smallFile is count 37 ∷ canonical smallFile is reply (result 35 0 0) ∷ check smallFile is reply (result 1 0 0) ∷
+    prints smallFile is line (bytes "ok 1 0 0" ++ (0x0a ∷ [])) ∷
     -- "That file's record 1 with 20 records 4,x,,2: capacity 69 gives 6 pieces, 404 bytes."
     cut (withNotes 20) 69 is reply (result 6 404 0) ∷
     -- "With 18: capacity 60 gives 10 pieces, 547 bytes; 59 gives 18."
@@ -99,3 +105,4 @@ answer (size s) = count (length s)
 answer (check s) = reply (checkReply (checkOf s))
 answer (canonical s) = reply (canonicalReply (canonicalOf s 1000))
 answer (cut s c) = reply (cutReply (cutOf s c (bytes "20261115000001") 1000))
+answer (prints s) = line (printed 3 (checkReply (checkOf s)))
