@@ -7,7 +7,6 @@ ghost use Prim.Native.Nat.{_+_, _≤_, _<_};
 ghost use lib.ListN.{length, drop};
 ghost use lib.Seq.{sets};
 ghost use Rattle.lists.specs.Lists.{part};
-ghost use Rattle.scanning.specs.Classes.{Classes};
 ghost use Rattle.characters.specs.Rows.{rows};
 ghost use Rattle.scanning.specs.Scans.{Stops, Sixteen};
 ghost use Rattle.records.specs.Records.{recordOf};
@@ -285,7 +284,6 @@ fn finish(st: order::State, s: &[u8], at: usize, out: &mut [u8], run: Run) -> Ca
 
 // Line 1, which is kept, and the records from behind it on.
 fn write_records(
-    classes: &[u16; 512],
     codes: &[usize; 83],
     stops: &mut [usize; 16],
     provider: bool,
@@ -293,7 +291,6 @@ fn write_records(
     from: usize,
     out: &mut [u8],
 ) -> Canonical
-    requires { ⌜ Classes (now classes) ⌝ }
     requires { ⌜ Lent (now codes) ⌝ }
     requires { ⌜ Sixteen (now stops) ⌝ }
     requires { ⌜ Behind (now s) from ⌝ }
@@ -304,7 +301,7 @@ fn write_records(
     let mut at = from;
     let mut run = Run { from: 0, at: 0 };
     loop {
-        match checking::read_record(classes, codes, stops, st, s, at) {
+        match checking::read_record(codes, stops, st, s, at) {
             checking::Turn::Over => return finish(st, s, at, out, run),
             checking::Turn::Refused(n) => {
                 let line = st.line + 1;
@@ -329,11 +326,10 @@ pub fn canonical_into(s: &[u8], out: &mut [u8]) -> Canonical
     if 65536 < len {
         return Canonical::Refused(1, 0);
     }
-    let classes = scanning::CLASSES;
     let codes = codes::item_codes();
     let mut stops = [0usize; 16];
     let start = 0;
-    match scanning::line_at(&classes, &mut stops, s, start) {
+    match scanning::line_at(&mut stops, s, start) {
         scanning::Line::End => Canonical::Refused(2, 1),
         scanning::Line::Mark => Canonical::Refused(2, 1),
         scanning::Line::Broken => Canonical::Refused(2, 1),
@@ -343,7 +339,7 @@ pub fn canonical_into(s: &[u8], out: &mut [u8]) -> Canonical
                 return Canonical::Refused(3, 1);
             }
             let from = end + 2;
-            write_records(&classes, &codes, &mut stops, direction == 1, s, from, out)
+            write_records(&codes, &mut stops, direction == 1, s, from, out)
         }
     }
 }

@@ -6,12 +6,10 @@ use lib.Dec.{eqb}
 use lib.ListN.{drop}
 use Rattle.lists.specs.Lists.{all, upTo}
 use Rattle.characters.specs.Cells.{isOne, isPair}
+use Rattle.characters.specs.declared.Char.{Char}
+use Rattle.characters.specs.declared.Char.the-variants.{One, Two, Bad}
 
--- a character of one byte, of two, or none
-pub data Char : Type 0 where
-  One Two Bad : Char
-
--- the character that a list begins with
+-- the character that a list begins with: of one byte, of two, or none
 abbrev pub charOf : List ℕ → Char
 charOf [] = Bad
 charOf (a ∷ []) = cond (isOne a) One Bad

@@ -4,7 +4,6 @@
 ghost use mathlib.Core.Path.{_≡_};
 ghost use lib.ListN.{length, drop};
 ghost use Rattle.characters.specs.Rows.{rows};
-ghost use Rattle.scanning.specs.Classes.{Classes};
 ghost use Rattle.scanning.specs.Scans.{Stops, Sixteen};
 ghost use Rattle.order.specs.State.{start, Room};
 ghost use Rattle.codes.specs.Codes.{Lent};
@@ -80,20 +79,18 @@ pub enum Turn {
 // Finds, reads and places the record at a position; stops: the places of its commas, from its beginning. One call for all of it, since what a
 // call stores is read back slowly: the state waits while the next line is found.
 pub fn read_record(
-    classes: &[u16; 512],
     codes: &[usize; 83],
     stops: &mut [usize; 16],
     st: order::State,
     s: &[u8],
     at: usize,
 ) -> Turn
-    requires { ⌜ Classes (now classes) ⌝ }
     requires { ⌜ Lent (now codes) ⌝ }
     requires { ⌜ Sixteen (now stops) ⌝ }
     requires { ⌜ Room st ⌝ }
     ensures { λ r. ⌜ TurnOf st (now (s .entry)) at (now (stops .exit)) r ⌝ }
 {
-    match lines::find_line(classes, codes, st.provider, stops, s, at) {
+    match lines::find_line(codes, st.provider, stops, s, at) {
         lines::Found::End => Turn::Over,
         lines::Found::Mark => Turn::Over,
         lines::Found::Broken => Turn::Refused(2),
@@ -108,14 +105,12 @@ pub fn read_record(
 
 // The records of a file from behind line 1 on.
 fn check_records(
-    classes: &[u16; 512],
     codes: &[usize; 83],
     stops: &mut [usize; 16],
     provider: bool,
     s: &[u8],
     from: usize,
 ) -> Checked
-    requires { ⌜ Classes (now classes) ⌝ }
     requires { ⌜ Lent (now codes) ⌝ }
     requires { ⌜ Sixteen (now stops) ⌝ }
     requires { ⌜ Behind (now s) from ⌝ }
@@ -124,7 +119,7 @@ fn check_records(
     let mut st = order::State::new(provider);
     let mut at = from;
     loop {
-        match read_record(classes, codes, stops, st, s, at) {
+        match read_record(codes, stops, st, s, at) {
             Turn::Over => return close(st),
             Turn::Refused(n) => return Checked::Refused(n, st.line + 1),
             Turn::On(next, _, _, end, _) => {
@@ -143,11 +138,10 @@ pub fn check(s: &[u8]) -> Checked
     if 65536 < len {
         return Checked::Refused(1, 0);
     }
-    let classes = scanning::CLASSES;
     let codes = codes::item_codes();
     let mut stops = [0usize; 16];
     let start = 0;
-    match scanning::line_at(&classes, &mut stops, s, start) {
+    match scanning::line_at(&mut stops, s, start) {
         scanning::Line::End => return Checked::Refused(2, 1),
         scanning::Line::Mark => return Checked::Refused(2, 1),
         scanning::Line::Broken => return Checked::Refused(2, 1),
@@ -155,10 +149,10 @@ pub fn check(s: &[u8]) -> Checked
             let d = direction(&s[start..end]);
             let from = end + 2;
             if d == 1 {
-                return check_records(&classes, &codes, &mut stops, true, s, from);
+                return check_records(&codes, &mut stops, true, s, from);
             }
             if d == 2 {
-                return check_records(&classes, &codes, &mut stops, false, s, from);
+                return check_records(&codes, &mut stops, false, s, from);
             }
             Checked::Refused(3, 1)
         }

@@ -6,7 +6,6 @@ ghost use lib.ListN.{length, drop};
 ghost use Prim.Native.Nat.{_-_};
 ghost use Rattle.characters.specs.Rows.{rows};
 ghost use Rattle.order.specs.State.{start, groupOf, drugOf};
-ghost use Rattle.scanning.specs.Classes.{Classes};
 ghost use Rattle.scanning.specs.Scans.{Sixteen};
 ghost use Rattle.codes.specs.Codes.{Lent};
 ghost use Rattle.buffers.specs.Buffers.{Room, Wrote, six};
@@ -37,7 +36,6 @@ fn put_entry(
 
 // The entries of the records from behind line 1 on.
 fn fill_records(
-    classes: &[u16; 512],
     codes: &[usize; 83],
     stops: &mut [usize; 16],
     provider: bool,
@@ -45,7 +43,6 @@ fn fill_records(
     from: usize,
     out: &mut [u32],
 ) -> usize
-    requires { ⌜ Classes (now classes) ⌝ }
     requires { ⌜ Lent (now codes) ⌝ }
     requires { ⌜ Sixteen (now stops) ⌝ }
     requires { ⌜ Behind (now s) from ⌝ }
@@ -56,7 +53,7 @@ fn fill_records(
     let mut at = from;
     let mut next = 0;
     loop {
-        match checking::read_record(classes, codes, stops, st, s, at) {
+        match checking::read_record(codes, stops, st, s, at) {
             checking::Turn::Over => return next,
             checking::Turn::Refused(_) => return next,
             checking::Turn::On(after, _, doctor, end, _) => {
@@ -73,18 +70,17 @@ fn fill(s: &[u8], out: &mut [u32]) -> usize
     requires { ⌜ Fillable (now s) (now out) ⌝ }
     ensures { λ r. ⌜ Wrote (now (out .entry)) (now (out .exit)) 0 r (numbersOf (now (s .entry))) ⌝ }
 {
-    let classes = scanning::CLASSES;
     let codes = codes::item_codes();
     let mut stops = [0usize; 16];
     let start = 0;
-    match scanning::line_at(&classes, &mut stops, s, start) {
+    match scanning::line_at(&mut stops, s, start) {
         scanning::Line::End => 0,
         scanning::Line::Mark => 0,
         scanning::Line::Broken => 0,
         scanning::Line::Whole(end, _, _) => {
             let direction = checking::direction(&s[start..end]);
             let from = end + 2;
-            fill_records(&classes, &codes, &mut stops, direction == 1, s, from, out)
+            fill_records(&codes, &mut stops, direction == 1, s, from, out)
         }
     }
 }

@@ -207,4 +207,10 @@ pub ruleset code-item-laws = (end-none, code-blank, code-fine)
 
 pub ruleset text-item-laws = (end-none, end-blank, end-text, end-inner)
 
-pub ruleset other-item-laws = (end-none, end-fine)
+pub ruleset wide-item-laws = (end-none, end-fine)
+
+-- the bytes of a code are a run
+pub run-fine : (provider : Bool) (c : ℕ) (s : List ℕ) (a : ℕ) {e : ℕ} → CodeRun s a e → {f : ℕ} → f ≡ itemFault (provider) (itemOf c) (part s a e) → f ≡ 0 → EndOf provider c s a e
+run-fine provider c s a v p q = end-fine provider c s a (v .run) p q
+
+pub ruleset other-item-laws = (end-none, run-fine)

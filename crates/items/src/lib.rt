@@ -14,7 +14,6 @@ ghost use Rattle.calendar.specs.Era.{readDay};
 ghost use Rattle.records.specs.Table.{required as requiredOf};
 ghost use Rattle.records.specs.Items.{isCode, allPairs, endsWide, oneWidth as oneWidthOf, edge as edgeOf, seven as sevenOf, unhyphened, postal as postalOf, prefecture as prefectureOf, whole as wholeOf, places as placesOf, fraction as fractionOf, decimal as decimalOf, sized as sizedOf, fault as faultOf, numberFault, dayFault};
 ghost use Rattle.records.specs.Records.{itemFault};
-ghost use Rattle.scanning.specs.Classes.{Classes};
 ghost use Rattle.items.specs.Codes.{setOf, kindOf, needOf, itemOf};
 ghost use Rattle.items.specs.Ends.{EndOf, SpelledAt, CodeRun, DigitAt, DigitFits};
 
@@ -86,34 +85,17 @@ fn one_width(s: &[u8]) -> bool
     all_one(s) | all_pairs(s)
 }
 
-// Whether the last character is 8140h. Only an item that ends in these two bytes is walked: in 8Ah 81h 40h they are the trail of a
-// kanji and @.
+// Whether the last character is 8140h. In 8Ah 81h 40h these two bytes are the trail of a kanji and @: no character ends before them.
 fn ends_wide(s: &[u8]) -> bool
     ensures { λ r. ⌜ r ≡ endsWide (now (s .entry)) ⌝ }
 {
     let n = s.len();
-    let y = lists::byte_at(s, lists::before(lists::before(n)));
+    let start = 0;
+    let m = lists::before(lists::before(n));
+    let y = lists::byte_at(s, m);
     let z = lists::byte_at(s, lists::before(n));
-    if !((y == 0x81) & (z == 0x40)) {
-        return false;
-    }
-    let mut i = 0;
-    while i < s.len() {
-        let next = i + 1;
-        if s.len() <= next {
-            return false;
-        }
-        let a = s[i];
-        let b = s[next];
-        if scanning::is_one(a) {
-            i += 1;
-        } else {
-            let after = i + 2;
-            if s.len() <= after {
-                return (a == 0x81) & (b == 0x40);
-            }
-            i += 2;
-        }
+    if (y == 0x81) & (z == 0x40) {
+        return scanning::all_chars(&s[start..m]);
     }
     false
 }
@@ -341,13 +323,12 @@ fn blank_end(c: usize, provider: bool, from: usize) -> usize
 }
 
 // Kind N: too long, then an edge.
-fn text_item(classes: &[u16; 512], c: usize, provider: bool, s: &[u8], from: usize) -> usize
-    requires { ⌜ Classes (now classes) ⌝ }
+fn text_item(c: usize, provider: bool, s: &[u8], from: usize) -> usize
     requires { ⌜ from ≤ length (now s) ⌝ }
     requires { ⌜ c / 4 % 16 ≡ 0 ⌝ }
     ensures { λ r. ⌜ EndOf (provider) c (now (s .entry)) from r ⌝ }
 {
-    let end = scanning::run_end(classes, s, from);
+    let end = scanning::run_end(s, from);
     if end == from {
         return blank_end(c, provider, from);
     }
@@ -375,13 +356,22 @@ fn code_item(c: usize, provider: bool, s: &[u8], from: usize) -> usize
     if c / 64 < end - from { 0 } else { end }
 }
 
-// Any other kind: the run, then its fault.
-fn other_item(classes: &[u16; 512], c: usize, provider: bool, s: &[u8], from: usize) -> usize
-    requires { ⌜ Classes (now classes) ⌝ }
+// Kind U: the run, then its fault.
+fn wide_item(c: usize, provider: bool, s: &[u8], from: usize) -> usize
     requires { ⌜ from ≤ length (now s) ⌝ }
     ensures { λ r. ⌜ EndOf (provider) c (now (s .entry)) from r ⌝ }
 {
-    let end = scanning::run_end(classes, s, from);
+    let end = scanning::run_end(s, from);
+    let f = item_fault(c, provider, &s[from..end]);
+    if f == 0 { end } else { 0 }
+}
+
+// Any other kind: its bytes are those of a code (digits, a period, a hyphen, an era's letter), so that the run of these is looked at.
+fn other_item(c: usize, provider: bool, s: &[u8], from: usize) -> usize
+    requires { ⌜ from ≤ length (now s) ⌝ }
+    ensures { λ r. ⌜ EndOf (provider) c (now (s .entry)) from r ⌝ }
+{
+    let end = code_end(s, from);
     let f = item_fault(c, provider, &s[from..end]);
     if f == 0 { end } else { 0 }
 }
@@ -461,8 +451,7 @@ pub fn spelled_at(s: &[u8], at: usize) -> Spelled
 }
 
 // For kind R.
-fn number_item(classes: &[u16; 512], c: usize, provider: bool, s: &[u8], from: usize) -> usize
-    requires { ⌜ Classes (now classes) ⌝ }
+fn number_item(c: usize, provider: bool, s: &[u8], from: usize) -> usize
     requires { ⌜ from ≤ length (now s) ⌝ }
     requires { ⌜ c / 4 % 16 ≡ 7 ⌝ }
     ensures { λ r. ⌜ EndOf (provider) c (now (s .entry)) from r ⌝ }
@@ -473,25 +462,27 @@ fn number_item(classes: &[u16; 512], c: usize, provider: bool, s: &[u8], from: u
     if v != 0 {
         return end;
     }
-    other_item(classes, c, provider, s, from)
+    other_item(c, provider, s, from)
 }
 
 // Where the item that begins at a position ends, if it has no fault; else 0. c: the item of the table, as one number. 0 says nothing of
 // the item: the line that it stands in is then read another way.
-pub fn item_end(classes: &[u16; 512], c: usize, provider: bool, s: &[u8], from: usize) -> usize
-    requires { ⌜ Classes (now classes) ⌝ }
+pub fn item_end(c: usize, provider: bool, s: &[u8], from: usize) -> usize
     requires { ⌜ from ≤ length (now s) ⌝ }
     ensures { λ r. ⌜ EndOf (provider) c (now (s .entry)) from r ⌝ }
 {
     let kind = c / 4 % 16;
     if kind == 0 {
-        return text_item(classes, c, provider, s, from);
+        return text_item(c, provider, s, from);
     }
     if kind == 2 {
         return code_item(c, provider, s, from);
     }
     if kind == 7 {
-        return number_item(classes, c, provider, s, from);
+        return number_item(c, provider, s, from);
+    }
+    if kind == 1 {
+        return wide_item(c, provider, s, from);
     }
     let d = digit_at(s, from);
     if d <= 9 {
@@ -499,5 +490,5 @@ pub fn item_end(classes: &[u16; 512], c: usize, provider: bool, s: &[u8], from: 
             return from + 1;
         }
     }
-    other_item(classes, c, provider, s, from)
+    other_item(c, provider, s, from)
 }

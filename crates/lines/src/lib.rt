@@ -9,7 +9,6 @@ ghost use Rattle.lists.specs.Lists.{same, findFrom};
 ghost use Rattle.records.specs.Split.{itemsOf};
 ghost use Rattle.scanning.specs.Scans.{Stops, Sixteen, RunOf};
 ghost use Rattle.records.specs.Records.{orEmpty, isNum, itemsFault};
-ghost use Rattle.scanning.specs.Classes.{Classes};
 ghost use Rattle.lines.specs.Found.{lineRead};
 ghost use Rattle.lines.specs.Found.{Told, NumberedAs, LineEndsIf, QuickItems, QuickOf, FoundOf};
 ghost use Rattle.codes.specs.Codes.{Lent, InCodes, sliceOf};
@@ -479,7 +478,6 @@ fn ends_line(s: &[u8], e: usize) -> bool
 // The items of a line that begins at a position, each behind its comma; from: where its number ends; place: its row's. Where its text ends, if
 // all items are there without a fault, and 0Dh 0Ah behind them; else 0.
 fn quick_items(
-    classes: &[u16; 512],
     codes: &[usize; 83],
     place: usize,
     provider: bool,
@@ -488,7 +486,6 @@ fn quick_items(
     at: usize,
     from: usize,
 ) -> usize
-    requires { ⌜ Classes (now classes) ⌝ }
     requires { ⌜ Lent (now codes) ⌝ }
     requires { ⌜ InCodes place ⌝ }
     requires { ⌜ Sixteen (now stops) ⌝ }
@@ -509,7 +506,7 @@ fn quick_items(
         stops[j] = e - at;
         let c = codes[k];
         let next = e + 1;
-        let r = items::item_end(classes, c, provider, s, next);
+        let r = items::item_end(c, provider, s, next);
         if r == 0 {
             return 0;
         }
@@ -528,14 +525,12 @@ pub struct Quick {
 }
 
 fn quick_line(
-    classes: &[u16; 512],
     codes: &[usize; 83],
     provider: bool,
     stops: &mut [usize; 16],
     s: &[u8],
     at: usize,
 ) -> Quick
-    requires { ⌜ Classes (now classes) ⌝ }
     requires { ⌜ Lent (now codes) ⌝ }
     requires { ⌜ Sixteen (now stops) ⌝ }
     ensures { λ r. ⌜ QuickOf (provider) (now (s .entry)) at (now (stops .exit)) r ⌝ }
@@ -566,7 +561,7 @@ fn quick_line(
             number: 0,
         };
     }
-    let end = quick_items(classes, codes, place, provider, stops, s, at, from);
+    let end = quick_items(codes, place, provider, stops, s, at, from);
     Quick {
         end,
         commas: place % 16,
@@ -587,26 +582,24 @@ pub enum Found {
 
 // The line that begins at a position; stops: the places of its commas, from its beginning.
 pub fn find_line(
-    classes: &[u16; 512],
     codes: &[usize; 83],
     provider: bool,
     stops: &mut [usize; 16],
     s: &[u8],
     at: usize,
 ) -> Found
-    requires { ⌜ Classes (now classes) ⌝ }
     requires { ⌜ Lent (now codes) ⌝ }
     requires { ⌜ Sixteen (now stops) ⌝ }
     ensures { λ r. ⌜ FoundOf (provider) (now (s .entry)) at (now (stops .exit)) r ⌝ }
 {
-    let quick = quick_line(classes, codes, provider, stops, s, at);
+    let quick = quick_line(codes, provider, stops, s, at);
     let end = quick.end;
     let commas = quick.commas;
     let number = quick.number;
     if end != 0 {
         return Found::Whole(end, true, commas, number);
     }
-    match scanning::line_at(classes, stops, s, at) {
+    match scanning::line_at(stops, s, at) {
         scanning::Line::End => Found::End,
         scanning::Line::Mark => Found::Mark,
         scanning::Line::Broken => Found::Broken,

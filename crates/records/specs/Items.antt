@@ -13,6 +13,7 @@ use Rattle.calendar.specs.declared.DateRead.the-variants.{Date, NotADate}
 use Rattle.calendar.specs.Era.{readDay}
 use Rattle.eras.specs.Era.{writeDay}
 use Rattle.characters.specs.Cells.{isOne, isPair}
+use Rattle.characters.specs.Text.{allChars}
 use Rattle.records.specs.Table.{Kind, N, U, X, A, F, C, P, R, W, Q, D, among}
 
 -- "D as days, P as seven digits, R as values, others as bytes"
@@ -29,11 +30,9 @@ writeValue (day n) = writeDay n
 
 -- ---- edges
 
--- the last character is 8140h
+-- the last character is 8140h: the last two bytes are 81h and 40h, and characters end before them
 abbrev pub endsWide : List ℕ → Bool
-endsWide [] = false
-endsWide (a ∷ []) = false
-endsWide (a ∷ b ∷ r) = cond (isOne a) (endsWide (b ∷ r)) (cond (empty r) (eqb a 0x81 && eqb b 0x40) (endsWide r))
+endsWide s = eqb (getD s (length s - 2) 0) 0x81 && (eqb (last s) 0x40 && allChars (take (length s - 2) s))
 
 -- two or more bytes, the first and the last both q
 abbrev pub quoted : ℕ → List ℕ → Bool

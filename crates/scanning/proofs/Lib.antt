@@ -1,4 +1,4 @@
-pub mod PairLaws
+pub mod CellLaws
 pub mod TextLaws
 pub mod LineLaws
 pub mod RunLaws

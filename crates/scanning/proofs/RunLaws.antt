@@ -1,21 +1,24 @@
 -- Runs of characters without a comma: one behind another, the ways through `run_end`, and a scan that passes a run whole. Assumes nothing.
 use Prim.Native.Nat.{ℕ, zero, suc, _+_, _-_, _≤_, _<_}
 use mathlib.Core.Path.{_≡_, refl, sym, ap, _∙_, subst}
-use mathlib.Core.Bool.{Bool, true, false, cond, not, _&&_, false≢true}
+use mathlib.Core.Bool.{Bool, true, false, cond, not, _&&_, false≢true, true≢false}
+use mathlib.Core.Logic.{inl, inr, ⊎-elim}
 use mathlib.Core.List.{List, [], _∷_, _++_}
 use native.Mathlib.Omega.{arith}
+use borrow.Author.Tests.{ne-eqb}
 use lib.Dec.{leb, eqb}
-use lib.ListN.{length, take, drop, getD, length-append, take-append-drop}
+use lib.ListN.{length, take, drop, getD, set, length-append, take-append-drop}
 use lib.Seq.{drop-drop}
 use Rattle.lists.specs.Lists.{part}
 use Rattle.lists.proofs.Parts.{part-length, part-none, part-join}
-use Rattle.lists.proofs.Cuts.{drop-step, two-on}
+use Rattle.lists.proofs.Cuts.{drop-step, drop-end, two-on, last-on}
 use Rattle.characters.specs.Cells.{isOne, isPair}
-use Rattle.characters.specs.Text.{allChars, isStop, clean, text, commaCount, commasFrom}
-use Rattle.scanning.specs.Scans.{RunOf}
-use Rattle.scanning.specs.Classes.{firstOf, pairOf, pairAt}
-use Rattle.scanning.proofs.PairLaws.{first-one}
-use Rattle.scanning.proofs.TextLaws.{first-is, one-char, no-comma, lead-high, trail-high, lead-no-one, kept, Scanned}
+use Rattle.characters.specs.declared.Char.{Char}
+use Rattle.characters.specs.declared.Char.the-variants.{One, Two, Bad}
+use Rattle.characters.specs.Text.{charOf, charAt, allChars, isStop, clean, text, commaCount, commasFrom}
+use Rattle.scanning.specs.declared.Scan.{Scan}
+use Rattle.scanning.specs.Scans.{ScanOf, RunOf, RunEnds, Finished}
+use Rattle.scanning.proofs.TextLaws.{one-char, no-comma, lead-high, trail-high, lead-no-one, kept, Scanned, scan-start, scan-comma, scan-more, scan-stop, scan-bad, scan-end}
 use Rattle.characters.proofs.CharLaws.{chars-clean, pair-parts}
 
 -- ---- one list behind another
@@ -86,7 +89,24 @@ run-pair {s} {a} {i} v h o =
       plain = rw p (simp (no-comma (getD s i 0) (omega (arith, lead-high (getD s i 0) (q .0))), no-comma (getD s (i + 1) 0) (trail-high (getD s (i + 1) 0) (q .1))));
     })
 
--- ---- the ways through run_end: v is what the first byte may begin, x whether it and the next one share a bit
+-- ---- the ways through run_end
+
+-- what the answers say of the bytes
+one-is : (a b : ℕ) → charOf (a ∷ b ∷ []) ≡ One → isOne a ≡ true
+one-is a b e = go (isOne a) (isPair a b) e
+  where
+    go : (x y : Bool) → cond x One (cond y Two Bad) ≡ One → x ≡ true
+    go true y e = refl
+    go false true e = cc
+    go false false e = cc
+
+two-is : (a b : ℕ) → charOf (a ∷ b ∷ []) ≡ Two → isPair a b ≡ true
+two-is a b e = go (isOne a) (isPair a b) e
+  where
+    go : (x y : Bool) → cond x One (cond y Two Bad) ≡ Two → y ≡ true
+    go true y e = cc
+    go false true e = refl
+    go false false e = cc
 
 pub record Running (s : List ℕ) (from last i : ℕ) : Type 0 where
   pub run : RunOf s from i
@@ -95,27 +115,61 @@ pub record Running (s : List ℕ) (from last i : ℕ) : Type 0 where
 pub running-start : (s : List ℕ) (from : ℕ) → from ≤ length s → (length s ≡ 0 → ⊥) → Running s from (length s - 1) from
 running-start s from h z = record { run = run-none s from h; ends = omega arith }
 
+-- nothing to read
+pub running-none : (s : List ℕ) (from : ℕ) → length s ≡ 0 → RunEnds s from
+running-none s from z = record { holds = λ k. absurd (omega arith) }
+
 module _ {s : List ℕ} {from last i : ℕ} (w : Running s from last i) where
   pub running-run : RunOf s from i
   running-run = w .run
 
-  module _ (h : i < last) where
-    pub running-inside : i < length s
-    running-inside = omega (arith, w .ends)
+  -- x: the character at i, before the last byte
+  module _ (h : i < last) {x : Char} (q : x ≡ charOf (getD s i 0 ∷ getD s (i + 1) 0 ∷ [])) where
+    two-left : i + 1 < length s
+    two-left = omega (arith, w .ends)
 
-    pub running-two-left : i + 1 < length s
-    running-two-left = omega (arith, w .ends)
+    pub running-one : x ≡ One → (getD s i 0 ≡ 0x2c → ⊥) → Running s from last (i + 1)
+    running-one e n = record {
+      run = run-byte (w .run) (omega (arith, w .ends)) (one-is (getD s i 0) (getD s (i + 1) 0) (sym q ∙ e)) (ne-eqb (getD s i 0) 0x2c n);
+      ends = w .ends;
+    }
 
-    pub running-one : {v : ℕ} → v ≡ firstOf (getD s i 0) → v ≡ 0 → Running s from last (i + 1)
-    running-one q e =
-        let o = first-one (getD s i 0) (sym q ∙ e) in
-        record { run = run-byte (w .run) running-inside (o .0) (o .1); ends = w .ends }
+    pub running-two : x ≡ Two → Running s from last (i + 2)
+    running-two e = record { run = run-pair (w .run) two-left (two-is (getD s i 0) (getD s (i + 1) 0) (sym q ∙ e)); ends = w .ends }
 
-    pub running-two : {x : Bool} → x ≡ pairAt s i → x ≡ true → Running s from last (i + 2)
-    unfolding pairAt
-    running-two q e = record { run = run-pair (w .run) running-two-left (ap pairOf (sym (two-on s i 0 running-two-left)) ∙ sym q ∙ e); ends = w .ends }
+    pub running-bad : x ≡ Bad → RunEnds s i
+    unfolding charAt
+    running-bad e = record { holds = λ _. inr (ap charOf (two-on s i 0 two-left) ∙ sym q ∙ e) }
 
-pub ruleset run-laws = (first-is, run-none, running-start, running-run, running-inside, running-two-left, running-one, running-two)
+  pub running-comma : getD s i 0 ≡ 0x2c → RunEnds s i
+  running-comma e = record { holds = λ _. inl e }
+
+-- ---- the ways through last_end
+
+pub last-past : (s : List ℕ) (i : ℕ) → length s ≤ i → Finished s i i
+last-past s i h = record { holds = λ a v. (v, record { holds = λ k. absurd (omega arith) }) }
+
+module _ (s : List ℕ) (i : ℕ) (h : i < length s) (k : length s ≤ i + 1) where
+  pub last-comma : getD s i 0 ≡ 0x2c → Finished s i i
+  last-comma e = record { holds = λ a v. (v, record { holds = λ _. inl e }) }
+
+  -- y: what is_one said
+  pub last-one : {y : Bool} → y ≡ isOne (getD s i 0) → y ≡ true → (getD s i 0 ≡ 0x2c → ⊥) → Finished s i (i + 1)
+  last-one p t n = record {
+    holds = λ a v. (run-byte v h (sym p ∙ t) (ne-eqb (getD s i 0) 0x2c n), record { holds = λ x. absurd (omega arith) });
+  }
+
+  pub last-bad : {y : Bool} → y ≡ isOne (getD s i 0) → y ≡ false → Finished s i i
+  unfolding charAt
+  last-bad p f = record { holds = λ a v. (v, record { holds = λ x. inr (ap charOf (last-on s i 0 h k) ∙ rw (sym p ∙ f)) }) }
+
+pub ruleset last-laws = (last-past, last-comma, last-one, last-bad)
+
+-- the end of a run, as last_end tells it
+pub running-end : {s : List ℕ} {from last i r : ℕ} → Running s from last i → Finished s i r → RunOf s from r × RunEnds s r
+running-end {from = from} w f = f .holds from (w .run)
+
+pub ruleset run-laws = (run-none, running-none, running-start, running-run, running-one, running-two, running-bad, running-comma, running-end)
 
 -- ---- a scan over a run
 
@@ -137,3 +191,83 @@ run-scanned {s} {at} {a₀} {a} {i} {e} {good} {n} v w =
       size = v .size;
       first = v .first;
     }
+
+-- ---- the ways through all_chars
+
+-- what is left from i on decides
+pub record AllLeft (s : List ℕ) (i : ℕ) : Type 0 where
+  pub left : allChars s ≡ allChars (drop i s)
+  pub high : i ≤ length s
+
+pub all-start : (s : List ℕ) → AllLeft s 0
+all-start s = record { left = refl; high = omega arith }
+
+pub all-over : {s : List ℕ} {i : ℕ} → AllLeft s i → length s ≤ i → true ≡ allChars s
+all-over {s} {i} v h = sym (v .left ∙ ap allChars (drop-end s i h))
+
+-- behind a run
+run-left : {s : List ℕ} {i e : ℕ} → RunOf s i e → allChars (drop i s) ≡ allChars (drop e s)
+run-left {s} {i} {e} w =
+    let m : i + (e - i) ≡ e = omega (arith, w .low) in
+    let c : drop i s ≡ part s i e ++ drop e s =
+    sym (take-append-drop (e - i) (drop i s)) ∙ ap (λ (l : List ℕ). part s i e ++ l) (drop-drop (e - i) i s ∙ ap (λ (j : ℕ). drop j s) m) in
+    ap allChars c ∙ chars-on (part s i e) (drop e s) (w .chars)
+
+bad-chars : (a : ℕ) (l : List ℕ) → charOf (a ∷ l) ≡ Bad → allChars (a ∷ l) ≡ false
+bad-chars a [] e = go (isOne a) e
+  where
+    go : (x : Bool) → cond x One Bad ≡ Bad → x ≡ false
+    go true e = cc
+    go false e = refl
+bad-chars a (b ∷ r) e = go (isOne a) (isPair a b) e
+  where
+    go : (x y : Bool) → cond x One (cond y Two Bad) ≡ Bad → cond x (allChars (b ∷ r)) (y && allChars r) ≡ false
+    go true y e = cc
+    go false true e = cc
+    go false false e = refl
+
+module _ {s : List ℕ} {i e : ℕ} (v : AllLeft s i) (w : RunOf s i e) where
+  pub all-passed : length s ≤ e → true ≡ allChars s
+  all-passed h = sym (v .left ∙ run-left w ∙ ap allChars (drop-end s e h))
+
+  module _ (h : e < length s) where
+    pub all-comma : getD s e 0 ≡ 0x2c → AllLeft s (e + 1)
+    all-comma c = record {
+      left = v .left ∙ run-left w ∙ ap allChars (drop-step s e 0 h) ∙ one-char (getD s e 0) (drop (e + 1) s) (rw c);
+      high = omega arith;
+    }
+
+    pub all-stuck : RunEnds s e → (getD s e 0 ≡ 0x2c → ⊥) → false ≡ allChars s
+    unfolding charAt
+    all-stuck z n =
+        ⊎-elim (λ c. absurd (n c)) (λ b. sym (v .left ∙ run-left w ∙ ap allChars (drop-step s e 0 h) ∙ bad-chars (getD s e 0) (drop (e + 1) s) (ap charOf (sym (drop-step s e 0 h)) ∙ b))) (z .holds h)
+
+pub ruleset all-laws = (all-start, all-over, all-passed, all-comma, all-stuck)
+
+-- ---- the ways through is_pair: x is what is_one said, y what all_chars said of the two bytes
+
+pub pair-told : (a b : ℕ) {x y : Bool} → x ≡ isOne a → y ≡ allChars (a ∷ b ∷ []) → (not x && y) ≡ isPair a b
+pair-told a b p q = rw (p, q) (go (isPair a b) refl (isOne a) refl)
+  where
+    go : (z : Bool) → isPair a b ≡ z → (o : Bool) → isOne a ≡ o → (not o && cond o (isOne b) (z && true)) ≡ z
+    go true e true f = absurd (true≢false (sym f ∙ lead-no-one a (pair-parts a b e .0)))
+    go false e true f = refl
+    go true e false f = refl
+    go false e false f = refl
+
+-- ---- the ways through scan_text, each behind a run
+
+module _ {s : List ℕ} {at : ℕ} {a₀ a : List ℕ} {i e : ℕ} {good : Bool} {n : ℕ} (v : Scanned s at a₀ a i good n) (w : RunOf s i e) where
+  pub run-comma : e < length s → getD s e 0 ≡ 0x2c → n < 16 → Scanned s at a₀ (set a n (e - at)) (e + 1) good (n + 1)
+  run-comma h c k = scan-comma (run-scanned v w) h c k
+
+  pub run-more : e < length s → getD s e 0 ≡ 0x2c → 16 ≤ n → Scanned s at a₀ a (e + 1) good (n + 1)
+  run-more h c k = scan-more (run-scanned v w) h c k
+
+  pub run-stop : e < length s → {x : Bool} → x ≡ isStop (getD s e 0) → x ≡ true → ScanOf s at a (record { end = e; good = good; commas = n })
+  run-stop h p t = scan-stop (run-scanned v w) h p t
+
+  pub run-bad : e < length s → RunEnds s e → (getD s e 0 ≡ 0x2c → ⊥) → {x : Bool} → x ≡ isStop (getD s e 0) → x ≡ false → Scanned s at a₀ a (e + 1) false n
+  run-bad h z c p f = ⊎-elim (λ k. absurd (c k)) (λ b. scan-bad (run-scanned v w) h b p f) (z .holds h)
+
+pub ruleset pass-laws = (scan-start, scan-end, run-scanned, run-comma, run-more, run-stop, run-bad)

@@ -15,11 +15,11 @@ use Rattle.lists.specs.Lists.{within, all, upTo}
 use Rattle.lists.proofs.Tests.{both, either, or-first, within-in, within-below, within-above}
 use Rattle.lists.proofs.Cuts.{drop-step, drop-end, two-on}
 use Rattle.characters.specs.Cells.{isOne, isPair, isTrail, isLead, allowed, fullRow, partRow}
-use Rattle.characters.specs.Text.{Char, One, Two, Bad, charOf, charAt, allChars, isStop, clean, commaCount, commasFrom, text}
+use Rattle.characters.specs.declared.Char.{Char}
+use Rattle.characters.specs.declared.Char.the-variants.{One, Two, Bad}
+use Rattle.characters.specs.Text.{charOf, charAt, allChars, isStop, clean, commaCount, commasFrom, text}
 use Rattle.scanning.specs.Scans.{Stops, Sixteen, ScanOf}
-use Rattle.scanning.specs.Classes.{firstOf, classesFrom, Classes, pairOf, pairAt, FirstAt}
 use Rattle.characters.proofs.CharLaws.{one-go, pair-parts, pair-go}
-use Rattle.scanning.proofs.PairLaws.{first-one, first-other}
 
 -- ---- one character of a text, as `char_at` tells it
 
@@ -65,16 +65,6 @@ lead-no-one a e =
     outside h k =
         rw (within-above 0x20 0x7e a (omega arith))
         (⊎-elim (λ u. within-below 0xa1 0xdf a (omega arith)) (λ u. within-above 0xa1 0xdf a (omega arith)) k)
-
-two-text : (a : ℕ) (l : List ℕ) → pairOf (a ∷ l) ≡ true
-    → Leaves (a ∷ l) (drop 1 l) 2 × (commaCount (text (a ∷ l)) ≡ commaCount (text (drop 1 l))) × ((k : ℕ) → commasFrom k (text (a ∷ l)) ≡ commasFrom (suc (suc k)) (text (drop 1 l)))
-two-text a [] h = absurd (false≢true h)
-two-text a (b ∷ r) h =
-    let q : (isLead a ≡ true) × (isTrail b ≡ true) = pair-parts a b h in
-    let p : (isOne a ≡ false) × (isPair a b ≡ true) = (lead-no-one a (q .0), h) in
-    let s : (isStop a ≡ false) × (isStop b ≡ false) = pair-go a b h in
-    let m : 0x81 ≤ a = lead-high a (q .0) in
-    (record { size = simp (s .0, s .1) (omega arith); chars = simp (s .0, s .1, p .0, p .1) }, simp (s .0, s .1, no-comma a (omega arith), no-comma b (trail-high b (q .1))) (omega arith), λ k. simp (s .0, s .1, no-comma a (omega arith), no-comma b (trail-high b (q .1))))
 
 bad-text : (a : ℕ) (l : List ℕ) → isStop a ≡ false → charOf (a ∷ l) ≡ Bad → allChars (text (a ∷ l)) ≡ false
 bad-text a [] s h = simp s (go (isOne a) h)
@@ -194,15 +184,6 @@ module _ {s : List ℕ} {at : ℕ} {a₀ a : List ℕ} {i : ℕ} {good : Bool} {
     plain-on : isStop (getD s i 0) ≡ false → eqb (getD s i 0) 0x2c ≡ false → kept a n (commasFrom (i + 1 - at) (text (drop (i + 1) s))) ≡ kept a₀ 0 (commasFrom 0 (text (drop at s)))
     plain-on e z = ap (kept a n) (sym (places-on e ∙ rw z)) ∙ v .places
 
-    one-byte : isOne (getD s i 0) ≡ true → eqb (getD s i 0) 0x2c ≡ false → Scanned s at a₀ a (i + 1) good n
-    one-byte o e =
-        let z : n + 0 ≡ n = add-zero n in
-        subst (Scanned s at a₀ a (i + 1) good) z
-        (one-on o 0 (rw e) (omega arith) (ap (λ (k : ℕ). kept a k (commasFrom (i + 1 - at) (text (drop (i + 1) s)))) z ∙ plain-on (one-go (getD s i 0) o) e) (v .size))
-
-    pub scan-one : {v : ℕ} → v ≡ firstOf (getD s i 0) → v ≡ 0 → Scanned s at a₀ a (i + 1) good n
-    scan-one q e = let w = first-one (getD s i 0) (sym q ∙ e) in one-byte (w .0) (w .1)
-
     comma-one : getD s i 0 ≡ 0x2c → isOne (getD s i 0) ≡ true
     comma-one e = rw e
 
@@ -254,42 +235,21 @@ module _ {s : List ℕ} {at : ℕ} {a₀ a : List ℕ} {i : ℕ} {good : Bool} {
         no-one-comma : (a : ℕ) → isOne a ≡ false → eqb a 0x2c ≡ false
         no-one-comma a o = ne-eqb a 0x2c (λ e. true≢false (sym (rw e) ∙ o))
 
-    pub scan-bad : {v : ℕ} {x z : Bool} → v ≡ firstOf (getD s i 0) → (v ≡ 0 → ⊥) → (getD s i 0 ≡ 0x2c → ⊥) → x ≡ pairAt s i → x ≡ false → z ≡ isStop (getD s i 0) → z ≡ false
-        → Scanned s at a₀ a (i + 1) false n
-    unfolding charAt pairAt
-    scan-bad q k c p e r g =
-        let o : isOne (getD s i 0) ≡ false = first-other (getD s i 0) (λ z. k (q ∙ z)) c in
-        bad-on o (sym r ∙ g) (rw now-at (no-char (getD s i 0) (drop (i + 1) s) o (ap pairOf (sym now-at) ∙ sym p ∙ e)))
+    -- a byte that begins no character, where the run ends
+    pub scan-bad : {z : Bool} → charAt s i ≡ Bad → z ≡ isStop (getD s i 0) → z ≡ false → Scanned s at a₀ a (i + 1) false n
+    unfolding charAt
+    scan-bad e r g = bad-on (no-one (getD s i 0) (drop (i + 1) s) (ap charOf (sym now-at) ∙ e)) (sym r ∙ g) e
       where
-        no-char : (a : ℕ) (l : List ℕ) → isOne a ≡ false → pairOf (a ∷ l) ≡ false → charOf (a ∷ l) ≡ Bad
-        no-char a [] o p = rw o
-        no-char a (b ∷ r) o p = rw (o, p)
+        no-one : (a : ℕ) (l : List ℕ) → charOf (a ∷ l) ≡ Bad → isOne a ≡ false
+        no-one a [] e = one-go₁ (isOne a) e
+          where
+            one-go₁ : (x : Bool) → cond x One Bad ≡ Bad → x ≡ false
+            one-go₁ true e = cc
+            one-go₁ false e = refl
+        no-one a (b ∷ r) e = one-go₂ (isOne a) e
+          where
+            one-go₂ : (x : Bool) → cond x One (cond (isPair a b) Two Bad) ≡ Bad → x ≡ false
+            one-go₂ true e = cc
+            one-go₂ false e = refl
 
-    pub scan-two : {x : Bool} → x ≡ pairAt s i → x ≡ true → Scanned s at a₀ a (i + 2) good n
-    unfolding pairAt
-    scan-two p e =
-        let two : i + 1 + 1 ≡ i + 2 = omega arith in
-        let t : pairOf (getD s i 0 ∷ drop (i + 1) s) ≡ true = ap pairOf (sym now-at) ∙ sym p ∙ e in
-        let r : drop 1 (drop (i + 1) s) ≡ drop (i + 2) s = drop-drop 1 (i + 1) s ∙ ap (λ (k : ℕ). drop k s) two in
-        let w = two-text (getD s i 0) (drop (i + 1) s) t in
-        let u : Leaves (drop i s) (drop (i + 2) s) 2 = rw (now-at, ← r) (w .0) in
-        let f : suc (suc (i - at)) ≡ i + 2 - at = omega (arith, v .few) in
-        let m : commaCount (text (drop i s)) ≡ commaCount (text (drop (i + 2) s)) = rw (now-at, ← r) (w .1) in
-        record {
-          ends = omega (arith, v .ends, u .size);
-          chars = v .chars ∙ ap (λ (b : Bool). good && b) (u .chars);
-          commas = omega (arith, v .commas, m);
-          few = omega (arith, v .few);
-          places = ap (kept a n) (sym (rw (now-at, ← r) (w .2 (i - at)) ∙ ap (λ (k : ℕ). commasFrom k (text (drop (i + 2) s))) f)) ∙ v .places;
-          size = v .size;
-          first = v .first;
-        }
-
-pub first-is : (s : List ℕ) (i : ℕ) {v : ℕ} → i < length s → v ≡ firstOf (getD s i 0) → getD s i 0 < 256 → FirstAt s i v
-first-is s i h q k = record { inside = h; byte = k; is = q }
-
-pub ruleset scan-laws = (first-is, scan-start, scan-one, scan-comma, scan-more, scan-stop, scan-bad, scan-two, scan-end)
-
--- what a caller lends is the table
-pub classes-lent : Classes (classesFrom 0 512)
-classes-lent = record { is = refl }
+pub ruleset scan-laws = (scan-start, scan-comma, scan-more, scan-stop, scan-bad, scan-end)

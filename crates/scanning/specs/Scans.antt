@@ -2,10 +2,12 @@
 use Prim.Native.Nat.{ℕ, _+_, _≤_, _<_}
 use mathlib.Core.Path.{_≡_}
 use mathlib.Core.Bool.{Bool, true}
+use mathlib.Core.Logic.{_⊎_}
 use mathlib.Core.List.{List, [], _∷_}
 use lib.ListN.{length, drop, getD}
 use Rattle.lists.specs.Lists.{part}
-use Rattle.characters.specs.Text.{allChars, text, commaCount, commasFrom}
+use Rattle.characters.specs.declared.Char.the-variants.{Bad}
+use Rattle.characters.specs.Text.{charAt, allChars, text, commaCount, commasFrom}
 use Rattle.characters.specs.Rows.{rows, endMark, WholeLine, BrokenRow}
 use Rattle.scanning.specs.declared.Scan.{Scan}
 use Rattle.scanning.specs.declared.Line.{Line}
@@ -33,6 +35,14 @@ pub record RunOf (s : List ℕ) (a e : ℕ) : Type 0 where
   pub high : e ≤ length s
   pub chars : allChars (part s a e) ≡ true
   pub plain : commaCount (part s a e) ≡ 0
+
+-- such a run ends there: at a comma, at a byte that begins no character, or at the end
+pub record RunEnds (s : List ℕ) (e : ℕ) : Type 0 where
+  pub holds : e < length s → (getD s e 0 ≡ 0x2c) ⊎ (charAt s e ≡ Bad)
+
+-- a run up to i, which is the last byte's place or past it, ends at r
+pub record Finished (s : List ℕ) (i r : ℕ) : Type 0 where
+  pub holds : (a : ℕ) → RunOf s a i → RunOf s a r × RunEnds s r
 
 -- a whole line with its n commas and their places
 pub record ScannedLine (s : List ℕ) (at : ℕ) (stops : List ℕ) (e : ℕ) (good : Bool) (n : ℕ) : Type 0 where

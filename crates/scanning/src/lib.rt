@@ -1,704 +1,221 @@
 // Characters and lines: a Shift_JIS character by row and cell, and the line that begins at a position, in one pass over its bytes.
-// Definitions: characters, specs/Cells.antt, Text.antt, Rows.antt. The scan passes bytes and pairs by a table (specs/Classes.antt), which is
-// proved to agree with the cells; what it does not pass is put to `is_pair`, which decides over row and cell. A new kind of answer about
-// characters (as a script) moves Char and charOf there.
+// Definitions: characters, specs/Cells.antt, Text.antt, Rows.antt. `char_of` reads one character, and `run_end` is the only loop that calls it:
+// lines, items, widths and edges take its answer. A function with one call is compiled into its caller, however long it is, which is
+// why the decision over rows is cut as it is and is called from one place. A new kind of answer about characters (as a script) moves
+// characters::Char and charOf there, and `char_of` and `run_end` here.
+use characters::Char;
 ghost use mathlib.Core.Path.{_≡_};
+ghost use mathlib.Core.Bool.{false, _&&_};
+ghost use mathlib.Core.List.{[], _∷_};
 ghost use Prim.Native.Nat.{_+_, _≤_, _<_};
 ghost use lib.ListN.{length};
-ghost use Rattle.lists.specs.Lists.{within as isWithin};
-ghost use Rattle.characters.specs.Cells.{row2, row3, allowed, leadRow, trailCell, trailRow, isOne, isLead, isTrail, isPair};
-ghost use Rattle.characters.specs.Text.{isStop};
-ghost use Rattle.scanning.specs.Scans.{ScanOf, Sixteen, RunOf};
-ghost use Rattle.scanning.specs.Classes.{Classes, firstOf, trailOf, pairAt, FirstAt};
-ghost use Rattle.scanning.specs.Scans.{LineOf};
+ghost use Rattle.lists.specs.Lists.{within};
+ghost use Rattle.characters.specs.Cells.{row2, row3, allowed, trailCell, trailRow, isOne, isTrail, isPair};
+ghost use Rattle.characters.specs.Text.{charOf, allChars, isStop};
+ghost use Rattle.scanning.specs.Scans.{ScanOf, Sixteen, RunOf, RunEnds, Finished, LineOf};
 
-fn within(lo: u8, hi: u8, x: u8) -> bool
-    ensures { λ r. ⌜ r ≡ isWithin lo hi x ⌝ }
-{
-    (lo <= x) & (x <= hi)
-}
+// ---- the allowed cells of JIS X 0208-1983
 
-fn row2_cell(c: u8) -> bool
-    ensures { λ r. ⌜ r ≡ row2 c ⌝ }
+fn row2_cell(cell: u8) -> bool
+    ensures { λ r. ⌜ r ≡ row2 cell ⌝ }
 {
-    within(1, 14, c)
-        | within(26, 33, c)
-        | within(42, 48, c)
-        | within(60, 74, c)
-        | within(82, 89, c)
-        | (c == 94)
-}
-
-fn row3_cell(c: u8) -> bool
-    ensures { λ r. ⌜ r ≡ row3 c ⌝ }
-{
-    within(16, 25, c) | within(33, 58, c) | within(65, 90, c)
-}
-
-// Whether JIS X 0208-1983 has the cell.
-pub fn allowed_cell(row: u8, cell: u8) -> bool
-    ensures { λ r. ⌜ r ≡ allowed row cell ⌝ }
-{
-    match row {
-        1 | 16..=46 | 48..=83 => within(1, 94, cell),
-        2 => row2_cell(cell),
-        3 => row3_cell(cell),
-        4 => within(1, 83, cell),
-        5 => within(1, 86, cell),
-        6 => within(1, 24, cell) | within(33, 56, cell),
-        7 => within(1, 33, cell) | within(49, 81, cell),
-        8 => within(1, 32, cell),
-        47 => within(1, 51, cell),
-        84 => within(1, 4, cell),
+    match cell {
+        1..=14 | 26..=33 | 42..=48 | 60..=74 | 82..=89 | 94 => true,
         _ => false,
     }
 }
 
-// The row of a pair, but for the trail's part in it.
-fn lead_row(a: u8) -> u8
-    ensures row { λ r. ⌜ r ≡ leadRow a ⌝ }
-    ensures small { λ r. ⌜ r ≤ 93 ⌝ }
+fn row3_cell(cell: u8) -> bool
+    ensures { λ r. ⌜ r ≡ row3 cell ⌝ }
 {
-    match a {
-        0x81..=0x9f => 2 * (a - 0x81) + 1,
-        0xe0..=0xef => 2 * (a - 0xc1) + 1,
-        _ => 0,
+    match cell {
+        16..=25 | 33..=58 | 65..=90 => true,
+        _ => false,
     }
 }
 
-fn trail_cell(b: u8) -> u8
-    ensures { λ r. ⌜ r ≡ trailCell b ⌝ }
+// Rows 1 to 8: signs, letters and kana. Rows 9 to 15 have no cell.
+fn sign_cell(row: u8, cell: u8) -> bool
+    requires { ⌜ row ≤ 15 ⌝ }
+    ensures { λ r. ⌜ r ≡ allowed row cell ⌝ }
 {
-    match b {
-        0x40..=0x7e => b - 0x3f,
-        0x80..=0x9e => b - 0x40,
-        0x9f..=0xfc => b - 0x9e,
-        _ => 0,
+    match row {
+        1 => match cell {
+            1..=94 => true,
+            _ => false,
+        },
+        2 => row2_cell(cell),
+        3 => row3_cell(cell),
+        4 => match cell {
+            1..=83 => true,
+            _ => false,
+        },
+        5 => match cell {
+            1..=86 => true,
+            _ => false,
+        },
+        6 => match cell {
+            1..=24 | 33..=56 => true,
+            _ => false,
+        },
+        7 => match cell {
+            1..=33 | 49..=81 => true,
+            _ => false,
+        },
+        8 => match cell {
+            1..=32 => true,
+            _ => false,
+        },
+        _ => false,
     }
 }
 
-fn trail_row(b: u8) -> u8
-    ensures row { λ r. ⌜ r ≡ trailRow b ⌝ }
-    ensures small { λ r. ⌜ r ≤ 1 ⌝ }
+// Rows 16 to 84: kanji.
+fn kanji_cell(row: u8, cell: u8) -> bool
+    requires { ⌜ 9 ≤ row ⌝ }
+    ensures { λ r. ⌜ r ≡ allowed row cell ⌝ }
 {
-    if within(0x9f, 0xfc, b) { 1 } else { 0 }
+    match row {
+        16..=46 | 48..=83 => match cell {
+            1..=94 => true,
+            _ => false,
+        },
+        47 => match cell {
+            1..=51 => true,
+            _ => false,
+        },
+        84 => match cell {
+            1..=4 => true,
+            _ => false,
+        },
+        _ => false,
+    }
 }
+
+// ---- one character
 
 // A character of one byte.
 pub fn is_one(a: u8) -> bool
     ensures { λ r. ⌜ r ≡ isOne a ⌝ }
 {
-    ((0x20 <= a) & (a <= 0x7e)) | ((0xa1 <= a) & (a <= 0xdf))
+    match a {
+        0x20..=0x7e | 0xa1..=0xdf => true,
+        _ => false,
+    }
 }
 
-fn is_lead(a: u8) -> bool
-    ensures { λ r. ⌜ r ≡ isLead a ⌝ }
+// A lead's first row and a trail. The match on the trail stands twice, for signs and for kanji, so that each is compiled with its own rows.
+fn sign_pair(row: u8, b: u8) -> bool
+    requires { ⌜ row ≤ 8 ⌝ }
+    ensures { λ r. ⌜ r ≡ (isTrail b && allowed (row + trailRow b) (trailCell b)) ⌝ }
 {
-    ((0x81 <= a) & (a <= 0x9f)) | ((0xe0 <= a) & (a <= 0xef))
+    match b {
+        0x9f..=0xfc => sign_cell(row + 1, b - 0x9e),
+        _ => match b {
+            0x40..=0x7e => sign_cell(row, b - 0x3f),
+            0x80..=0x9e => sign_cell(row, b - 0x40),
+            _ => false,
+        },
+    }
 }
 
+fn kanji_trail(row: u8, b: u8) -> bool
+    requires { ⌜ 9 ≤ row ⌝ }
+    requires { ⌜ row ≤ 93 ⌝ }
+    ensures { λ r. ⌜ r ≡ (isTrail b && allowed (row + trailRow b) (trailCell b)) ⌝ }
+{
+    match b {
+        0x9f..=0xfc => kanji_cell(row + 1, b - 0x9e),
+        _ => match b {
+            0x40..=0x7e => kanji_cell(row, b - 0x3f),
+            0x80..=0x9e => kanji_cell(row, b - 0x40),
+            _ => false,
+        },
+    }
+}
+
+// Whether a byte can be a trail: whether it has a cell.
 fn is_trail(b: u8) -> bool
     ensures { λ r. ⌜ r ≡ isTrail b ⌝ }
 {
-    ((0x40 <= b) & (b <= 0x7e)) | ((0x80 <= b) & (b <= 0xfc))
+    ((0x40 <= b) & (b <= 0xfc)) & !(b == 0x7f)
 }
 
-fn is_stop(a: u8) -> bool
-    ensures { λ r. ⌜ r ≡ isStop a ⌝ }
+// Rows 17 to 46 have all 94 cells, so that a lead with two of them makes a character with any trail.
+fn kanji_pair(row: u8, b: u8) -> bool
+    requires { ⌜ 9 ≤ row ⌝ }
+    requires { ⌜ row ≤ 93 ⌝ }
+    ensures { λ r. ⌜ r ≡ (isTrail b && allowed (row + trailRow b) (trailCell b)) ⌝ }
 {
-    (a == 0x0d) | (a == 0x0a) | (a == 0x1a)
-}
-
-// Whether a lead and a trail are a character of two bytes.
-pub fn is_pair(a: u8, b: u8) -> bool
-    ensures { λ r. ⌜ r ≡ isPair a b ⌝ }
-{
-    is_lead(a) & is_trail(b) & allowed_cell(lead_row(a) + trail_row(b), trail_cell(b))
-}
-
-// What each byte may begin, then what each may end. Lent to the scan, since a constant array is made anew wherever it is named.
-pub const CLASSES: [u16; 512] = [
-    256,
-    256,
-    256,
-    256,
-    256,
-    256,
-    256,
-    256,
-    256,
-    256,
-    256,
-    256,
-    256,
-    256,
-    256,
-    256,
-    256,
-    256,
-    256,
-    256,
-    256,
-    256,
-    256,
-    256,
-    256,
-    256,
-    256,
-    256,
-    256,
-    256,
-    256,
-    256,
-    0,
-    0,
-    0,
-    0,
-    0,
-    0,
-    0,
-    0,
-    0,
-    0,
-    0,
-    0,
-    256,
-    0,
-    0,
-    0,
-    0,
-    0,
-    0,
-    0,
-    0,
-    0,
-    0,
-    0,
-    0,
-    0,
-    0,
-    0,
-    0,
-    0,
-    0,
-    0,
-    0,
-    0,
-    0,
-    0,
-    0,
-    0,
-    0,
-    0,
-    0,
-    0,
-    0,
-    0,
-    0,
-    0,
-    0,
-    0,
-    0,
-    0,
-    0,
-    0,
-    0,
-    0,
-    0,
-    0,
-    0,
-    0,
-    0,
-    0,
-    0,
-    0,
-    0,
-    0,
-    0,
-    0,
-    0,
-    0,
-    0,
-    0,
-    0,
-    0,
-    0,
-    0,
-    0,
-    0,
-    0,
-    0,
-    0,
-    0,
-    0,
-    0,
-    0,
-    0,
-    0,
-    0,
-    0,
-    0,
-    0,
-    0,
-    0,
-    0,
-    0,
-    0,
-    0,
-    256,
-    256,
-    2,
-    4,
-    8,
-    16,
-    256,
-    256,
-    256,
-    32,
-    1,
-    1,
-    1,
-    1,
-    1,
-    1,
-    1,
-    1,
-    1,
-    1,
-    1,
-    1,
-    1,
-    1,
-    1,
-    64,
-    1,
-    1,
-    1,
-    1,
-    1,
-    1,
-    1,
-    256,
-    0,
-    0,
-    0,
-    0,
-    0,
-    0,
-    0,
-    0,
-    0,
-    0,
-    0,
-    0,
-    0,
-    0,
-    0,
-    0,
-    0,
-    0,
-    0,
-    0,
-    0,
-    0,
-    0,
-    0,
-    0,
-    0,
-    0,
-    0,
-    0,
-    0,
-    0,
-    0,
-    0,
-    0,
-    0,
-    0,
-    0,
-    0,
-    0,
-    0,
-    0,
-    0,
-    0,
-    0,
-    0,
-    0,
-    0,
-    0,
-    0,
-    0,
-    0,
-    0,
-    0,
-    0,
-    0,
-    0,
-    0,
-    0,
-    0,
-    0,
-    0,
-    0,
-    0,
-    1,
-    1,
-    1,
-    1,
-    1,
-    1,
-    1,
-    1,
-    1,
-    1,
-    128,
-    256,
-    256,
-    256,
-    256,
-    256,
-    256,
-    256,
-    256,
-    256,
-    256,
-    256,
-    256,
-    256,
-    256,
-    256,
-    256,
-    256,
-    256,
-    256,
-    256,
-    256,
-    0,
-    0,
-    0,
-    0,
-    0,
-    0,
-    0,
-    0,
-    0,
-    0,
-    0,
-    0,
-    0,
-    0,
-    0,
-    0,
-    0,
-    0,
-    0,
-    0,
-    0,
-    0,
-    0,
-    0,
-    0,
-    0,
-    0,
-    0,
-    0,
-    0,
-    0,
-    0,
-    0,
-    0,
-    0,
-    0,
-    0,
-    0,
-    0,
-    0,
-    0,
-    0,
-    0,
-    0,
-    0,
-    0,
-    0,
-    0,
-    0,
-    0,
-    0,
-    0,
-    0,
-    0,
-    0,
-    0,
-    0,
-    0,
-    0,
-    0,
-    0,
-    0,
-    0,
-    0,
-    219,
-    219,
-    219,
-    219,
-    219,
-    219,
-    219,
-    219,
-    219,
-    219,
-    219,
-    219,
-    219,
-    219,
-    219,
-    223,
-    223,
-    223,
-    223,
-    223,
-    223,
-    223,
-    223,
-    223,
-    223,
-    219,
-    219,
-    219,
-    219,
-    219,
-    219,
-    219,
-    223,
-    207,
-    207,
-    207,
-    207,
-    207,
-    207,
-    207,
-    207,
-    207,
-    207,
-    207,
-    207,
-    207,
-    207,
-    207,
-    223,
-    223,
-    223,
-    159,
-    159,
-    159,
-    159,
-    159,
-    159,
-    159,
-    155,
-    155,
-    155,
-    155,
-    155,
-    0,
-    155,
-    159,
-    159,
-    159,
-    159,
-    159,
-    159,
-    159,
-    159,
-    159,
-    159,
-    159,
-    159,
-    159,
-    159,
-    159,
-    159,
-    159,
-    143,
-    143,
-    143,
-    143,
-    143,
-    135,
-    135,
-    135,
-    135,
-    131,
-    131,
-    131,
-    131,
-    255,
-    255,
-    255,
-    255,
-    127,
-    127,
-    127,
-    127,
-    127,
-    127,
-    127,
-    127,
-    127,
-    127,
-    125,
-    125,
-    125,
-    125,
-    125,
-    125,
-    125,
-    125,
-    125,
-    125,
-    117,
-    119,
-    119,
-    119,
-    119,
-    119,
-    119,
-    119,
-    111,
-    109,
-    109,
-    109,
-    109,
-    109,
-    109,
-    109,
-    109,
-    111,
-    111,
-    111,
-    111,
-    111,
-    111,
-    111,
-    109,
-    109,
-    109,
-    109,
-    109,
-    109,
-    109,
-    109,
-    101,
-    101,
-    101,
-    103,
-    103,
-    103,
-    103,
-    103,
-    103,
-    103,
-    103,
-    103,
-    103,
-    103,
-    103,
-    103,
-    103,
-    103,
-    101,
-    101,
-    101,
-    101,
-    101,
-    101,
-    101,
-    103,
-    103,
-    99,
-    99,
-    99,
-    99,
-    99,
-    99,
-    97,
-    97,
-    97,
-    97,
-    99,
-    0,
-    0,
-    0,
-];
-
-fn wide(b: u8) -> usize
-    ensures { λ r. ⌜ r ≡ b ⌝ }
-    ensures { λ r. ⌜ r < 256 ⌝ }
-{
-    b as usize
-}
-
-fn first_of(classes: &[u16; 512], a: u8) -> u16
-    requires { ⌜ Classes (now classes) ⌝ }
-    ensures { λ r. ⌜ r ≡ firstOf a ⌝ }
-    ensures { λ _. ⌜ a < 256 ⌝ }
-{
-    let i = wide(a);
-    classes[i]
-}
-
-fn trail_of(classes: &[u16; 512], b: u8) -> u16
-    requires { ⌜ Classes (now classes) ⌝ }
-    ensures { λ r. ⌜ r ≡ trailOf b ⌝ }
-    ensures { λ _. ⌜ b < 256 ⌝ }
-{
-    let i = 256 + wide(b);
-    classes[i]
-}
-
-// Whether the two bytes at a position share a bit, and so are a character; v: what the first may begin.
-fn share_bit(classes: &[u16; 512], s: &[u8], i: usize, v: u16) -> bool
-    requires { ⌜ Classes (now classes) ⌝ }
-    requires { ⌜ FirstAt (now s) i v ⌝ }
-    requires { ⌜ i + 1 < length (now s) ⌝ }
-    ensures { λ r. ⌜ r ≡ pairAt (now (s .entry)) i ⌝ }
-{
-    let next = i + 1;
-    let trail = trail_of(classes, s[next]);
-    v & trail != 0
-}
-
-// The same where there may be one byte only.
-fn shares_bit(classes: &[u16; 512], s: &[u8], i: usize, v: u16) -> bool
-    requires { ⌜ Classes (now classes) ⌝ }
-    requires { ⌜ FirstAt (now s) i v ⌝ }
-    ensures { λ r. ⌜ r ≡ pairAt (now (s .entry)) i ⌝ }
-{
-    let next = i + 1;
-    if s.len() <= next {
-        return false;
+    match row {
+        17..=45 => is_trail(b),
+        _ => kanji_trail(row, b),
     }
-    share_bit(classes, s, i, v)
 }
 
-// The same by row and cell.
-fn pair_at(s: &[u8], i: usize) -> bool
-    requires { ⌜ i < length (now s) ⌝ }
-    ensures { λ r. ⌜ r ≡ pairAt (now (s .entry)) i ⌝ }
+fn in_rows(row: u8, b: u8) -> bool
+    requires { ⌜ row ≤ 93 ⌝ }
+    ensures { λ r. ⌜ r ≡ (isTrail b && allowed (row + trailRow b) (trailCell b)) ⌝ }
 {
-    let next = i + 1;
-    if s.len() <= next {
-        return false;
+    match row {
+        0..=8 => sign_pair(row, b),
+        _ => kanji_pair(row, b),
     }
-    is_pair(s[i], s[next])
 }
 
-// How far a run of characters that are no comma goes from a position on. It may end early, at the last byte of all.
-pub fn run_end(classes: &[u16; 512], s: &[u8], from: usize) -> usize
-    requires { ⌜ Classes (now classes) ⌝ }
+// Any first byte but the leads of rows 1 to 62.
+fn other_char(a: u8, b: u8) -> Char
+    requires { ⌜ within 0x81 0x9f a ≡ false ⌝ }
+    ensures { λ r. ⌜ r ≡ charOf (a ∷ b ∷ []) ⌝ }
+{
+    match a {
+        0x20..=0x7e | 0xa1..=0xdf => Char::One,
+        0xe0..=0xef => if kanji_pair(2 * (a - 0xc1) + 1, b) {
+            Char::Two
+        } else {
+            Char::Bad
+        },
+        _ => Char::Bad,
+    }
+}
+
+// The character that a byte begins, b the byte after it.
+fn char_of(a: u8, b: u8) -> Char
+    ensures { λ r. ⌜ r ≡ charOf (a ∷ b ∷ []) ⌝ }
+{
+    match a {
+        0x81..=0x9f => if in_rows(2 * (a - 0x81) + 1, b) {
+            Char::Two
+        } else {
+            Char::Bad
+        },
+        _ => other_char(a, b),
+    }
+}
+
+// ---- characters one after another
+
+// Where a run ends that has come to the last byte, or past it.
+fn last_end(s: &[u8], i: usize) -> usize
+    requires { ⌜ length (now s) ≤ i + 1 ⌝ }
+    ensures { λ r. ⌜ Finished (now (s .entry)) i r ⌝ }
+{
+    if s.len() <= i {
+        return i;
+    }
+    let z = s[i];
+    if z == 0x2c {
+        return i;
+    }
+    if is_one(z) { i + 1 } else { i }
+}
+
+// How far characters other than commas go from a position on: to a comma, to a byte that begins none, or to the end. Whether the last byte is
+// reached is asked twice: so the steps of one byte and of two are compiled apart, and a pair is passed in fewer instructions.
+pub fn run_end(s: &[u8], from: usize) -> usize
     requires { ⌜ from ≤ length (now s) ⌝ }
-    ensures { λ r. ⌜ RunOf (now (s .entry)) from r ⌝ }
+    ensures run { λ r. ⌜ RunOf (now (s .entry)) from r ⌝ }
+    ensures ends { λ r. ⌜ RunEnds (now (s .entry)) r ⌝ }
 {
     let len = s.len();
     if len == 0 {
@@ -707,16 +224,57 @@ pub fn run_end(classes: &[u16; 512], s: &[u8], from: usize) -> usize
     let last = len - 1;
     let mut i = from;
     while i < last {
-        let v = first_of(classes, s[i]);
-        if v == 0 {
-            i += 1;
-        } else if share_bit(classes, s, i, v) {
-            i += 2;
-        } else {
-            return i;
+        let a = s[i];
+        let next = i + 1;
+        match char_of(a, s[next]) {
+            Char::Two => i += 2,
+            Char::One => {
+                if a == 0x2c {
+                    return i;
+                }
+                i += 1;
+                if last <= i {
+                    return last_end(s, i);
+                }
+            }
+            Char::Bad => return i,
         }
     }
-    i
+    last_end(s, i)
+}
+
+// Whether all of it is characters.
+pub fn all_chars(s: &[u8]) -> bool
+    ensures { λ r. ⌜ r ≡ allChars (now (s .entry)) ⌝ }
+{
+    let mut i = 0;
+    while i < s.len() {
+        let e = run_end(s, i);
+        if s.len() <= e {
+            return true;
+        }
+        if s[e] != 0x2c {
+            return false;
+        }
+        i = e + 1;
+    }
+    true
+}
+
+// Whether a lead and a trail are a character of two bytes.
+pub fn is_pair(a: u8, b: u8) -> bool
+    ensures { λ r. ⌜ r ≡ isPair a b ⌝ }
+{
+    let two = [a, b];
+    !is_one(a) & all_chars(&two)
+}
+
+// ---- lines
+
+fn is_stop(a: u8) -> bool
+    ensures { λ r. ⌜ r ≡ isStop a ⌝ }
+{
+    (a == 0x0d) | (a == 0x0a) | (a == 0x1a)
 }
 
 pub struct Scan {
@@ -726,10 +284,9 @@ pub struct Scan {
 }
 
 // Where the first 0Dh, 0Ah or 1Ah from a position stands, or the end; whether all before it is characters; and how many of them are
-// commas, the first sixteen with their places from the position on. None of the three is a character or a trail, so a step over a
-// character never passes one, behind a bad byte too.
-pub fn scan_text(classes: &[u16; 512], stops: &mut [usize; 16], s: &[u8], at: usize) -> Scan
-    requires { ⌜ Classes (now classes) ⌝ }
+// commas, the first sixteen with their places from the position on. None of the three is a character or a trail, so a run never
+// passes one, behind a bad byte too.
+pub fn scan_text(stops: &mut [usize; 16], s: &[u8], at: usize) -> Scan
     requires { ⌜ Sixteen (now stops) ⌝ }
     ensures { λ r. ⌜ ScanOf (now (s .entry)) at (now (stops .exit)) r ⌝ }
 {
@@ -737,40 +294,32 @@ pub fn scan_text(classes: &[u16; 512], stops: &mut [usize; 16], s: &[u8], at: us
     let mut good = true;
     let mut commas = 0;
     while i < s.len() {
-        let b = s[i];
-        let v = first_of(classes, b);
-        if v == 0 {
-            i += 1;
+        let e = run_end(s, i);
+        if s.len() <= e {
+            i = e;
             continue;
         }
+        let b = s[e];
         if b == 0x2c {
             if commas < 16 {
-                stops[commas] = i - at;
+                stops[commas] = e - at;
                 commas += 1;
-                i += 1;
+                i = e + 1;
             } else {
                 commas += 1;
-                i += 1;
+                i = e + 1;
             }
-            continue;
-        }
-        if shares_bit(classes, s, i, v) {
-            i += 2;
             continue;
         }
         if is_stop(b) {
             return Scan {
-                end: i,
+                end: e,
                 good,
                 commas,
             };
         }
-        if pair_at(s, i) {
-            i += 2;
-        } else {
-            good = false;
-            i += 1;
-        }
+        good = false;
+        i = e + 1;
     }
     Scan {
         end: i,
@@ -792,15 +341,14 @@ pub enum Line {
 }
 
 // The line that begins at a position; stops: the places of its commas, from its beginning.
-pub fn line_at(classes: &[u16; 512], stops: &mut [usize; 16], s: &[u8], at: usize) -> Line
-    requires { ⌜ Classes (now classes) ⌝ }
+pub fn line_at(stops: &mut [usize; 16], s: &[u8], at: usize) -> Line
     requires { ⌜ Sixteen (now stops) ⌝ }
     ensures { λ r. ⌜ LineOf (now (s .entry)) at (now (stops .exit)) r ⌝ }
 {
     if s.len() <= at {
         return Line::End;
     }
-    let r = scan_text(classes, stops, s, at);
+    let r = scan_text(stops, s, at);
     let end = r.end;
     let good = r.good;
     let commas = r.commas;

@@ -2,8 +2,6 @@ use borrow.Author.Needs.{needs}
 use Prim.Native.Nat.{_-_}
 use lib.ListN.{length}
 use Rattle.characters.specs.Cells.{isPair, allowed, fullRow, partRow}
-use Rattle.scanning.specs.Classes.{classOf, firstOf, leadOf, trailOf}
-use Rattle.scanning.proofs.TextLaws.{classes-lent}
 use Rattle.checking.proofs.ReadLaws.{line-1-behind}
 use Rattle.checking.proofs.LineFacts.{line-size}
 use Rattle.checking.proofs.CheckLaws.{zeros-size}
@@ -24,8 +22,7 @@ item-codes-requires : tie.Need-item-codes-requires
 item-codes-requires c κs = search needs
 
 line-at-requires : tie.Need-line-at-requires
-unfolding classOf firstOf leadOf trailOf isPair allowed fullRow partRow
-line-at-requires c κs = search (needs, into-laws, classes-lent)
+line-at-requires c κs = search (needs, into-laws)
 
 enum-told : tie.Need-enum-told
 enum-told c = search needs
@@ -58,8 +55,7 @@ add-from : tie.Need-add-from
 add-from c = search (needs, into-laws)
 
 write-records-requires : tie.Need-write-records-requires
-unfolding classOf firstOf leadOf trailOf isPair allowed fullRow partRow
-write-records-requires c κs = (search (needs, classes-lent), (search needs, (search (needs, line-size), (search (needs, line-1-behind), search (needs, into-room)))))
+write-records-requires c κs = ((search needs, (search (needs, line-size), (search (needs, line-1-behind), search (needs, into-room)))))
 
 returns-3 : tie.Need-returns-3
 returns-3 c = search (needs, into-laws)

@@ -12,10 +12,10 @@ use Rattle.checking.proofs.read_record.Reads as read-record-reads
 use Rattle.order.proofs.State.new.Reads as new-reads
 
 abbrev Inv-loop : tie.InvT-loop
-Inv-loop classes codes stops₀ provider s from st₀ at₀ stops st at = Reading provider s from st at × Sixteen stops
+Inv-loop codes stops₀ provider s from st₀ at₀ stops st at = Reading provider s from st at × Sixteen stops
 
 abbrev μ-loop : tie.MeasureT-loop
-μ-loop classes codes stops₀ provider s from st₀ at₀ stops st at = length s - at
+μ-loop codes stops₀ provider s from st₀ at₀ stops st at = length s - at
 
 new-requires : tie.Need-new-requires Inv-loop μ-loop
 new-requires c κs = search (needs, reading-laws)
@@ -38,8 +38,8 @@ returns c = search (needs, reading-laws)
 enum-known-n : tie.Need-enum-known-n Inv-loop μ-loop
 enum-known-n c = search (needs, reading-laws)
 
-add-t14 : tie.Need-add-t14 Inv-loop μ-loop
-add-t14 c = search (needs, reading-laws)
+add-t13 : tie.Need-add-t13 Inv-loop μ-loop
+add-t13 c = search (needs, reading-laws)
 
 returns-2 : tie.Need-returns-2 Inv-loop μ-loop
 returns-2 c = search (needs, reading-laws)
@@ -69,7 +69,7 @@ check-records-spec =
     close-requires
     returns
     enum-known-n
-    add-t14
+    add-t13
     returns-2
     enum-known-next
     add-at

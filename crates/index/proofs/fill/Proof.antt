@@ -5,8 +5,6 @@ use Rattle.checking.proofs.ReadLaws.{line-1-behind}
 use Rattle.checking.proofs.CheckLaws.{check-laws}
 use Rattle.checking.proofs.LineFacts.{line-size}
 use Rattle.characters.specs.Cells.{isPair, allowed, fullRow, partRow}
-use Rattle.scanning.specs.Classes.{classOf, firstOf, leadOf, trailOf}
-use Rattle.scanning.proofs.TextLaws.{classes-lent}
 use Rattle.index.proofs.FileLaws.{fill-laws, fill-room}
 use Rattle.index.proofs.fill.Statement.{statement}
 use Rattle.index.proofs.fill.Tie as tie
@@ -21,8 +19,7 @@ item-codes-requires : tie.Need-item-codes-requires
 item-codes-requires c κs = search needs
 
 line-at-requires : tie.Need-line-at-requires
-unfolding classOf firstOf leadOf trailOf isPair allowed fullRow partRow
-line-at-requires c κs = search (needs, check-laws, fill-laws, classes-lent)
+line-at-requires c κs = search (needs, check-laws, fill-laws)
 
 enum-told : tie.Need-enum-told
 enum-told c = search needs
@@ -43,32 +40,31 @@ part-direction-start : tie.Need-part-direction-start
 part-direction-start c = search needs
 
 part-direction-end : tie.Need-part-direction-end
-part-direction-end c = search (needs, check-laws, fill-laws, classes-lent)
+part-direction-end c = search (needs, check-laws, fill-laws)
 
 direction-requires : tie.Need-direction-requires
 direction-requires c κs = search needs
 
 add-from : tie.Need-add-from
-add-from c = search (needs, check-laws, fill-laws, classes-lent)
+add-from c = search (needs, check-laws, fill-laws)
 
 fill-records-requires : tie.Need-fill-records-requires
-unfolding classOf firstOf leadOf trailOf isPair allowed fullRow partRow
-fill-records-requires c κs = (search (needs, classes-lent), (search needs, (search (needs, line-size), (search (needs, line-1-behind), search (needs, fill-room)))))
+fill-records-requires c κs = ((search needs, (search (needs, line-size), (search (needs, line-1-behind), search (needs, fill-room)))))
 
 returns : tie.Need-returns
-returns c = search (needs, check-laws, fill-laws, classes-lent)
+returns c = search (needs, check-laws, fill-laws)
 
 returns-2 : tie.Need-returns-2
-returns-2 c = search (needs, check-laws, fill-laws, classes-lent)
+returns-2 c = search (needs, check-laws, fill-laws)
 
 returns-3 : tie.Need-returns-3
-returns-3 c = search (needs, check-laws, fill-laws, classes-lent)
+returns-3 c = search (needs, check-laws, fill-laws)
 
 same-length : tie.Need-same-length
 same-length c = search needs
 
 returns-4 : tie.Need-returns-4
-returns-4 c = search (needs, check-laws, fill-laws, classes-lent)
+returns-4 c = search (needs, check-laws, fill-laws)
 
 pub fill-spec : {M : Type 1} → statement M
 fill-spec =

@@ -6,11 +6,11 @@ use Rattle.items.proofs.other_item.Statement.{statement}
 use Rattle.items.proofs.other_item.Tie as tie
 use Rattle.items.proofs.other_item.Reads as reads
 use Rattle.items.proofs.other_item.Lts as lts
-use Rattle.scanning.proofs.run_end.Reads as run-end-reads
+use Rattle.items.proofs.code_end.Reads as code-end-reads
 use Rattle.items.proofs.item_fault.Reads as item-fault-reads
 
-run-end-requires : tie.Need-run-end-requires
-run-end-requires c κs = search needs
+code-end-requires : tie.Need-code-end-requires
+code-end-requires c κs = search needs
 
 sub-item-fault : tie.Need-sub-item-fault
 sub-item-fault c = search needs
@@ -34,7 +34,7 @@ pub other-item-spec : {M : Type 1} → statement M
 other-item-spec =
     tie.close
     (tie.spec
-    run-end-requires
+    code-end-requires
     sub-item-fault
     part-item-fault-start
     part-item-fault-end

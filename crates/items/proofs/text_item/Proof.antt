@@ -45,7 +45,7 @@ returns-3 : tie.Need-returns-3
 returns-3 c =
     let short = c .before .before .before .before .before in
     let some = short .before in
-    end-inner _ _ _ _ (some .before .run-end .ensures) (some .if1 .left) (short .if2 .left) (some .before .before .before .pre .1 .1)
+    end-inner _ _ _ _ (some .before .run-end .ensures .0) (some .if1 .left) (short .if2 .left) (some .before .before .before .pre .1)
     (c .before .before .inner .ensures) (c .before .inner2 .ensures) (c .if3 .taken)
 
 sub-edge : tie.Need-sub-edge
@@ -67,7 +67,7 @@ returns-5 : tie.Need-returns-5
 returns-5 c =
     let short = c .before .before .before .before .before .before .before .before in
     let some = short .before in
-    end-text _ _ _ _ (some .before .run-end .ensures) (some .if1 .left) (short .if2 .left) (some .before .before .before .pre .1 .1) (c .before .edge .ensures)
+    end-text _ _ _ _ (some .before .run-end .ensures .0) (some .if1 .left) (short .if2 .left) (some .before .before .before .pre .1) (c .before .edge .ensures)
     (c .if4 .left)
 
 pub text-item-spec : {M : Type 1} → statement M

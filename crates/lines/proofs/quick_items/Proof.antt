@@ -10,10 +10,10 @@ use Rattle.items.proofs.item_end.Reads as item-end-reads
 use Rattle.lines.proofs.ends_line.Reads as ends-line-reads
 
 abbrev Inv-loop : tie.InvT-loop
-Inv-loop classes codes place provider stops₀ s at from k₀ end j₀ e₀ stops k j e = Passing codes provider place s at from stops₀ stops end k j e
+Inv-loop codes place provider stops₀ s at from k₀ end j₀ e₀ stops k j e = Passing codes provider place s at from stops₀ stops end k j e
 
 abbrev μ-loop : tie.MeasureT-loop
-μ-loop classes codes place provider stops₀ s at from k₀ end j₀ e₀ stops k j e = end - k
+μ-loop codes place provider stops₀ s at from k₀ end j₀ e₀ stops k j e = end - k
 
 add-end : tie.Need-add-end Inv-loop μ-loop
 add-end c = search (needs, passing-laws)

@@ -29,7 +29,7 @@ returns-3 : tie.Need-returns-3
 returns-3 c = search (needs, quick-laws)
 
 quick-items-requires : tie.Need-quick-items-requires
-quick-items-requires c κs = (search needs, (search needs, (search needs, (search needs, search (needs, number-run)))))
+quick-items-requires c κs = (search needs, (search needs, (search needs, search (needs, number-run))))
 
 returns-4 : tie.Need-returns-4
 returns-4 c = search (needs, quick-laws)
