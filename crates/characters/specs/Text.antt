@@ -1,6 +1,6 @@
 -- Characters of a list of bytes, and the text up to a line's end. Document 01, "Lines and characters"; refusals 2 and 4; 15-106 3.2.4, 3.2.5.
 use Prim.Native.Nat.{ℕ, suc, _+_}
-use mathlib.Core.Bool.{Bool, true, false, cond, not, _&&_, _||_}
+use mathlib.Core.Bool.{Bool, true, cond, not, _&&_, _||_}
 use mathlib.Core.List.{List, [], _∷_}
 use lib.Dec.{eqb}
 use lib.ListN.{drop}

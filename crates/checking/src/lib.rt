@@ -2,7 +2,7 @@
 // the next one is looked at, so the first faulty line is the one that answers.
 // Definitions: notebook, specs/Notebook.antt (what a file is read to) and specs/Check.antt; the walk in specs/Walking.antt, specs/Turns.antt.
 ghost use mathlib.Core.Path.{_≡_};
-ghost use lib.ListN.{length, drop};
+ghost use lib.ListN.{drop};
 ghost use Rattle.characters.specs.Rows.{rows};
 ghost use Rattle.scanning.specs.Scans.{Stops, Sixteen};
 ghost use Rattle.order.specs.State.{start, Room};

@@ -1,20 +1,20 @@
 -- The kinds of text: loops over pairs of bytes, and the last character. Assumes nothing.
-use Prim.Native.Nat.{ℕ, zero, suc, _+_, _-_, _≤_, _<_}
+use Prim.Native.Nat.{ℕ, _+_, _-_, _≤_, _<_}
 use mathlib.Core.Path.{_≡_, refl, sym, ap, ap₂, _∙_}
-use mathlib.Core.Bool.{Bool, true, false, cond, not, _&&_, _||_, false≢true, true≢false, and-false, or-true}
-use mathlib.Core.List.{List, [], _∷_}
+use mathlib.Core.Bool.{Bool, true, false, not, _&&_, true≢false, and-false, or-true}
+use mathlib.Core.List.{List}
 use native.Mathlib.Omega.{arith}
-use borrow.Author.Tests.{eqb-true, eq-eqb, ne-eqb, leb-true}
+use borrow.Author.Tests.{ne-eqb, leb-true}
 use lib.Dec.{leb, eqb}
 use lib.ListN.{length, getD, take, drop}
 use Rattle.lists.specs.Lists.{part}
-use Rattle.lists.proofs.Tests.{both, not-true′, not-false′}
+use Rattle.lists.proofs.Tests.{both, not-true′}
 use Rattle.lists.proofs.Loops.{AllLeft, all-go}
 use Rattle.digits.specs.Digits.{isDigit}
-use Rattle.lists.proofs.Cuts.{drop-step, drop-end, two-on, last-on}
+use Rattle.lists.proofs.Cuts.{drop-end, two-on, last-on}
 use Rattle.characters.specs.Cells.{isPair}
 use Rattle.characters.specs.Text.{allChars}
-use Rattle.records.specs.Items.{allPairs, isCode, endsWide, edge, sized}
+use Rattle.records.specs.Items.{allPairs, isCode, endsWide, edge}
 
 -- ---- all two-byte characters
 

@@ -1,12 +1,12 @@
 -- The facts and pairs of a record are those of its items' bytes: the table's first items by one computed test each, the two rows that
 -- have more by their places. Assumes nothing.
-use Prim.Native.Nat.{ℕ, zero, suc, _+_, _%_, _≤_, _<_}
+use Prim.Native.Nat.{ℕ, zero, suc, _%_, _<_}
 use mathlib.Core.Path.{_≡_, refl, sym, ap, ap₂, _∙_}
-use mathlib.Core.Bool.{Bool, true, false, cond, not, _&&_, _||_, false≢true, Bool·beq}
+use mathlib.Core.Bool.{Bool, true, false, cond, not, _&&_, false≢true, Bool·beq}
 use mathlib.Core.Option.{Option, none, some}
 use mathlib.Core.List.{List, [], _∷_}
 use native.Mathlib.Omega.{arith}
-use borrow.Author.Tests.{eqb-true, eqb-false, eq-eqb, ne-eqb}
+use borrow.Author.Tests.{eqb-true, eqb-false, ne-eqb}
 use lib.Dec.{leb, eqb}
 use lib.ListN.{length, getD}
 use Rattle.lists.specs.Lists.{empty, member}
@@ -16,13 +16,13 @@ use Rattle.calendar.specs.declared.DateRead.{DateRead}
 use Rattle.calendar.specs.declared.DateRead.the-variants.{Date, NotADate}
 use Rattle.calendar.specs.Era.{readDay}
 use Rattle.order.specs.declared.Facts.{Facts}
-use Rattle.records.specs.Table.{Kind, N, U, X, A, F, C, P, R, W, Q, D, among, Item, Row, table, fromProvider, optional, always}
+use Rattle.records.specs.Table.{Kind, N, U, X, A, F, C, P, R, W, Q, D, among, Item, Row, table, fromProvider, optional}
 use Rattle.records.specs.Items.{Value, text, num, day, value, numberValue, dayValue}
 use Rattle.records.specs.Records.{Record, itemValue, itemsValue, nth, isEmpty, codePair, formPair, pairs}
-use Rattle.items.specs.Codes.{kindOf, itemOf}
+use Rattle.items.specs.Codes.{kindOf}
 use Rattle.notebook.specs.Facts.{numOf, dayOf, spelled, factsOf}
 use Rattle.codes.specs.Codes.{codes, sliceOf, placeOf, placeIn}
-use Rattle.lines.specs.Codes.{quantity, codeRaw, formRaw, pairsRaw, orZero, rpRaw, dayRaw, rpRecords, factsRaw}
+use Rattle.lines.specs.Codes.{codeRaw, formRaw, pairsRaw, orZero, rpRaw, dayRaw, rpRecords, factsRaw}
 use Rattle.codes.proofs.TableLaws.{rowBy, allRows, listed-row}
 
 -- ---- values by their place

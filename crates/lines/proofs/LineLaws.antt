@@ -1,19 +1,18 @@
 -- A record line by the code's numbers is the definition's: one law for each way through `read_line`. Assumes nothing.
-use Prim.Native.Nat.{ℕ, zero, suc, _+_, _-_, _%_, _≤_, _<_}
+use Prim.Native.Nat.{ℕ, _+_, _-_, _%_, _≤_}
 use mathlib.Core.Path.{_≡_, refl, sym, ap, _∙_, subst}
-use mathlib.Core.Bool.{Bool, true, false, cond, not, _&&_, _||_, false≢true}
+use mathlib.Core.Bool.{Bool, true, false, not, _||_, false≢true}
 use mathlib.Core.List.{List, [], _∷_}
 use native.Mathlib.Omega.{arith}
 use borrow.Author.Tests.{le-leb, lt-leb, eq-eqb, ne-eqb}
 use lib.Dec.{leb, eqb}
 use lib.ListN.{length, take, drop, getD}
-use Rattle.lists.specs.Lists.{same, part, findFrom, unless, _orElse_}
+use Rattle.lists.specs.Lists.{same, findFrom, unless, _orElse_}
 use Rattle.lists.proofs.Tests.{or-stops, not-false′}
 use Rattle.lists.proofs.Loops.{find-high}
 use Rattle.digits.specs.Digits.{spell}
 use Rattle.digits.specs.Short.{plainNumber}
 use Rattle.digits.proofs.Spelling.{same-spell}
-use Rattle.characters.specs.Text.{commaCount}
 use Rattle.scanning.specs.Scans.{Stops, Sixteen}
 use Rattle.order.specs.declared.Facts.{Facts}
 use Rattle.records.specs.Split.{itemsOf, itemsFrom}

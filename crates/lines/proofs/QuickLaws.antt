@@ -1,36 +1,35 @@
 -- A line read item by item: its items grow by one behind each comma, and none has a fault. One law for each way through the code.
 -- Assumes nothing.
-use Prim.Native.Nat.{ℕ, zero, suc, _+_, _-_, _/_, _%_, _≤_, _<_}
+use Prim.Native.Nat.{ℕ, suc, _+_, _-_, _/_, _%_, _≤_, _<_}
 use mathlib.Core.Path.{_≡_, refl, sym, ap, ap₂, _∙_, subst}
-use mathlib.Core.Bool.{Bool, true, false, cond, not, false≢true}
+use mathlib.Core.Bool.{Bool, true, false, not, false≢true}
 use mathlib.Core.List.{List, [], _∷_, _++_, map, map-append}
 use native.Mathlib.Omega.{arith}
 use borrow.Author.Tests.{le-leb, ne-eqb, eqb-true}
-use lib.Dec.{leb, eqb}
+use lib.Dec.{eqb}
 use lib.ListN.{length, take, drop, getD, set, length-set, length-append, length-map, length-take, length-drop, List·getD-append}
 use lib.Seq.{take-add, getD-drop, drop-append-le}
-use Rattle.lists.specs.Lists.{part, _orElse_}
+use Rattle.lists.specs.Lists.{part}
 use Rattle.lists.proofs.Tests.{or-zero, both-zero}
 use Rattle.lists.proofs.Cuts.{drop-step}
 use Rattle.lists.proofs.Parts.{part-join, part-at}
 use Rattle.digits.specs.Short.{plainNumber}
 use Rattle.scanning.specs.declared.Line.{Line}
 use Rattle.scanning.specs.declared.Line.the-variants.{Whole as WholeLine}
-use Rattle.characters.specs.Text.{commaCount, isStop}
+use Rattle.characters.specs.Text.{isStop}
 use Rattle.scanning.specs.Scans.{Sixteen, RunOf, ScanOf}
 use Rattle.scanning.specs.Scans.{LineOf}
 use Rattle.scanning.proofs.TextLaws.{Scanned, scan-start, scan-comma, scan-stop}
 use Rattle.scanning.proofs.LineLaws.{line-whole}
 use Rattle.scanning.proofs.RunLaws.{run-scanned}
 use Rattle.records.specs.Table.{Item}
-use Rattle.records.specs.Split.{isComma, consItem, itemsOf}
+use Rattle.records.specs.Split.{itemsOf}
 use Rattle.records.specs.Records.{itemFault, itemsFault}
 use Rattle.items.specs.Codes.{itemOf}
 use Rattle.items.specs.declared.Spelled.{Spelled}
 use Rattle.items.specs.Ends.{FineItem, EndOf, SpelledAt}
-use Rattle.lines.specs.declared.Quick.{Quick}
 use Rattle.codes.specs.Codes.{codes, sliceOf, placeOf, placeIn, Lent, InCodes}
-use Rattle.lines.specs.Found.{Sound, Told, LineEnds, LineEndsIf, QuickLine, QuickItems, QuickOf}
+use Rattle.lines.specs.Found.{LineEnds, LineEndsIf, QuickItems, QuickOf}
 use Rattle.lines.proofs.SplitLaws.{items-plain, items-snoc}
 use Rattle.codes.proofs.TableLaws.{codes-length}
 

@@ -1,13 +1,13 @@
 -- The walk over a line's items: what is left has the same fault. Assumes nothing.
-use Prim.Native.Nat.{ℕ, zero, suc, _+_, _-_, _/_, _%_, _≤_, _<_}
+use Prim.Native.Nat.{ℕ, suc, _+_, _-_, _/_, _%_, _≤_, _<_}
 use mathlib.Core.Path.{_≡_, refl, sym, ap, _∙_}
-use mathlib.Core.Bool.{Bool, true, false}
+use mathlib.Core.Bool.{Bool}
 use mathlib.Core.List.{List, [], _∷_, map}
 use native.Mathlib.Omega.{arith}
 use lib.ListN.{length, getD, take, drop}
 use Rattle.lists.specs.Lists.{_orElse_}
 use Rattle.lists.proofs.Tests.{or-stops}
-use Rattle.lists.proofs.Cuts.{drop-step, drop-end}
+use Rattle.lists.proofs.Cuts.{drop-step}
 use Rattle.records.specs.Table.{Item}
 use Rattle.records.specs.Split.{itemsOf}
 use Rattle.records.specs.Records.{itemFault, itemsFault}

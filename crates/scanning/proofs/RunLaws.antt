@@ -1,13 +1,13 @@
 -- Runs of characters without a comma: one behind another, the ways through `run_end`, and a scan that passes a run whole. Assumes nothing.
-use Prim.Native.Nat.{ℕ, zero, suc, _+_, _-_, _≤_, _<_}
-use mathlib.Core.Path.{_≡_, refl, sym, ap, _∙_, subst}
+use Prim.Native.Nat.{ℕ, suc, _+_, _-_, _≤_, _<_}
+use mathlib.Core.Path.{_≡_, refl, sym, ap, _∙_}
 use mathlib.Core.Bool.{Bool, true, false, cond, not, _&&_, false≢true, true≢false}
 use mathlib.Core.Logic.{inl, inr, ⊎-elim}
 use mathlib.Core.List.{List, [], _∷_, _++_}
 use native.Mathlib.Omega.{arith}
 use borrow.Author.Tests.{ne-eqb}
-use lib.Dec.{leb, eqb}
-use lib.ListN.{length, take, drop, getD, set, length-append, take-append-drop}
+use lib.Dec.{eqb}
+use lib.ListN.{length, drop, getD, set, length-append, take-append-drop}
 use lib.Seq.{drop-drop}
 use Rattle.lists.specs.Lists.{part}
 use Rattle.lists.proofs.Parts.{part-length, part-none, part-join}
@@ -16,9 +16,8 @@ use Rattle.characters.specs.Cells.{isOne, isPair}
 use Rattle.characters.specs.declared.Char.{Char}
 use Rattle.characters.specs.declared.Char.the-variants.{One, Two, Bad}
 use Rattle.characters.specs.Text.{charOf, charAt, allChars, isStop, clean, text, commaCount, commasFrom}
-use Rattle.scanning.specs.declared.Scan.{Scan}
 use Rattle.scanning.specs.Scans.{ScanOf, RunOf, RunEnds, Finished}
-use Rattle.scanning.proofs.TextLaws.{one-char, no-comma, lead-high, trail-high, lead-no-one, kept, Scanned, scan-start, scan-comma, scan-more, scan-stop, scan-bad, scan-end}
+use Rattle.scanning.proofs.TextLaws.{one-char, no-comma, lead-from-81, trail-from-40, lead-no-one, kept, Scanned, scan-start, scan-comma, scan-more, scan-stop, scan-bad, scan-end}
 use Rattle.characters.proofs.CharLaws.{chars-clean, pair-parts}
 
 -- ---- one list behind another
@@ -86,7 +85,7 @@ run-pair {s} {a} {i} v h o =
       low = omega arith;
       high = omega arith;
       chars = rw p (simp (lead-no-one (getD s i 0) (q .0), o));
-      plain = rw p (simp (no-comma (getD s i 0) (omega (arith, lead-high (getD s i 0) (q .0))), no-comma (getD s (i + 1) 0) (trail-high (getD s (i + 1) 0) (q .1))));
+      plain = rw p (simp (no-comma (getD s i 0) (omega (arith, lead-from-81 (getD s i 0) (q .0))), no-comma (getD s (i + 1) 0) (trail-from-40 (getD s (i + 1) 0) (q .1))));
     })
 
 -- ---- the ways through run_end

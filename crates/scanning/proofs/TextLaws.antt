@@ -1,25 +1,25 @@
 -- Laws of specs/Text one character at a time, and the loop of `scan_text`. Assumes nothing.
 use Prim.Native.Nat.{ℕ, zero, suc, _+_, _-_, _≤_, _<_}
-use mathlib.Core.Path.{_≡_, refl, sym, ap, _∙_, subst}
-use mathlib.Core.Bool.{Bool, true, false, cond, not, _&&_, _||_, and-true, and-false, false≢true, true≢false}
+use mathlib.Core.Path.{_≡_, refl, sym, ap, _∙_}
+use mathlib.Core.Bool.{Bool, true, false, cond, _&&_, and-true, and-false, true≢false}
 use mathlib.Core.Logic.{_⊎_, inl, inr, ⊎-elim}
 use mathlib.Core.List.{List, [], _∷_, _++_}
 use native.Mathlib.Omega.{arith}
-use native.Mathlib.Nat.{add-zero, zero-add}
+use native.Mathlib.Nat.{zero-add}
 use native.Mathlib.Numerals.{add-one}
-use borrow.Author.Tests.{le-leb, lt-leb, leb-true, leb-false, eqb-true, eq-eqb, ne-eqb}
+use borrow.Author.Tests.{leb-true, eq-eqb, ne-eqb}
 use lib.Dec.{leb, eqb}
 use lib.ListN.{length, take, drop, getD, set, length-set, length-take, List·getD-append}
-use lib.Seq.{drop-drop, sets, sets-eq}
-use Rattle.lists.specs.Lists.{within, all, upTo}
-use Rattle.lists.proofs.Tests.{both, either, or-first, within-in, within-below, within-above}
-use Rattle.lists.proofs.Cuts.{drop-step, drop-end, two-on}
-use Rattle.characters.specs.Cells.{isOne, isPair, isTrail, isLead, allowed, fullRow, partRow}
+use lib.Seq.{sets, sets-eq}
+use Rattle.lists.specs.Lists.{within}
+use Rattle.lists.proofs.Tests.{both, either, within-below, within-above}
+use Rattle.lists.proofs.Cuts.{drop-step, drop-end}
+use Rattle.characters.specs.Cells.{isOne, isPair, isTrail, isLead}
 use Rattle.characters.specs.declared.Char.{Char}
 use Rattle.characters.specs.declared.Char.the-variants.{One, Two, Bad}
-use Rattle.characters.specs.Text.{charOf, charAt, allChars, isStop, clean, commaCount, commasFrom, text}
-use Rattle.scanning.specs.Scans.{Stops, Sixteen, ScanOf}
-use Rattle.characters.proofs.CharLaws.{one-go, pair-parts, pair-go}
+use Rattle.characters.specs.Text.{charOf, charAt, allChars, isStop, commaCount, commasFrom, text}
+use Rattle.scanning.specs.Scans.{Sixteen, ScanOf}
+use Rattle.characters.proofs.CharLaws.{one-go}
 
 -- ---- one character of a text, as `char_at` tells it
 
@@ -36,15 +36,15 @@ one-text : (a : ℕ) (l : List ℕ) → isOne a ≡ true → Leaves (a ∷ l) l 
 one-text a l o = record { size = simp (one-go a o) (omega arith); chars = simp (one-go a o) (one-char a (text l) o) }
 
 -- a lead is no comma, and neither is a trail
-pub lead-high : (a : ℕ) → isLead a ≡ true → 0x81 ≤ a
-lead-high a e =
+pub lead-from-81 : (a : ℕ) → isLead a ≡ true → 0x81 ≤ a
+lead-from-81 a e =
     ⊎-elim
     (λ h. leb-true 0x81 a (both (leb 0x81 a) (leb a 0x9f) h .0))
     (λ h. omega (arith, leb-true 0xe0 a (both (leb 0xe0 a) (leb a 0xef) h .0)))
     (either (within 0x81 0x9f a) (within 0xe0 0xef a) e)
 
-pub trail-high : (b : ℕ) → isTrail b ≡ true → 0x40 ≤ b
-trail-high b e =
+pub trail-from-40 : (b : ℕ) → isTrail b ≡ true → 0x40 ≤ b
+trail-from-40 b e =
     ⊎-elim
     (λ h. leb-true 0x40 b (both (leb 0x40 b) (leb b 0x7e) h .0))
     (λ h. omega (arith, leb-true 0x80 b (both (leb 0x80 b) (leb b 0xfc) h .0)))

@@ -1,6 +1,5 @@
 use borrow.Author.Needs.{needs}
 use Rattle.lists.specs.Lists.{bytes}
-use native.Mathlib.Omega.{arith}
 use Rattle.answers.proofs.Lines.{ok-prints, no-prints}
 use Rattle.answers.proofs.print.Statement.{statement}
 use Rattle.answers.proofs.print.Tie as tie

@@ -1,10 +1,7 @@
 use borrow.Author.Needs.{needs}
 use Prim.Native.Nat.{_-_}
-use lib.ListN.{length}
-use Rattle.characters.specs.Cells.{isPair, allowed, fullRow, partRow}
 use Rattle.checking.proofs.ReadLaws.{line-1-behind}
 use Rattle.checking.proofs.LineFacts.{line-size}
-use Rattle.checking.proofs.CheckLaws.{zeros-size}
 use Rattle.canonical.proofs.WholeLaws.{into-laws, into-room, into-whole}
 use Rattle.canonical.proofs.canonical_into.Statement.{statement}
 use Rattle.canonical.proofs.canonical_into.Tie as tie

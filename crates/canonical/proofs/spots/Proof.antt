@@ -1,5 +1,4 @@
-use borrow.Author.Needs.{needs}
-use mathlib.Core.Path.{_≡_, refl, sym, ap, _∙_}
+use mathlib.Core.Path.{sym, ap}
 use borrow.Author.Tests.{ne-eqb}
 use Rattle.codes.specs.Codes.{codes, placeOf, placeIn}
 use Rattle.canonical.specs.Writing.{spotsFrom, spotsOf}

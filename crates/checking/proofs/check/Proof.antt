@@ -1,10 +1,8 @@
 use borrow.Author.Needs.{needs}
 use Prim.Native.Nat.{_-_}
-use lib.ListN.{length}
 use Rattle.checking.proofs.CheckLaws.{check-laws}
 use Rattle.checking.proofs.LineFacts.{line-size}
 use Rattle.checking.proofs.ReadLaws.{line-1-behind}
-use Rattle.characters.specs.Cells.{isPair, allowed, fullRow, partRow}
 use Rattle.checking.proofs.check.Statement.{statement}
 use Rattle.checking.proofs.check.Tie as tie
 use Rattle.checking.proofs.check.Reads as reads

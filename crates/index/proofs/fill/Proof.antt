@@ -1,10 +1,8 @@
 use borrow.Author.Needs.{needs}
 use Prim.Native.Nat.{_-_}
-use lib.ListN.{length}
 use Rattle.checking.proofs.ReadLaws.{line-1-behind}
 use Rattle.checking.proofs.CheckLaws.{check-laws}
 use Rattle.checking.proofs.LineFacts.{line-size}
-use Rattle.characters.specs.Cells.{isPair, allowed, fullRow, partRow}
 use Rattle.index.proofs.FileLaws.{fill-laws, fill-room}
 use Rattle.index.proofs.fill.Statement.{statement}
 use Rattle.index.proofs.fill.Tie as tie

@@ -1,7 +1,6 @@
 use borrow.Author.Needs.{needs}
 use Rattle.items.proofs.EndLaws.{end-digit}
 use Prim.Native.Nat.{_-_}
-use lib.ListN.{length}
 use Rattle.items.proofs.item_end.Statement.{statement}
 use Rattle.items.proofs.item_end.Tie as tie
 use Rattle.items.proofs.item_end.Reads as reads

@@ -1,6 +1,5 @@
 use borrow.Author.Needs.{needs}
 use Prim.Native.Nat.{_-_}
-use lib.ListN.{length}
 use Rattle.lines.proofs.QuickLaws.{Passing, passing-laws}
 use Rattle.lines.proofs.quick_items.Statement.{statement}
 use Rattle.lines.proofs.quick_items.Tie as tie

@@ -1,5 +1,3 @@
-use mathlib.Core.Path.{refl}
-use mathlib.Core.Bool.{true, false}
 use mathlib.Core.Logic.{⊎-elim}
 use Rattle.lists.proofs.Tests.{within-below, within-above}
 use Rattle.scanning.proofs.CellLaws.{lead-low, two-told, bad-told}

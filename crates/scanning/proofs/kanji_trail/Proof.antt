@@ -1,5 +1,5 @@
 use mathlib.Core.Path.{refl}
-use mathlib.Core.Bool.{true, false}
+use mathlib.Core.Bool.{false}
 use mathlib.Core.Logic.{⊎-elim}
 use Rattle.characters.specs.Cells.{isTrail}
 use Rattle.scanning.proofs.CellLaws.{const, on, under, trail-high, trail-low, trail-mid, no-trail, never}

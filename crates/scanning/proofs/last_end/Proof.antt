@@ -1,6 +1,5 @@
 use borrow.Author.Needs.{needs}
 use Prim.Native.Nat.{_-_}
-use lib.ListN.{length}
 use Rattle.scanning.proofs.RunLaws.{last-laws}
 use Rattle.scanning.proofs.last_end.Statement.{statement}
 use Rattle.scanning.proofs.last_end.Tie as tie
