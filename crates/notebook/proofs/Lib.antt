@@ -1,5 +1,6 @@
 pub mod Placing
 pub mod Accepted
+pub mod GroupLaws
 pub mod CanonicalLaws
 pub mod Walk
 pub mod Lines

@@ -6,7 +6,7 @@ use lib.Dec.{eqb}
 use Rattle.digits.specs.Short.{plainNumber}
 use Rattle.order.specs.declared.Facts.{Facts}
 use Rattle.records.specs.Items.{Value, text, num, day}
-use Rattle.records.specs.Records.{Record, nth, isEmpty}
+use Rattle.records.specs.Records.{Record, item, isEmpty}
 
 -- the value of kind R, 0 for any other
 abbrev pub numOf : Value → ℕ
@@ -31,9 +31,9 @@ spelled (day n) = 0
 unfoldable pub factsOf : Record → Facts
 factsOf r = record {
   number = r .number;
-  rp = numOf (nth (r .values) 1);
-  day = dayOf (nth (r .values) 1);
-  schedule = cond (eqb (r .number) 11) (spelled (nth (r .values) 3)) 0;
-  form = cond (eqb (r .number) 301) (spelled (nth (r .values) 5)) 0;
-  named = eqb (r .number) 301 && not (isEmpty (nth (r .values) 2));
+  rp = numOf (item r 1);
+  day = dayOf (item r 1);
+  schedule = cond (eqb (r .number) 11) (spelled (item r 3)) 0;
+  form = cond (eqb (r .number) 301) (spelled (item r 5)) 0;
+  named = eqb (r .number) 301 && not (isEmpty (item r 2));
 }

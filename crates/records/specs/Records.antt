@@ -62,6 +62,9 @@ rowOf h = rowIn table h
 abbrev pub nth : List Value → ℕ → Value
 nth vs i = getD vs (i - 1) (text [])
 
+abbrev pub item : Record → ℕ → Value
+item r i = nth (r .values) i
+
 abbrev pub isEmpty : Value → Bool
 isEmpty (text s) = empty s
 isEmpty (num n) = false
@@ -114,8 +117,8 @@ formPair form quantity unit =
 -- a 201's fifth and sixth item; a 301's sixth and seventh, and its fifth, third and fourth. The usage name is the order's to judge
 unfoldable pub pairs : Record → Bool
 pairs r =
-    cond (eqb (r .number) 201) (codePair (nth (r .values) 5) (nth (r .values) 6))
-    (cond (eqb (r .number) 301) (codePair (nth (r .values) 6) (nth (r .values) 7) && formPair (nth (r .values) 5) (nth (r .values) 3) (nth (r .values) 4)) true)
+    cond (eqb (r .number) 201) (codePair (item r 5) (item r 6))
+    (cond (eqb (r .number) 301) (codePair (item r 6) (item r 7) && formPair (item r 5) (item r 3) (item r 4)) true)
 
 -- ---- one line
 
