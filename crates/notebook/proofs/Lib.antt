@@ -1,8 +1,10 @@
+pub mod AllExamples
 pub mod Placing
 pub mod Accepted
 pub mod GroupLaws
 pub mod CanonicalLaws
 pub mod Walk
+pub mod FileGroups
 pub mod Lines
 pub mod Lasts
 pub mod IndexLaws

@@ -6,3 +6,4 @@ pub mod Samples
 pub mod Index
 pub mod Meaning
 pub mod Canonical
+pub mod Examples

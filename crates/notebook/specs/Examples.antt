@@ -1,0 +1,55 @@
+-- A small notebook in direction 2 with what specs/Groups.antt says of it: a 1 and a 4, a group with an 11, a group without one, and 701s.
+-- Written from document 01; proofs/AllExamples.antt computes it by the definitions.
+use Prim.Native.Nat.{ℕ}
+use mathlib.Core.Bool.{false}
+use mathlib.Core.List.{List, [], _∷_}
+use Rattle.lists.specs.Lists.{bytes}
+use Rattle.records.specs.Items.{Value, text, num, day}
+use Rattle.records.specs.Records.{Record}
+use Rattle.notebook.specs.Notebook.{Notebook}
+use Rattle.notebook.specs.Groups.{Parts}
+
+-- ---- records, each with the items that the example needs
+
+abbrev pub rec : ℕ → List Value → Record
+rec n vs = record { number = n; values = vs }
+
+abbrev pub r1 : Record
+r1 = rec 1 (text (bytes "A") ∷ text (bytes "1") ∷ day 19890108 ∷ [])
+
+abbrev pub r4 : Record
+r4 = rec 4 (text (bytes "B") ∷ text [] ∷ text (bytes "1") ∷ [])
+
+abbrev pub r5 : ℕ → Record
+r5 d = rec 5 (day d ∷ text (bytes "1") ∷ [])
+
+-- its fourth item is the institution code
+abbrev pub r11 : Record
+r11 = rec 11 (text (bytes "C") ∷ text (bytes "13") ∷ text (bytes "4") ∷ text (bytes "1234567") ∷ [])
+
+abbrev pub r201 : Record
+r201 = rec 201 (num 1 ∷ text (bytes "D") ∷ text (bytes "2") ∷ text (bytes "E") ∷ [])
+
+abbrev pub r701 : Record
+r701 = rec 701 (text (bytes "F") ∷ text (bytes "G") ∷ text (bytes "H") ∷ [])
+
+-- ---- the notebook
+
+abbrev pub twoGroups : Notebook
+twoGroups = record { provider = false; records = r1 ∷ r4 ∷ r5 20160411 ∷ r11 ∷ r201 ∷ r5 20160410 ∷ r201 ∷ r701 ∷ r701 ∷ [] }
+
+abbrev pub theirParts : Parts
+theirParts = record {
+  front = r1 ∷ r4 ∷ [];
+  groups = (r5 20160411 ∷ r11 ∷ r201 ∷ []) ∷ (r5 20160410 ∷ r201 ∷ []) ∷ [];
+  tail = r701 ∷ r701 ∷ [];
+}
+
+abbrev pub theirOrdinals : List ℕ
+theirOrdinals = 0 ∷ 0 ∷ 1 ∷ 1 ∷ 1 ∷ 2 ∷ 2 ∷ 0 ∷ 0 ∷ []
+
+abbrev pub theirDays : List ℕ
+theirDays = 20160411 ∷ 20160410 ∷ []
+
+abbrev pub theirInstitutions : List (List ℕ)
+theirInstitutions = bytes "1234567" ∷ [] ∷ []
