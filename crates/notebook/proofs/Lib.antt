@@ -5,3 +5,4 @@ pub mod Walk
 pub mod Lines
 pub mod Lasts
 pub mod IndexLaws
+pub mod Answered
