@@ -28,10 +28,12 @@ use Rattle.order.specs.State.{start, finishOf, advance, Room}
 use Rattle.order.proofs.Laws.{next-line, room, room-start, line-start}
 use Rattle.notebook.specs.Facts.{factsOf}
 use Rattle.lines.specs.Codes.{Commas}
-use Rattle.replies.specs.declared.Checked.{Checked}
-use Rattle.replies.specs.declared.Checked.the-variants.{Accepted, Refused}
+use Rattle.replies.specs.declared.Answer.{Answer}
+use Rattle.replies.specs.declared.Answer.the-variants.{Done, Refused}
+use Rattle.replies.specs.Results.{answerIn}
 use Rattle.notebook.specs.Notebook.{Notebook, stepLine, prepend, closed, onward, recordsFrom, notebookOf, readRows, readFile}
-use Rattle.notebook.specs.Check.{count, counted, checked, checkOf}
+use Rattle.notebook.specs.Check.{count, counted, checkResult}
+use Rattle.notebook.proofs.Answered.{answered}
 use Rattle.checking.specs.Walking.{directionOf, tally, Judged, Behind, Closing}
 use Rattle.checking.proofs.LineFacts.{line-size, whole-line, records-end, records-mark, records-broken, records-on}
 use Rattle.checking.specs.declared.Turn.{Turn}
@@ -41,7 +43,7 @@ use Rattle.checking.proofs.TurnLaws.{turn-facts, turn-over, turn-refuse
 use Rattle.notebook.proofs.Placing.{Placed, placed}
 use Rattle.checking.proofs.ReadLaws.{read-large, read-end, read-mark, read-broken, read-provider, read-patient, read-version, direction-few, line-1-high, line-1-fits, line-1-behind}
 
-three : {a b c a′ b′ c′ : ℕ} → a ≡ a′ → b ≡ b′ → c ≡ c′ → Accepted a b c ≡ Accepted a′ b′ c′
+three : {a b c a′ b′ c′ : ℕ} → a ≡ a′ → b ≡ b′ → c ≡ c′ → Done a b c ≡ Done a′ b′ c′
 three p q r = cc
 
 -- ---- line 1
@@ -68,7 +70,7 @@ module _ (l : List ℕ) {x : Bool} (p : x ≡ same l (line1 49)) where
 -- ---- the end
 
 module _ (st : State) {n : ℕ} (e : n ≡ finishOf st) where
-  pub close-good : n ≡ 0 → Accepted (st .line - 1) (st .groups) (st .drugs) ≡ tally st (closed st)
+  pub close-good : n ≡ 0 → Done (st .line - 1) (st .groups) (st .drugs) ≡ tally st (closed st)
   unfolding closed count
   close-good z = rw (eq-eqb (finishOf st) 0 (sym e ∙ z)) (three (sym (add-zero (st .line - 1))) (sym (add-zero (st .groups))) (sym (add-zero (st .drugs))))
 
@@ -124,14 +126,14 @@ module _ {provider : Bool} {s : List ℕ} {from : ℕ} {st : State} {at : ℕ} (
   reading-room = v .room
 
   -- the answer, if what is left answers it
-  answer : {r : Checked} → r ≡ tally st (recordsFrom st (rows (drop at s))) → r ≡ tally (start provider) (recordsFrom (start provider) (rows (drop from s)))
+  answer : {r : Answer} → r ≡ tally st (recordsFrom st (rows (drop at s))) → r ≡ tally (start provider) (recordsFrom (start provider) (rows (drop from s)))
   answer e = e ∙ sym (v .left)
 
   module _ {stops : List ℕ} {k : Line} (w : LineOf s at stops k) where
-    reading-end : {r : Checked} → k ≡ End → r ≡ tally st (closed st) → r ≡ tally (start provider) (recordsFrom (start provider) (rows (drop from s)))
+    reading-end : {r : Answer} → k ≡ End → r ≡ tally st (closed st) → r ≡ tally (start provider) (recordsFrom (start provider) (rows (drop from s)))
     reading-end e q = answer (q ∙ sym (ap (tally st) (records-end w st e)))
 
-    reading-mark : {r : Checked} → k ≡ Mark → r ≡ tally st (closed st) → r ≡ tally (start provider) (recordsFrom (start provider) (rows (drop from s)))
+    reading-mark : {r : Answer} → k ≡ Mark → r ≡ tally st (closed st) → r ≡ tally (start provider) (recordsFrom (start provider) (rows (drop from s)))
     reading-mark e q = answer (q ∙ sym (ap (tally st) (records-mark w st e)))
 
     reading-broken : k ≡ Broken → Refused 2 (st .line + 1) ≡ tally (start provider) (recordsFrom (start provider) (rows (drop from s)))
@@ -164,7 +166,7 @@ module _ {provider : Bool} {s : List ℕ} {from : ℕ} {st : State} {at : ℕ} (
 
   -- by a turn
   module _ {stops : List ℕ} {k : Turn} (w : TurnOf st s at stops k) where
-    pub reading-over : {r : Checked} → k ≡ Over → r ≡ tally st (closed st) → r ≡ tally (start provider) (recordsFrom (start provider) (rows (drop from s)))
+    pub reading-over : {r : Answer} → k ≡ Over → r ≡ tally st (closed st) → r ≡ tally (start provider) (recordsFrom (start provider) (rows (drop from s)))
     reading-over q p = ⊎-elim (λ l. reading-end l refl p) (λ l. reading-mark l refl p) (turn-over w q)
 
     pub reading-stopped : {n : ℕ} → k ≡ TurnRefused n → Refused n (st .line + 1) ≡ tally (start provider) (recordsFrom (start provider) (rows (drop from s)))
@@ -185,40 +187,40 @@ pub ruleset reading-laws = (turn-facts, reading-start, reading-closing, reading-
 
 -- ---- the file
 
-tally-start : (provider : Bool) (res : Res (List Record)) → tally (start provider) res ≡ checked (notebookOf provider res)
+tally-start : (provider : Bool) (res : Res (List Record)) → tally (start provider) res ≡ answered (notebookOf provider res)
 unfolding start
 tally-start provider (refused n line) = refl
 tally-start provider (ok rs) = three (zero-add (length rs)) (zero-add (count 5 rs)) (zero-add (count 201 rs))
 
 module _ (s : List ℕ) where
-  refused-as : {n line : ℕ} → readFile s ≡ refused n line → Refused n line ≡ checkOf s
-  unfolding checkOf
-  refused-as e = sym (ap checked e)
+  refused-as : {n line : ℕ} → readFile s ≡ refused n line → Refused n line ≡ answerIn (checkResult s) []
+  unfolding answerIn checkResult
+  refused-as e = sym (ap answered e)
 
-  pub check-large : 65536 < length s → Refused 1 0 ≡ checkOf s
+  pub check-large : 65536 < length s → Refused 1 0 ≡ answerIn (checkResult s) []
   check-large h = refused-as (read-large s h)
 
   module _ (h : length s ≤ 65536) {stops : List ℕ} {k : Line} (w : LineOf s 0 stops k) where
-    pub check-end : k ≡ End → Refused 2 1 ≡ checkOf s
+    pub check-end : k ≡ End → Refused 2 1 ≡ answerIn (checkResult s) []
     check-end e = refused-as (read-end s h w e)
 
-    pub check-mark : k ≡ Mark → Refused 2 1 ≡ checkOf s
+    pub check-mark : k ≡ Mark → Refused 2 1 ≡ answerIn (checkResult s) []
     check-mark e = refused-as (read-mark s h w e)
 
-    pub check-broken : k ≡ Broken → Refused 2 1 ≡ checkOf s
+    pub check-broken : k ≡ Broken → Refused 2 1 ≡ answerIn (checkResult s) []
     check-broken e = refused-as (read-broken s h w e)
 
     module _ {e : ℕ} {good : Bool} {n : ℕ} (q : k ≡ Whole e good n) {d : ℕ} (p : d ≡ directionOf (take (e - 0) (drop 0 s))) where
-      pub check-provider : {r : Checked} → d ≡ 1 → r ≡ tally (start true) (recordsFrom (start true) (rows (drop (e + 2) s))) → r ≡ checkOf s
-      unfolding checkOf
-      check-provider z t = t ∙ tally-start true (recordsFrom (start true) (rows (drop (e + 2) s))) ∙ sym (ap checked (read-provider s h w q p z .1))
+      pub check-provider : {r : Answer} → d ≡ 1 → r ≡ tally (start true) (recordsFrom (start true) (rows (drop (e + 2) s))) → r ≡ answerIn (checkResult s) []
+      unfolding answerIn checkResult
+      check-provider z t = t ∙ tally-start true (recordsFrom (start true) (rows (drop (e + 2) s))) ∙ sym (ap answered (read-provider s h w q p z .1))
 
-      pub check-patient : {r : Checked} → d ≡ 2 → r ≡ tally (start false) (recordsFrom (start false) (rows (drop (e + 2) s))) → r ≡ checkOf s
-      unfolding checkOf
+      pub check-patient : {r : Answer} → d ≡ 2 → r ≡ tally (start false) (recordsFrom (start false) (rows (drop (e + 2) s))) → r ≡ answerIn (checkResult s) []
+      unfolding answerIn checkResult
       check-patient z t =
-          t ∙ tally-start false (recordsFrom (start false) (rows (drop (e + 2) s))) ∙ sym (ap checked (read-patient s h w q p (λ o. omega arith) (λ o. omega arith) .1))
+          t ∙ tally-start false (recordsFrom (start false) (rows (drop (e + 2) s))) ∙ sym (ap answered (read-patient s h w q p (λ o. omega arith) (λ o. omega arith) .1))
 
-      pub check-version : (d ≡ 1 → ⊥) → (d ≡ 2 → ⊥) → Refused 3 1 ≡ checkOf s
+      pub check-version : (d ≡ 1 → ⊥) → (d ≡ 2 → ⊥) → Refused 3 1 ≡ answerIn (checkResult s) []
       check-version y z = refused-as (read-version s h w q p (omega (arith, direction-few s h w q p)))
 
 pub zeros-size : Sixteen (0 ∷ 0 ∷ 0 ∷ 0 ∷ 0 ∷ 0 ∷ 0 ∷ 0 ∷ 0 ∷ 0 ∷ 0 ∷ 0 ∷ 0 ∷ 0 ∷ 0 ∷ 0 ∷ [])

@@ -8,8 +8,8 @@ use Rattle.lists.specs.Lists.{same, Res, ok, refused}
 use Rattle.characters.specs.Text.{allChars}
 use Rattle.records.specs.Records.{Record, header}
 use Rattle.order.specs.declared.State.{State}
-use Rattle.replies.specs.declared.Checked.{Checked}
-use Rattle.replies.specs.declared.Checked.the-variants.{Accepted, Refused}
+use Rattle.replies.specs.declared.Answer.{Answer}
+use Rattle.replies.specs.declared.Answer.the-variants.{Done, Refused}
 use Rattle.notebook.specs.Check.{count}
 
 -- 1 or 2 where a line is line 1 of that direction, else 0
@@ -17,8 +17,8 @@ unfoldable pub directionOf : List ℕ → ℕ
 directionOf l = cond (same l (header true)) 1 (cond (same l (header false)) 2 0)
 
 -- the counts of a state, and those of the records that follow
-abbrev pub tally : State → Res (List Record) → Checked
-tally st (ok rs) = Accepted (st .line - 1 + length rs) (st .groups + count 5 rs) (st .drugs + count 201 rs)
+abbrev pub tally : State → Res (List Record) → Answer
+tally st (ok rs) = Done (st .line - 1 + length rs) (st .groups + count 5 rs) (st .drugs + count 201 rs)
 tally st (refused n line) = Refused n line
 
 -- it was found whether a line is characters

@@ -11,9 +11,11 @@ ghost use Rattle.lines.specs.Codes.{Commas};
 ghost use Rattle.lines.specs.Found.{Told};
 ghost use Rattle.notebook.specs.Notebook.{stepLine, closed as closedOf, recordsFrom};
 ghost use Rattle.checking.specs.Turns.{TurnOf};
-ghost use Rattle.notebook.specs.Check.{checkOf};
+ghost use mathlib.Core.List.{[]};
+ghost use Rattle.notebook.specs.Check.{checkResult};
+ghost use Rattle.replies.specs.Results.{answerIn};
 ghost use Rattle.checking.specs.Walking.{tally, directionOf, Judged, Behind, Closing};
-use replies::Checked;
+use replies::Answer;
 
 // 1 for provider to patient, 2 for patient to provider, 0 for a line that is no line 1.
 pub fn direction(line: &[u8]) -> u32
@@ -31,15 +33,15 @@ pub fn direction(line: &[u8]) -> u32
 }
 
 // The end of a file: what is missing there, or the counts.
-fn close(st: order::State) -> Checked
+fn close(st: order::State) -> Answer
     requires { ⌜ Closing st ⌝ }
     ensures { λ r. ⌜ r ≡ tally st (closedOf st) ⌝ }
 {
     let missing = st.finish();
     if missing == 0 {
-        return Checked::Accepted(st.line - 1, st.groups, st.drugs);
+        return Answer::Done(st.line - 1, st.groups, st.drugs);
     }
-    Checked::Refused(missing, st.line + 1)
+    Answer::Refused(missing, st.line + 1)
 }
 
 // Reads a record line, and puts its record in its place; good: the line is characters; commas and stops: its commas and their places;
@@ -110,7 +112,7 @@ fn check_records(
     provider: bool,
     s: &[u8],
     from: usize,
-) -> Checked
+) -> Answer
     requires { ⌜ Lent (now codes) ⌝ }
     requires { ⌜ Sixteen (now stops) ⌝ }
     requires { ⌜ Behind (now s) from ⌝ }
@@ -121,7 +123,7 @@ fn check_records(
     loop {
         match read_record(codes, stops, st, s, at) {
             Turn::Over => return close(st),
-            Turn::Refused(n) => return Checked::Refused(n, st.line + 1),
+            Turn::Refused(n) => return Answer::Refused(n, st.line + 1),
             Turn::On(next, _, _, end, _) => {
                 st = next;
                 at = end + 2;
@@ -131,20 +133,20 @@ fn check_records(
 }
 
 // The counts of an accepted file, or the one refusal with its line.
-pub fn check(s: &[u8]) -> Checked
-    ensures { λ r. ⌜ r ≡ checkOf (now (s .entry)) ⌝ }
+pub fn check(s: &[u8]) -> Answer
+    ensures { λ r. ⌜ r ≡ answerIn (checkResult (now (s .entry))) [] ⌝ }
 {
     let len = s.len();
     if 65536 < len {
-        return Checked::Refused(1, 0);
+        return Answer::Refused(1, 0);
     }
     let codes = codes::item_codes();
     let mut stops = [0usize; 16];
     let start = 0;
     match scanning::line_at(&mut stops, s, start) {
-        scanning::Line::End => return Checked::Refused(2, 1),
-        scanning::Line::Mark => return Checked::Refused(2, 1),
-        scanning::Line::Broken => return Checked::Refused(2, 1),
+        scanning::Line::End => return Answer::Refused(2, 1),
+        scanning::Line::Mark => return Answer::Refused(2, 1),
+        scanning::Line::Broken => return Answer::Refused(2, 1),
         scanning::Line::Whole(end, _, _) => {
             let d = direction(&s[start..end]);
             let from = end + 2;
@@ -154,7 +156,7 @@ pub fn check(s: &[u8]) -> Checked
             if d == 2 {
                 return check_records(&codes, &mut stops, false, s, from);
             }
-            Checked::Refused(3, 1)
+            Answer::Refused(3, 1)
         }
     }
 }

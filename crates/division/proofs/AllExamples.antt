@@ -4,8 +4,8 @@ use native.Mathlib.Omega.{arith}
 use mathlib.Core.Path.{_≡_, refl, sym, ap, _∙_}
 use mathlib.Core.Bool.{true, false}
 use mathlib.Core.List.{List, [], _∷_, map}
-use lib.ListN.{length}
-use Rattle.lists.specs.Lists.{bytes, same, All, Res, ok}
+use lib.ListN.{length, replicate}
+use Rattle.lists.specs.Lists.{bytes, same, All, Res, ok, refused}
 use Rattle.lists.proofs.Tests.{same-refl}
 use Rattle.digits.specs.Digits.{value, number, spell}
 use Rattle.characters.specs.Rows.{flat, isLine}
@@ -23,15 +23,16 @@ use Rattle.rules.specs.Places.{inGroup, mayFollow}
 use Rattle.rules.specs.Rules.{pairBroken, misplaced, closesRp, lacking, missing, valueWrong, newerGroup, refusal, unfinished}
 use Rattle.order.specs.State.{none, start, hadAfter, advance, refusalOf, stepOf, finishOf}
 use Rattle.notebook.specs.Facts.{factsOf}
-use Rattle.notebook.specs.Notebook.{stepLine, closed, onward, recordsFrom, readRows, readFile}
+use Rattle.notebook.specs.Notebook.{Notebook, stepLine, closed, onward, recordsFrom, readRows, readFile}
 use Rattle.notebook.proofs.Accepted.{no-refusal}
-use Rattle.notebook.specs.Canonical.{recordRows, canonicalBytes, bytesOf}
+use Rattle.notebook.specs.Canonical.{recordRows, canonicalBytes}
 use Rattle.packing.specs.Packing.{total, put, pack}
 use Rattle.packing.specs.Widths.{past, digitsOf, over, serves, tries, plan}
 use Rattle.division.specs.Marks.{validID, markLine, markRow, readMark}
 use Rattle.division.specs.Pieces.{Piece, kindOf, brokenFrom, brokenLine, bodyOf, piecesIn, splitRows, split, fileOf}
 use Rattle.division.specs.Join.{unmarked, partOf, partsOf, agree, find, gather, joinPieces, joinedFile, joinFile}
-use Rattle.division.specs.Cut.{pieceBytes, numbered, cutting, cutList, cutOf}
+use Rattle.replies.specs.Results.{answerIn}
+use Rattle.division.specs.Cut.{pieceBytes, numbered, cutting, cutList, cutResult}
 use Rattle.division.specs.Examples.{ident, markLines, theirMarks, inputs, theirFiles, Asked, asked, theirAnswers}
 use Rattle.division.specs.Demand.{Sound}
 use Rattle.division.specs.SoundExamples.{twoDates, Claim, theirFile, sound, notSound}
@@ -48,8 +49,8 @@ pub joins-hold : map joinFile inputs ≡ theirFiles
 unfolding bytes value number spell isLine numberFrom leap monthLength isReal isDay gregorian eraOf inEra fromEra readDay table edge oneWidth decimal sized fault valueOf itemFault itemValue itemsFault itemsValue rowIn rowOf pairs t911 isMark recordFrom faultFrom faultWhere lineFault recordOf header inGroup mayFollow pairBroken misplaced closesRp lacking missing valueWrong newerGroup refusal unfinished none start hadAfter advance refusalOf stepOf finishOf factsOf stepLine closed onward recordsFrom readRows readFile validID readMark kindOf brokenFrom brokenLine bodyOf piecesIn splitRows split fileOf unmarked partOf partsOf agree find gather joinPieces joinedFile joinFile
 joins-hold = refl
 
-pub cuts-hold : map (λ (a : Asked). cutOf (a .file) (a .capacity) (a .id) (a .room)) asked ≡ theirAnswers
-unfolding bytes spell isLine numberFrom leap monthLength isReal isDay gregorian eraOf eraOn inEra fromEra readDay writeDay table edge oneWidth decimal sized fault valueOf itemFault itemValue itemsFault itemsValue rowIn rowOf pairs t911 recordFrom faultFrom faultWhere lineFault recordOf header inGroup mayFollow pairBroken misplaced closesRp lacking missing valueWrong newerGroup refusal unfinished none start hadAfter advance refusalOf stepOf finishOf factsOf stepLine closed onward recordsFrom readRows readFile joined write recordRows canonicalBytes total put pack past digitsOf over serves tries plan validID markLine markRow pieceBytes numbered cutting cutList cutOf
+pub cuts-hold : map (λ (a : Asked). answerIn (cutResult (a .file) (a .capacity) (a .id)) (replicate (a .room) 0)) asked ≡ theirAnswers
+unfolding bytes spell isLine numberFrom leap monthLength isReal isDay gregorian eraOf eraOn inEra fromEra readDay writeDay table edge oneWidth decimal sized fault valueOf itemFault itemValue itemsFault itemsValue rowIn rowOf pairs t911 recordFrom faultFrom faultWhere lineFault recordOf header inGroup mayFollow pairBroken misplaced closesRp lacking missing valueWrong newerGroup refusal unfinished none start hadAfter advance refusalOf stepOf finishOf factsOf stepLine closed onward recordsFrom readRows readFile joined write recordRows canonicalBytes total put pack past digitsOf over serves tries plan validID markLine markRow pieceBytes numbered cutting cutList cutResult answerIn
 cuts-hold = refl
 
 -- ---- sound lists
@@ -80,14 +81,19 @@ sound-hold =
 two-one : {a b c : Piece} → _≡_ {A = Res (List Piece)} (ok (a ∷ b ∷ [])) (ok (c ∷ [])) → ⊥
 two-one {a} {b} {c} e = let z : a ∷ b ∷ [] ≡ c ∷ [] = cc in omega (arith, ap length z)
 
+-- nothing where the file is refused
+abbrev canonicalOf : Res Notebook → List ℕ
+canonicalOf (ok b) = canonicalBytes b
+canonicalOf (refused n line) = []
+
 -- the joined file w has another canonical file, so that it carries another notebook
-other : (ps : List (List ℕ)) (c : ℕ) (w : List ℕ) → joinFile (flat ps) ≡ ok w → same (bytesOf (readFile w)) (bytesOf (readFile twoDates)) ≡ false
+other : (ps : List (List ℕ)) (c : ℕ) (w : List ℕ) → joinFile (flat ps) ≡ ok w → same (canonicalOf (readFile w)) (canonicalOf (readFile twoDates)) ≡ false
     → Sound twoDates c ps → ⊥
 other ps c w j d s =
     let q : _≡_ {A = Res (List ℕ)} (ok w) (ok (s .file)) = sym j ∙ s .joins in
     let z : w ≡ s .file = cc in
-    let t : bytesOf (readFile w) ≡ bytesOf (readFile twoDates) = ap bytesOf (ap readFile z ∙ s .same) in
-    let u : true ≡ false = sym (same-refl (bytesOf (readFile twoDates))) ∙ ap (λ (x : List ℕ). same x (bytesOf (readFile twoDates))) (sym t) ∙ d in
+    let t : canonicalOf (readFile w) ≡ canonicalOf (readFile twoDates) = ap canonicalOf (ap readFile z ∙ s .same) in
+    let u : true ≡ false = sym (same-refl (canonicalOf (readFile twoDates))) ∙ ap (λ (x : List ℕ). same x (canonicalOf (readFile twoDates))) (sym t) ∙ d in
     let v : _≡_ {A = ℕ} 0 1 = cc in
     omega arith
 

@@ -7,85 +7,84 @@ use mathlib.Core.Logic.{_↔_, inl, inr}
 use mathlib.Core.Bool.{Bool, true, false, cond}
 use mathlib.Core.Option.{Option, none, some}
 use mathlib.Core.List.{List, _∷_, _++_, map}
-use borrow.Author.Tests.{leb-false, le-leb, lt-leb}
+use borrow.Author.Tests.{leb-true, leb-false}
 use lib.Dec.{leb}
 use lib.ListN.{length, take, drop, length-append}
 use lib.Seq.{take-at}
-use Rattle.lists.specs.Lists.{All, Res, ok, refused}
+use Rattle.lists.specs.Lists.{All, Res, ok, refused, mapRes, andThen}
 use Rattle.characters.specs.Rows.{flat}
 use Rattle.notebook.specs.Notebook.{Notebook, readFile}
-use Rattle.notebook.specs.Canonical.{canonicalBytes, canonicalOf, canonicalBuffer}
+use Rattle.notebook.specs.Canonical.{canonicalBytes, canonicalFile, canonicalResult}
 use Rattle.notebook.proofs.Accepted.{no-refusal}
 use Rattle.division.specs.Marks.{validID}
 use Rattle.division.proofs.Chunks.{chunkBytes, chunks-once}
-use Rattle.replies.specs.declared.Cutting.{Cutting}
-use Rattle.replies.specs.declared.Cutting.the-variants.{Pieces, Refused}
-use Rattle.division.specs.Cut.{cutting, listed, found, cutList, held, cutOf, cutBuffer}
-use Rattle.division.specs.Join.{joinFile, held as held-join, joinOf, joinBuffer}
+use Rattle.replies.specs.declared.Answer.{Answer}
+use Rattle.replies.specs.declared.Answer.the-variants.{Done, Refused}
+use Rattle.division.specs.Cut.{cutting, listed, found, cutList, writesPieces, cutResult}
+use Rattle.division.specs.Join.{joinFile, joinResult}
 use Rattle.replies.specs.declared.Reply.{Reply}
-use Rattle.replies.specs.Replies.{refusal, result, cutReply, joinReply}
+use Rattle.replies.specs.Replies.{refusal, result, replyOf}
+use Rattle.replies.specs.Results.{Result, writes as writing, answerOf, fitting, answerIn, replyTo, outputOf}
+use Rattle.replies.proofs.Results.{gives-refusal, gives-20, gives-result}
 use Rattle.division.specs.Orders.{Perm}
-use Rattle.division.specs.Demand.{OnePiece, ListIn, Sound, Written, cutSays, Delivers, CanonicalFile, JoinedFile, Found, OneOfThree}
+use Rattle.division.specs.Demand.{OnePiece, ListIn, Sound, Written, Delivers, CanonicalFile, JoinedFile, Found, OneOfThree}
 use Rattle.division.proofs.Own.{sound, restores}
 use Rattle.division.proofs.Fewest.{Chunks, chunked, Listed, least}
 
 -- ---- a reply told apart: which answer it is
 
 -- refusals have numbers from 1 on
-abbrev Numbered : Cutting → Type 0
-Numbered (Pieces n t) = Unit {0}
+abbrev Numbered : Answer → Type 0
+Numbered (Done a b c) = Unit {0}
 Numbered (Refused n line) = 1 ≤ n
 
-pub refused-told : (n : ℕ) (x : Cutting) → cutReply x ≡ refusal (suc n) 0 → x ≡ Refused (suc n) 0
-refused-told n (Pieces a t) e = absurd (omega (arith, ap (λ (r : Reply). r .refusal) e))
+pub refused-told : (n : ℕ) (x : Answer) → replyOf x ≡ refusal (suc n) 0 → x ≡ Refused (suc n) 0
+refused-told n (Done a b c) e = absurd (omega (arith, ap (λ (r : Reply). r .refusal) e))
 refused-told n (Refused m line) e =
     let a : m ≡ suc n = ap (λ (r : Reply). r .refusal) e in
     let l : line ≡ 0 = ap (λ (r : Reply). r .line) e in
     cc
 
-pub pieces-told : (x : Cutting) (n t : ℕ) → Numbered x → cutReply x ≡ result n t 0 → x ≡ Pieces n t
-pieces-told (Pieces m u) n t h e =
-    let a : m ≡ n = ap (λ (r : Reply). r .a) e in
-    let l : u ≡ t = ap (λ (r : Reply). r .b) e in
+pub done-told : (x : Answer) (a b c : ℕ) → Numbered x → replyOf x ≡ result a b c → x ≡ Done a b c
+done-told (Done i j k) a b c h e =
+    let p : i ≡ a = ap (λ (r : Reply). r .a) e in
+    let q : j ≡ b = ap (λ (r : Reply). r .b) e in
+    let s : k ≡ c = ap (λ (r : Reply). r .c) e in
     cc
-pieces-told (Refused m line) n t h e = absurd (omega (arith, h, ap (λ (r : Reply). r .refusal) e))
+done-told (Refused m line) a b c h e = absurd (omega (arith, h, ap (λ (r : Reply). r .refusal) e))
 
-pub numbered : (f : List ℕ) (b : Notebook) (c : ℕ) (id : List ℕ) (room : ℕ) → readFile f ≡ ok b → Numbered (cutOf f c id room)
-unfolding cutOf cutList
-numbered f b c id room e = rw e (valid (validID id))
+pub numbered : (f : List ℕ) (b : Notebook) (c : ℕ) (id out : List ℕ) → readFile f ≡ ok b → Numbered (answerIn (cutResult f c id) out)
+unfolding answerIn cutResult cutList
+numbered f b c id out e = rw e (valid (validID id))
   where
-    written : (x : Bool) (ps : List (List ℕ)) → Numbered (cond x (Pieces (length ps) (length (flat ps))) (Refused 20 0))
-    written true ps = tt
-    written false ps = omega arith
+    written : (x : Bool) (r : Result) → Numbered (answerOf (cond x (ok r) (refused 20 0)))
+    written true r = tt
+    written false r = omega arith
 
-    list : (m : Option (List (List ℕ))) → Numbered (held (listed m) room)
+    list : (m : Option (List (List ℕ))) → Numbered (answerOf (fitting (mapRes writesPieces (listed m)) out))
     list none = omega arith
-    list (some ps) = written (leb (length (flat ps)) room) ps
+    list (some ps) = written (leb (length (flat ps)) (length out)) (writesPieces ps)
 
-    valid : (v : Bool) → Numbered (held (cond v (listed (cutting id c b)) (refused 17 0)) room)
+    valid : (v : Bool) → Numbered (answerOf (fitting (mapRes writesPieces (cond v (listed (cutting id c b)) (refused 17 0))) out))
     valid true = list (cutting id c b)
     valid false = omega arith
 
 -- ---- what a call has to write, by whether the output can hold it
 
-pub deliver : {says : List ℕ → Reply} {after : List ℕ → List ℕ} {r : Reply} {w : List ℕ} → r .refusal ≡ 0
-    → ((out : List ℕ) → leb (length w) (length out) ≡ true → (says out ≡ r) × (after out ≡ w ++ drop (length w) out))
-    → ((out : List ℕ) → leb (length w) (length out) ≡ false → (says out ≡ refusal 20 0) × (after out ≡ out))
-    → Delivers says after r w
-deliver {says} {after} {r} {w} z holds short = record {
-  withheld = λ out. (λ h. omega (arith, lacks out (leb (length w) (length out)) refl h), λ h. short out (lt-leb (length w) (length out) (omega (arith, h))) .0);
-  kept = λ out h. short out (lt-leb (length w) (length out) (omega (arith, h))) .1;
-  written = λ out h. holds out (le-leb (length w) (length out) (omega (arith, h)));
+pub deliver : {x : Res Result} {r : Result} → x ≡ ok r → Delivers x (result (r .a) (r .b) (r .c)) (r .written)
+deliver {x} {r} e = record {
+  withheld = λ out. (λ h. lacks out (leb (length (r .written)) (length out)) refl h, λ h. sym (ap replyOf (gives-20 out e h .answer)));
+  kept = λ out h. sym (gives-20 out e h .output);
+  written = λ out h. (sym (ap replyOf (gives-result out e h .answer)), sym (gives-result out e h .output));
 }
   where
-    lacks : (out : List ℕ) (x : Bool) → leb (length w) (length out) ≡ x → says out ≡ refusal 20 0 → length out < length w
-    lacks out true p h = absurd (omega (arith, z, ap (λ (r : Reply). r .refusal) (sym (holds out p .0) ∙ h)))
+    lacks : (out : List ℕ) (b : Bool) → leb (length (r .written)) (length out) ≡ b → replyTo x out ≡ refusal 20 0 → length out < length (r .written)
+    lacks out true p h = absurd (omega (arith, ap (λ (y : Reply). y .refusal) (ap replyOf (gives-result out e (leb-true _ _ p) .answer) ∙ h)))
     lacks out false p h = leb-false _ _ p
 
 -- a file is told by the call that writes it
-pub delivered-once : {says : List ℕ → Reply} {after : List ℕ → List ℕ} {v w : List ℕ}
-    → Delivers says after (result (length v) 0 0) v → Delivers says after (result (length w) 0 0) w → v ≡ w
-delivered-once {says} {after} {v} {w} x y =
+pub delivered-once : {r : Res Result} {v w : List ℕ} → Delivers r (result (length v) 0 0) v → Delivers r (result (length w) 0 0) w → v ≡ w
+delivered-once {r} {v} {w} x y =
     let out : List ℕ = v ++ w in
     let i = x .written out (omega (arith, length-append v w)) in
     let j = y .written out (omega (arith, length-append v w)) in
@@ -105,8 +104,8 @@ pieces-once ps qs a h q =
 
 -- ---- cutting's answers
 
-pieces-refused : {n t m line : ℕ} → Refused m line ≡ Pieces n t → ⊥
-pieces-refused e = let z : _≡_ {A = ℕ} 0 1 = cc in omega arith
+done-refused : {a b c m line : ℕ} → Refused m line ≡ Done a b c → ⊥
+done-refused e = let z : _≡_ {A = ℕ} 0 1 = cc in omega arith
 
 -- a list was planned for a valid ID
 record Planned (id : List ℕ) (c : ℕ) (b : Notebook) (ps : List (List ℕ)) : Type 0 where
@@ -116,7 +115,7 @@ record Planned (id : List ℕ) (c : ℕ) (b : Notebook) (ps : List (List ℕ)) :
 module _ (f : List ℕ) (b : Notebook) (c : ℕ) (id : List ℕ) (e : readFile f ≡ ok b) where
   list-found : (ps : List (List ℕ)) → cutList f c id ≡ ok ps → Planned id c b ps
   unfolding cutList
-  list-found ps l = go (validID id) refl (cutting id c b) refl (sym (ap (found id c) e) ∙ l)
+  list-found ps l = go (validID id) refl (cutting id c b) refl (sym (ap (λ (r : Res Notebook). andThen r (found id c)) e) ∙ l)
     where
       go : (v : Bool) → validID id ≡ v → (m : Option (List (List ℕ))) → cutting id c b ≡ m → cond v (listed m) (refused 17 0) ≡ ok ps → Planned id c b ps
       go true p none q l = absurd (no-refusal l)
@@ -125,7 +124,7 @@ module _ (f : List ℕ) (b : Notebook) (c : ℕ) (id : List ℕ) (e : readFile f
 
   list-of : validID id ≡ true → cutList f c id ≡ listed (cutting id c b)
   unfolding cutList
-  list-of v = ap (found id c) e ∙ rw v
+  list-of v = ap (λ (r : Res Notebook). andThen r (found id c)) e ∙ rw v
 
   -- ---- a list that was written
 
@@ -134,22 +133,26 @@ module _ (f : List ℕ) (b : Notebook) (c : ℕ) (id : List ℕ) (e : readFile f
     found : Planned id c b list
     count : length list ≡ n
     size : length (flat list) ≡ t
-    inside : t ≤ length (cutBuffer f c id out)
-    front : take t (cutBuffer f c id out) ≡ flat list
+    inside : t ≤ length (outputOf (cutResult f c id) out)
+    front : take t (outputOf (cutResult f c id) out) ≡ flat list
 
-  wrote : (out : List ℕ) (n t : ℕ) → cutOf f c id (length out) ≡ Pieces n t → Wrote out n t
-  unfolding cutOf cutBuffer
-  wrote out n t h = go (cutList f c id) refl h
+  wrote : (out : List ℕ) (n t : ℕ) → answerIn (cutResult f c id) out ≡ Done n t 0 → Wrote out n t
+  unfolding cutResult
+  wrote out n t h = go (cutList f c id) refl
     where
-      go : (r : Res (List (List ℕ))) → cutList f c id ≡ r → held r (length out) ≡ Pieces n t → Wrote out n t
-      go (refused m line) q h = absurd (pieces-refused h)
-      go (ok ps) q h = by (leb (length (flat ps)) (length out)) refl h
+      go : (r : Res (List (List ℕ))) → cutList f c id ≡ r → Wrote out n t
+      go (refused m line) q = absurd (done-refused (gives-refusal out (ap (mapRes writesPieces) q) .answer ∙ h))
+      go (ok ps) q = by (leb (length (flat ps)) (length out)) refl
         where
-          by : (x : Bool) → leb (length (flat ps)) (length out) ≡ x → cond x (Pieces (length ps) (length (flat ps))) (Refused 20 0) ≡ Pieces n t → Wrote out n t
-          by false p h = absurd (pieces-refused h)
-          by true p h =
+          given : mapRes writesPieces (cutList f c id) ≡ ok (writesPieces ps)
+          given = ap (mapRes writesPieces) q
+
+          by : (x : Bool) → leb (length (flat ps)) (length out) ≡ x → Wrote out n t
+          by false p = absurd (done-refused (gives-20 out given (leb-false _ _ p) .answer ∙ h))
+          by true p =
+              let d : Done (length ps) (length (flat ps)) 0 ≡ Done n t 0 = gives-result out given (leb-true _ _ p) .answer ∙ h in
               let s : length (flat ps) ≡ t = cc in
-              let w : cutBuffer f c id out ≡ flat ps ++ drop (length (flat ps)) out = rw (q, p) in
+              let w : outputOf (mapRes writesPieces (cutList f c id)) out ≡ flat ps ++ drop (length (flat ps)) out = sym (gives-result out given (leb-true _ _ p) .output) in
               record {
                 list = ps;
                 found = list-found ps q;
@@ -159,7 +162,7 @@ module _ (f : List ℕ) (b : Notebook) (c : ℕ) (id : List ℕ) (e : readFile f
                 front = ap (take t) w ∙ take-at (flat ps) (drop (length (flat ps)) out) t s;
               }
 
-  pub writes : (out : List ℕ) (n t : ℕ) → cutOf f c id (length out) ≡ Pieces n t → Written f c (cutBuffer f c id out) n t
+  pub writes : (out : List ℕ) (n t : ℕ) → answerIn (cutResult f c id) out ≡ Done n t 0 → Written f c (outputOf (cutResult f c id) out) n t
   writes out n t h =
       let w : Wrote out n t = wrote out n t h in
       let s : Sound f c (w .list) = sound f id b c e (w .found .valid) (w .list) (w .found .is) in
@@ -180,59 +183,64 @@ module _ (f : List ℕ) (b : Notebook) (c : ℕ) (id : List ℕ) (e : readFile f
 
   -- ---- no list
 
-  no-list-18 : validID id ≡ true → (room : ℕ) → cutting id c b ≡ none → cutOf f c id room ≡ Refused 18 0
-  unfolding cutOf
-  no-list-18 v room q = ap (λ (r : Res (List (List ℕ))). held r room) (list-of v ∙ ap listed q)
+  no-list-18 : validID id ≡ true → (out : List ℕ) → cutting id c b ≡ none → answerIn (cutResult f c id) out ≡ Refused 18 0
+  unfolding cutResult
+  no-list-18 v out q = sym (gives-refusal out (ap (mapRes writesPieces) (list-of v ∙ ap listed q)) .answer)
 
-  list-no-18 : validID id ≡ true → (room : ℕ) (ps : List (List ℕ)) → cutting id c b ≡ some ps → cutOf f c id room ≡ Refused 18 0 → ⊥
-  unfolding cutOf
-  list-no-18 v room ps q h = go (leb (length (flat ps)) room) (sym (ap (λ (r : Res (List (List ℕ))). held r room) (list-of v ∙ ap listed q)) ∙ h)
+  list-no-18 : validID id ≡ true → (out : List ℕ) (ps : List (List ℕ)) → cutting id c b ≡ some ps → answerIn (cutResult f c id) out ≡ Refused 18 0 → ⊥
+  unfolding cutResult
+  list-no-18 v out ps q h = go (leb (length (flat ps)) (length out)) refl
     where
-      go : (x : Bool) → cond x (Pieces (length ps) (length (flat ps))) (Refused 20 0) ≡ Refused 18 0 → ⊥
-      go true h = pieces-refused (sym h)
-      go false h = let z : _≡_ {A = ℕ} 20 18 = cc in omega arith
+      given : mapRes writesPieces (cutList f c id) ≡ ok (writesPieces ps)
+      given = ap (mapRes writesPieces) (list-of v ∙ ap listed q)
 
-  pub finds : validID id ≡ true → (room : ℕ) → (cutOf f c id room ≡ Refused 18 0) ↔ ((qs : List (List ℕ)) → Sound f c qs → ⊥)
-  finds v room = (
-    λ h qs s. let l : Listed id b c (length qs) = least id b c f e qs s in list-no-18 v room (l .list) (l .is) h,
+      go : (x : Bool) → leb (length (flat ps)) (length out) ≡ x → ⊥
+      go true p = done-refused (sym (gives-result out given (leb-true _ _ p) .answer ∙ h))
+      go false p =
+          let e : Refused 20 0 ≡ Refused 18 0 = gives-20 out given (leb-false _ _ p) .answer ∙ h in
+          let z : _≡_ {A = ℕ} 20 18 = cc in
+          omega arith
+
+  pub finds : validID id ≡ true → (out : List ℕ) → (answerIn (cutResult f c id) out ≡ Refused 18 0) ↔ ((qs : List (List ℕ)) → Sound f c qs → ⊥)
+  finds v out = (
+    λ h qs s. let l : Listed id b c (length qs) = least id b c f e qs s in list-no-18 v out (l .list) (l .is) h,
     λ h. go h (cutting id c b) refl,
   )
     where
-      go : ((qs : List (List ℕ)) → Sound f c qs → ⊥) → (m : Option (List (List ℕ))) → cutting id c b ≡ m → cutOf f c id room ≡ Refused 18 0
-      go h none q = no-list-18 v room q
+      go : ((qs : List (List ℕ)) → Sound f c qs → ⊥) → (m : Option (List (List ℕ))) → cutting id c b ≡ m → answerIn (cutResult f c id) out ≡ Refused 18 0
+      go h none q = no-list-18 v out q
       go h (some ps) q = absurd (h ps (sound f id b c e v ps q))
 
   -- ---- a list that is found
 
-  delivers : (ps : List (List ℕ)) → cutList f c id ≡ ok ps
-      → Delivers (cutSays f c id) (cutBuffer f c id) (result (length ps) (length (flat ps)) 0) (flat ps)
-  unfolding cutOf cutBuffer
-  delivers ps q = deliver refl (λ out h. (rw (q, h), rw (q, h))) (λ out h. (rw (q, h), rw (q, h)))
+  delivers : (ps : List (List ℕ)) → cutList f c id ≡ ok ps → Delivers (cutResult f c id) (result (length ps) (length (flat ps)) 0) (flat ps)
+  unfolding cutResult
+  delivers ps q = deliver (ap (mapRes writesPieces) q)
 
-  pub withholds : validID id ≡ true → (out : List ℕ) → (cutSays f c id out ≡ refusal 18 0 → ⊥) → Found f c id
+  pub withholds : validID id ≡ true → (out : List ℕ) → (replyTo (cutResult f c id) out ≡ refusal 18 0 → ⊥) → Found f c id
   withholds v out h = go (cutting id c b) refl
     where
       go : (m : Option (List (List ℕ))) → cutting id c b ≡ m → Found f c id
-      go none q = absurd (h (ap cutReply (no-list-18 v (length out) q)))
+      go none q = absurd (h (ap replyOf (no-list-18 v out q)))
       go (some ps) q = record { list = ps; sound = sound f id b c e v ps q; delivered = delivers ps (list-of v ∙ ap listed q) }
 
-  pub says : validID id ≡ true → (out : List ℕ) → OneOfThree (cutSays f c id out)
-  unfolding cutOf
+  pub says : validID id ≡ true → (out : List ℕ) → OneOfThree (replyTo (cutResult f c id) out)
+  unfolding answerIn cutResult
   says v out = rw (list-of v) (list (cutting id c b))
     where
-      room : (ps : List (List ℕ)) (x : Bool) → OneOfThree (cutReply (cond x (Pieces (length ps) (length (flat ps))) (Refused 20 0)))
+      room : (ps : List (List ℕ)) (x : Bool) → OneOfThree (replyOf (answerOf (cond x (ok (writesPieces ps)) (refused 20 0))))
       room ps true = inl (record { count = length ps; size = length (flat ps); is = refl })
       room ps false = inr (inr refl)
 
-      list : (m : Option (List (List ℕ))) → OneOfThree (cutReply (held (listed m) (length out)))
+      list : (m : Option (List (List ℕ))) → OneOfThree (replyOf (answerOf (fitting (mapRes writesPieces (listed m)) out)))
       list none = inr (inl refl)
       list (some ps) = room ps (leb (length (flat ps)) (length out))
 
 -- ---- canonical's answers
 
 pub canonical-file : (f : List ℕ) (b : Notebook) → readFile f ≡ ok b → CanonicalFile f (canonicalBytes b)
-unfolding canonicalOf canonicalBuffer
-canonical-file f b e = deliver refl (λ out h. (rw (e, h), rw (e, h))) (λ out h. (rw (e, h), rw (e, h)))
+unfolding canonicalResult canonicalFile
+canonical-file f b e = deliver (ap (λ (x : Res Notebook). mapRes writing (mapRes canonicalBytes x)) e)
 
 -- any file that canonical writes is the notebook's
 pub canonical-is : (f : List ℕ) (b : Notebook) (w : List ℕ) → readFile f ≡ ok b → CanonicalFile f w → w ≡ canonicalBytes b
@@ -241,23 +249,24 @@ canonical-is f b w e x = delivered-once x (canonical-file f b e)
 -- ---- joining's answers
 
 joined-file : (s w : List ℕ) → joinFile s ≡ ok w → JoinedFile s w
-unfolding joinOf joinBuffer
-joined-file s w e = deliver refl (λ out h. (rw (e, h), rw (e, h))) (λ out h. (rw (e, h), rw (e, h)))
+unfolding joinResult
+joined-file s w e = deliver (ap (mapRes writing) e)
 
 -- a refusal holds no bytes
 pub accepts : (s : List ℕ) (x : ℕ) (w : List ℕ) → (joinFile s ≡ ok (x ∷ w)) ↔ JoinedFile s (x ∷ w)
-unfolding joinOf
+unfolding joinResult
 accepts s x w = (joined-file s (x ∷ w), λ d. go (joinFile s) refl d)
   where
     go : (r : Res (List ℕ)) → joinFile s ≡ r → JoinedFile s (x ∷ w) → joinFile s ≡ ok (x ∷ w)
     go (ok v) q d = q ∙ ap ok (delivered-once (joined-file s v q) d)
     go (refused n line) q d =
-        let a : joinReply (held-join (joinFile s) (length (x ∷ w))) ≡ result (length (x ∷ w)) 0 0 = d .written (x ∷ w) (le-refl _) .0 in
-        let z : 0 ≡ length (x ∷ w) = ap (λ (r : Reply). r .a) (rw q at a) in
+        let a : refusal n line ≡ result (length (x ∷ w)) 0 0 =
+        ap replyOf (gives-refusal (x ∷ w) (ap (mapRes writing) q) .answer) ∙ d .written (x ∷ w) (le-refl _) .0 in
+        let z : 0 ≡ length (x ∷ w) = ap (λ (r : Reply). r .a) a in
         absurd (omega (arith, z))
 
-pub joins-back : (f : List ℕ) (b : Notebook) (c : ℕ) (id out : List ℕ) → readFile f ≡ ok b → (n t : ℕ) → cutOf f c id (length out) ≡ Pieces n t
-    → (ps qs : List (List ℕ)) → ListIn (cutBuffer f c id out) n t ps → Perm ps qs → (w : List ℕ) → CanonicalFile f w → JoinedFile (flat qs) w
+pub joins-back : (f : List ℕ) (b : Notebook) (c : ℕ) (id out : List ℕ) → readFile f ≡ ok b → (n t : ℕ) → answerIn (cutResult f c id) out ≡ Done n t 0
+    → (ps qs : List (List ℕ)) → ListIn (outputOf (cutResult f c id) out) n t ps → Perm ps qs → (w : List ℕ) → CanonicalFile f w → JoinedFile (flat qs) w
 joins-back f b c id out e n t h ps qs i m w x =
     let o : Wrote f b c id e out n t = wrote f b c id e out n t h in
     let s : Sound f c (o .list) = sound f id b c e (o .found .valid) (o .list) (o .found .is) in

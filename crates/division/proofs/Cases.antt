@@ -5,7 +5,7 @@ use mathlib.Core.Path.{_≡_, refl, ap, _∙_}
 use mathlib.Core.Bool.{false, cond}
 use mathlib.Core.List.{List, [], _∷_, map}
 use lib.ListN.{length}
-use Rattle.lists.specs.Lists.{bytes, Res, ok, refused}
+use Rattle.lists.specs.Lists.{bytes, Res, ok, refused, mapRes, andThen}
 use Rattle.digits.specs.Digits.{spell}
 use Rattle.characters.specs.Rows.{isLine}
 use Rattle.calendar.specs.Digits.{numberFrom}
@@ -22,17 +22,18 @@ use Rattle.rules.specs.Rules.{pairBroken, misplaced, closesRp, lacking, missing
 use Rattle.order.specs.State.{none, start, hadAfter, advance, refusalOf, stepOf, finishOf}
 use Rattle.notebook.specs.Facts.{factsOf}
 use Rattle.notebook.specs.Notebook.{Notebook, stepLine, closed, onward, recordsFrom, readRows, readFile}
-use Rattle.notebook.specs.Check.{count, checkOf}
-use Rattle.notebook.specs.Canonical.{recordRows, canonicalBytes, canonicalOf}
+use Rattle.notebook.specs.Check.{count, checkResult}
+use Rattle.notebook.specs.Canonical.{recordRows, canonicalBytes, canonicalFile, canonicalResult}
 use Rattle.printing.specs.Printed.{digitsOf as decimalDigits, decimal as decimalOf, numbers, line, printed}
 use Rattle.packing.specs.Packing.{total, put}
 use Rattle.packing.specs.Widths.{Plan, past, digitsOf, over, serves}
 use Rattle.packing.proofs.Computed.{packed, tried, planned, plan-is}
 use Rattle.division.specs.Marks.{validID, markLine, markRow}
-use Rattle.replies.specs.declared.Cutting.{Cutting}
-use Rattle.replies.specs.declared.Cutting.the-variants.{Pieces, Refused}
-use Rattle.division.specs.Cut.{pieceBytes, numbered, planned as piecesOf, cutting, listed, found, cutList, held, cutOf}
-use Rattle.division.specs.Cases.{withNotes, Case, cases, answer}
+use Rattle.replies.specs.declared.Answer.{Answer}
+use Rattle.replies.specs.declared.Answer.the-variants.{Done, Refused}
+use Rattle.replies.specs.Results.{answerOf, fitting, answerIn}
+use Rattle.division.specs.Cut.{pieceBytes, numbered, planned as piecesOf, cutting, listed, found, cutList, writesPieces, cutResult}
+use Rattle.division.specs.Cases.{withNotes, Case, cases, thousand, answer}
 
 -- ---- the files of the cases of cutting, read
 
@@ -63,27 +64,33 @@ abbrev ident : List ℕ
 ident = bytes "20261115000001"
 
 -- the answer from the notebook on, of which only what is needed is computed
-abbrev computed : ℕ → Notebook → Cutting
-computed c b = held (cond (validID ident) (listed (piecesOf ident b (planned length c (recordRows (b .records))))) (refused 17 0)) 1000
+abbrev answering : Res (List (List ℕ)) → Answer
+answering x = answerOf (fitting (mapRes writesPieces x) thousand)
 
-answered : (s : List ℕ) (b : Notebook) (c : ℕ) → readFile s ≡ ok b → cutOf s c ident 1000 ≡ computed c b
-unfolding cutOf cutList cutting
+abbrev planning : Notebook → Plan (List ℕ) → Answer
+planning b p = answering (cond (validID ident) (listed (piecesOf ident b p)) (refused 17 0))
+
+abbrev computed : ℕ → Notebook → Answer
+computed c b = planning b (planned length c (recordRows (b .records)))
+
+answered : (s : List ℕ) (b : Notebook) (c : ℕ) → readFile s ≡ ok b → answerIn (cutResult s c ident) thousand ≡ computed c b
+unfolding answerIn cutResult cutList cutting
 answered s b c e =
-    ap (λ (r : Res Notebook). held (found ident c r) 1000) e
-    ∙ ap (λ (p : Plan (List ℕ)). held (cond (validID ident) (listed (piecesOf ident b p)) (refused 17 0)) 1000) (plan-is length c (recordRows (b .records)))
+    ap (λ (r : Res Notebook). answering (andThen r (found ident c))) e
+    ∙ ap (planning b) (plan-is length c (recordRows (b .records)))
 
-abbrev Cut : ℕ → ℕ → Cutting → Type 0
-Cut n c r = cutOf (withNotes n) c ident 1000 ≡ r
+abbrev Cut : ℕ → ℕ → Answer → Type 0
+Cut n c r = answerIn (cutResult (withNotes n) c ident) thousand ≡ r
 
 cut : (n c : ℕ) → Read n → Cut n c (computed c (book n))
 cut n c e = answered (withNotes n) (book n) c e
 
-cuts : Cut 20 69 (Pieces 6 404) × Cut 18 60 (Pieces 10 547) × Cut 18 59 (Refused 18 0) × Cut 2 51 (Pieces 1 51) × Cut 2 50 (Refused 18 0)
+cuts : Cut 20 69 (Done 6 404 0) × Cut 18 60 (Done 10 547 0) × Cut 18 59 (Refused 18 0) × Cut 2 51 (Done 1 51 0) × Cut 2 50 (Refused 18 0)
 unfolding notes book bytes spell eraOn inEra writeDay joined header write recordRows canonicalBytes total put packed past digitsOf over serves tried planned validID markLine markRow pieceBytes numbered t911
 cuts = (cut 20 69 (reads .0), cut 18 60 (reads .1), cut 18 59 (reads .1), cut 2 51 (reads .2), cut 2 50 (reads .2))
 
 -- ---- ALL CASES
 
 pub cases-hold : map (λ (c : Case). answer (c .asked)) cases ≡ map (λ (c : Case). c .said) cases
-unfolding bytes spell isLine numberFrom leap monthLength isReal isDay gregorian eraOf eraOn inEra fromEra readDay writeDay table edge oneWidth decimal sized fault value itemFault itemValue itemsFault itemsValue rowIn rowOf pairs t911 recordFrom faultFrom faultWhere lineFault recordOf header inGroup mayFollow pairBroken misplaced closesRp lacking missing valueWrong newerGroup refusal unfinished none start hadAfter advance refusalOf stepOf finishOf factsOf stepLine closed onward recordsFrom readRows readFile count checkOf joined write recordRows canonicalBytes canonicalOf decimalDigits decimalOf numbers line printed
+unfolding bytes spell isLine numberFrom leap monthLength isReal isDay gregorian eraOf eraOn inEra fromEra readDay writeDay table edge oneWidth decimal sized fault value itemFault itemValue itemsFault itemsValue rowIn rowOf pairs t911 recordFrom faultFrom faultWhere lineFault recordOf header inGroup mayFollow pairBroken misplaced closesRp lacking missing valueWrong newerGroup refusal unfinished none start hadAfter advance refusalOf stepOf finishOf factsOf stepLine closed onward recordsFrom readRows readFile count checkResult joined write recordRows canonicalBytes canonicalFile canonicalResult answerIn decimalDigits decimalOf numbers line printed
 cases-hold = rw (cuts .4, cuts .3, cuts .2, cuts .1, cuts .0) refl

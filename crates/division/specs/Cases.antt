@@ -4,7 +4,7 @@
 use Prim.Native.Nat.{ℕ, zero, suc}
 use Prim.Native.String.{String}
 use mathlib.Core.List.{List, [], _∷_, _++_}
-use lib.ListN.{length}
+use lib.ListN.{length, replicate}
 use Rattle.lists.specs.Lists.{bytes}
 use Rattle.characters.specs.Rows.{lineEnd}
 use Rattle.calendar.specs.declared.DateRead.{DateRead}
@@ -14,12 +14,13 @@ use Rattle.eras.specs.Era.{writeDay}
 use Rattle.records.specs.Table.{Kind, Q, D}
 use Rattle.records.specs.Items.{fault as faultOf}
 use Rattle.replies.specs.declared.Reply.{Reply}
-use Rattle.replies.specs.Replies.{refusal, result, checkReply, canonicalReply, cutReply}
+use Rattle.replies.specs.Replies.{refusal, result}
+use Rattle.replies.specs.Results.{replyTo}
 use Rattle.printing.specs.Printed.{printed}
-use Rattle.notebook.specs.Check.{checkOf}
+use Rattle.notebook.specs.Check.{checkResult}
 use Rattle.notebook.specs.Samples.{smallFile}
-use Rattle.notebook.specs.Canonical.{canonicalOf}
-use Rattle.division.specs.Cut.{cutOf}
+use Rattle.notebook.specs.Canonical.{canonicalResult}
+use Rattle.division.specs.Cut.{cutResult}
 
 pub data Asked : Type 0 where
   -- the day that a date is read to, and how that day is written
@@ -97,12 +98,16 @@ abbrev pub dated : DateRead → Said
 dated (Date d) = day (d .ymd) (writeDay (d .ymd))
 dated NotADate = noDay
 
--- an output of a thousand bytes, and an ID of 14 digits
+-- an output of a thousand bytes
+abbrev pub thousand : List ℕ
+thousand = replicate 1000 0
+
+-- check has no output; cut has an ID of 14 digits
 abbrev pub answer : Asked → Said
 answer (date s) = dated (readDay (bytes s))
 answer (item k s) = fault (faultOf k (bytes s))
 answer (size s) = count (length s)
-answer (check s) = reply (checkReply (checkOf s))
-answer (canonical s) = reply (canonicalReply (canonicalOf s 1000))
-answer (cut s c) = reply (cutReply (cutOf s c (bytes "20261115000001") 1000))
-answer (prints s) = line (printed 3 (checkReply (checkOf s)))
+answer (check s) = reply (replyTo (checkResult s) [])
+answer (canonical s) = reply (replyTo (canonicalResult s) thousand)
+answer (cut s c) = reply (replyTo (cutResult s c (bytes "20261115000001")) thousand)
+answer (prints s) = line (printed 3 (replyTo (checkResult s) []))

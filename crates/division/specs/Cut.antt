@@ -4,16 +4,14 @@ use Prim.Native.Nat.{ℕ, suc}
 use mathlib.Core.Bool.{Bool, true, false, cond}
 use mathlib.Core.Option.{Option, none, some}
 use mathlib.Core.List.{List, [], _∷_, _++_}
-use lib.Dec.{leb}
-use lib.ListN.{length, drop}
-use Rattle.lists.specs.Lists.{Res, ok, refused}
+use lib.ListN.{length}
+use Rattle.lists.specs.Lists.{Res, ok, refused, mapRes, andThen}
 use Rattle.characters.specs.Rows.{flat}
 use Rattle.notebook.specs.Notebook.{Notebook, readFile}
 use Rattle.notebook.specs.Canonical.{headRow, recordRows, canonicalBytes}
 use Rattle.packing.specs.Widths.{Plan, whole, split, fails, plan}
 use Rattle.division.specs.Marks.{validID, markRow}
-use Rattle.replies.specs.declared.Cutting.{Cutting}
-use Rattle.replies.specs.declared.Cutting.the-variants.{Pieces, Refused}
+use Rattle.replies.specs.Results.{Result}
 
 -- ---- the pieces
 
@@ -36,36 +34,21 @@ planned id b fails = none
 unfoldable pub cutting : List ℕ → ℕ → Notebook → Option (List (List ℕ))
 cutting id c b = planned id b (plan length c (recordRows (b .records)))
 
--- ---- the answer, and the output at exit
+-- ---- the list that is written, or a refusal: the file's, then 17, then 18
 
--- the list that is written, and its count; or a refusal. 17, then 18
 abbrev pub listed : Option (List (List ℕ)) → Res (List (List ℕ))
 listed none = refused 18 0
 listed (some ps) = ok ps
 
-abbrev pub found : List ℕ → ℕ → Res Notebook → Res (List (List ℕ))
-found id c (ok b) = cond (validID id) (listed (cutting id c b)) (refused 17 0)
-found id c (refused n line) = refused n line
+abbrev pub found : List ℕ → ℕ → Notebook → Res (List (List ℕ))
+found id c b = cond (validID id) (listed (cutting id c b)) (refused 17 0)
 
 unfoldable pub cutList : List ℕ → ℕ → List ℕ → Res (List (List ℕ))
-cutList s c id = found id c (readFile s)
+cutList s c id = andThen (readFile s) (found id c)
 
--- then 20; room: the output's bytes
-abbrev pub held : Res (List (List ℕ)) → ℕ → Cutting
-held (ok ps) room = cond (leb (length (flat ps)) room) (Pieces (length ps) (length (flat ps))) (Refused 20 0)
-held (refused n line) room = Refused n line
+-- "the result holds their count and total length": a pieces, b bytes
+abbrev pub writesPieces : List (List ℕ) → Result
+writesPieces ps = record { a = length ps; b = length (flat ps); c = 0; written = flat ps }
 
-unfoldable pub cutOf : List ℕ → ℕ → List ℕ → ℕ → Cutting
-cutOf s c id room = held (cutList s c id) room
-
-abbrev pub bytesOf : Res (List (List ℕ)) → List ℕ
-bytesOf (ok ps) = flat ps
-bytesOf (refused n line) = []
-
--- "Bytes past a written result keep their contents"
-abbrev pub bufferAfter : Cutting → List ℕ → List ℕ → List ℕ
-bufferAfter (Pieces n t) w d = w ++ drop (length w) d
-bufferAfter (Refused n line) w d = d
-
-unfoldable pub cutBuffer : List ℕ → ℕ → List ℕ → List ℕ → List ℕ
-cutBuffer s c id d = bufferAfter (cutOf s c id (length d)) (bytesOf (cutList s c id)) d
+unfoldable pub cutResult : List ℕ → ℕ → List ℕ → Res Result
+cutResult s c id = mapRes writesPieces (cutList s c id)

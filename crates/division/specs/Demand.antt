@@ -7,16 +7,17 @@ use mathlib.Core.Logic.{_↔_, _⊎_}
 use mathlib.Core.Bool.{true}
 use mathlib.Core.List.{List, [], _∷_, _++_}
 use lib.ListN.{length, take, drop}
-use Rattle.lists.specs.Lists.{All, ok}
+use Rattle.lists.specs.Lists.{All, Res, ok}
 use Rattle.characters.specs.Rows.{flat}
 use Rattle.notebook.specs.Notebook.{Notebook, readFile}
-use Rattle.notebook.specs.Canonical.{canonicalOf, canonicalBuffer}
+use Rattle.notebook.specs.Canonical.{canonicalResult}
 use Rattle.division.specs.Marks.{validID}
 use Rattle.division.specs.Pieces.{Piece, split}
-use Rattle.division.specs.Cut.{cutOf, cutBuffer}
-use Rattle.division.specs.Join.{joinFile, joinOf, joinBuffer}
+use Rattle.division.specs.Cut.{cutResult}
+use Rattle.division.specs.Join.{joinFile, joinResult}
 use Rattle.replies.specs.declared.Reply.{Reply}
-use Rattle.replies.specs.Replies.{refusal, result, canonicalReply, cutReply, joinReply}
+use Rattle.replies.specs.Replies.{refusal, result}
+use Rattle.replies.specs.Results.{Result, replyTo, outputOf}
 use Rattle.division.specs.Orders.{Perm}
 
 -- ---- "Call a list of pieces sound for an accepted file and a capacity if .."
@@ -42,28 +43,19 @@ pub record Sound (f : List ℕ) (c : ℕ) (ps : List (List ℕ)) : Type 0 where
 
 -- ---- what the calls reply, in document 01's numbers, and leave in their outputs
 
-abbrev pub canonicalSays : List ℕ → List ℕ → Reply
-canonicalSays f out = canonicalReply (canonicalOf f (length out))
-
-abbrev pub cutSays : List ℕ → ℕ → List ℕ → List ℕ → Reply
-cutSays f c id out = cutReply (cutOf f c id (length out))
-
-abbrev pub joinSays : List ℕ → List ℕ → Reply
-joinSays s out = joinReply (joinOf s (length out))
-
 -- A call has the bytes w to write, the same for every output. An output that can't hold them is refused with 20 and left as lent, and no other
--- is; another has them in front, and "Bytes past a written result keep their contents". says: the reply to an output; after: the output then
-pub record Delivers (says : List ℕ → Reply) (after : List ℕ → List ℕ) (r : Reply) (w : List ℕ) : Type 0 where
-  pub withheld : (out : List ℕ) → (says out ≡ refusal 20 0) ↔ (length out < length w)
-  pub kept : (out : List ℕ) → length out < length w → after out ≡ out
-  pub written : (out : List ℕ) → length w ≤ length out → (says out ≡ r) × (after out ≡ w ++ drop (length w) out)
+-- is; another has them in front, and "Bytes past a written result keep their contents". x: what the call has to give; r: its reply then
+pub record Delivers (x : Res Result) (r : Reply) (w : List ℕ) : Type 0 where
+  pub withheld : (out : List ℕ) → (replyTo x out ≡ refusal 20 0) ↔ (length out < length w)
+  pub kept : (out : List ℕ) → length out < length w → outputOf x out ≡ out
+  pub written : (out : List ℕ) → length w ≤ length out → (replyTo x out ≡ r) × (outputOf x out ≡ w ++ drop (length w) out)
 
 -- "canonical and join the bytes written"
 abbrev pub CanonicalFile : List ℕ → List ℕ → Type 0
-CanonicalFile f w = Delivers (canonicalSays f) (canonicalBuffer f) (result (length w) 0 0) w
+CanonicalFile f w = Delivers (canonicalResult f) (result (length w) 0 0) w
 
 abbrev pub JoinedFile : List ℕ → List ℕ → Type 0
-JoinedFile s w = Delivers (joinSays s) (joinBuffer s) (result (length w) 0 0) w
+JoinedFile s w = Delivers (joinResult s) (result (length w) 0 0) w
 
 -- ---- what cutting wrote
 
@@ -90,7 +82,8 @@ pub record Written (f : List ℕ) (c : ℕ) (out : List ℕ) (n t : ℕ) : Type 
   pub only : (qs : List (List ℕ)) → ListIn out (length qs) t qs → qs ≡ list
 
 abbrev pub Cutting-writes : Type 0
-Cutting-writes = ForFile (λ f b c id out. (n t : ℕ) → cutSays f c id out ≡ result n t 0 → Written f c (cutBuffer f c id out) n t)
+Cutting-writes =
+    ForFile (λ f b c id out. (n t : ℕ) → replyTo (cutResult f c id) out ≡ result n t 0 → Written f c (outputOf (cutResult f c id) out) n t)
 
 -- ---- what cutting finds
 
@@ -98,17 +91,17 @@ Cutting-writes = ForFile (λ f b c id out. (n t : ℕ) → cutSays f c id out �
 -- finds no list when it answers 18"
 abbrev pub Cutting-finds : Type 0
 Cutting-finds =
-    ForFile (λ f b c id out. validID id ≡ true → (cutSays f c id out ≡ refusal 18 0) ↔ ((qs : List (List ℕ)) → Sound f c qs → ⊥))
+    ForFile (λ f b c id out. validID id ≡ true → (replyTo (cutResult f c id) out ≡ refusal 18 0) ↔ ((qs : List (List ℕ)) → Sound f c qs → ⊥))
 
 -- "A list found is withheld exactly when the output can't hold it": it "withholds one when it answers 20"; else it is written. A list is
 -- found if some output is not answered with 18, and it is one list for every output.
 pub record Found (f : List ℕ) (c : ℕ) (id : List ℕ) : Type 0 where
   pub list : List (List ℕ)
   pub sound : Sound f c list
-  pub delivered : Delivers (cutSays f c id) (cutBuffer f c id) (result (length list) (length (flat list)) 0) (flat list)
+  pub delivered : Delivers (cutResult f c id) (result (length list) (length (flat list)) 0) (flat list)
 
 abbrev pub Cutting-withholds : Type 0
-Cutting-withholds = ForFile (λ f b c id out. validID id ≡ true → (cutSays f c id out ≡ refusal 18 0 → ⊥) → Found f c id)
+Cutting-withholds = ForFile (λ f b c id out. validID id ≡ true → (replyTo (cutResult f c id) out ≡ refusal 18 0 → ⊥) → Found f c id)
 
 -- So for an accepted file and a valid ID cutting writes a list, finds none or withholds one, and says nothing else: "Cutting: 1–16, 17, 18, 20"
 pub record Writes (r : Reply) : Type 0 where
@@ -120,7 +113,7 @@ abbrev pub OneOfThree : Reply → Type 0
 OneOfThree r = Writes r ⊎ ((r ≡ refusal 18 0) ⊎ (r ≡ refusal 20 0))
 
 abbrev pub Cutting-says : Type 0
-Cutting-says = ForFile (λ f b c id out. validID id ≡ true → OneOfThree (cutSays f c id out))
+Cutting-says = ForFile (λ f b c id out. validID id ≡ true → OneOfThree (replyTo (cutResult f c id) out))
 
 -- ---- joining and canonical
 
@@ -132,8 +125,8 @@ Joining-accepts = (s : List ℕ) (x : ℕ) (w : List ℕ) → (joinFile s ≡ ok
 -- "Joining our pieces, in whichever order they lie, gives the canonical file of the file that was cut, when the output can hold it."
 abbrev pub Joining-restores : Type 0
 Joining-restores =
-    ForFile (λ f b c id out. (n t : ℕ) → cutSays f c id out ≡ result n t 0 → (ps qs : List (List ℕ)) → ListIn (cutBuffer f c id out) n t ps
-    → Perm ps qs → (w : List ℕ) → CanonicalFile f w → JoinedFile (flat qs) w)
+    ForFile (λ f b c id out. (n t : ℕ) → replyTo (cutResult f c id) out ≡ result n t 0
+    → (ps qs : List (List ℕ)) → ListIn (outputOf (cutResult f c id) out) n t ps → Perm ps qs → (w : List ℕ) → CanonicalFile f w → JoinedFile (flat qs) w)
 
 -- "Two accepted files have equal canonical files exactly when they carry the same notebook, and then neither is shorter than that canonical
 -- file." The canonical file is what the call canonical has to write, and each accepted file has one.

@@ -5,8 +5,8 @@ use mathlib.Core.Option.{Option, none, some}
 use mathlib.Core.List.{List, [], _∷_, _++_}
 use Rattle.lists.specs.Lists.{bytes, Res, ok, refused}
 use Rattle.characters.specs.Rows.{lineEnd, endMark}
-use Rattle.replies.specs.declared.Cutting.{Cutting}
-use Rattle.replies.specs.declared.Cutting.the-variants.{Pieces, Refused}
+use Rattle.replies.specs.declared.Answer.{Answer}
+use Rattle.replies.specs.declared.Answer.the-variants.{Done, Refused}
 use Rattle.division.specs.Marks.{Mark}
 
 -- each line with its line end
@@ -121,10 +121,10 @@ asked =
     ∷ ask (lines (bytes "JAHISTC04,2" ∷ [])) 43 (bytes "1") 43
     ∷ []
 
-abbrev pub theirAnswers : List Cutting
+abbrev pub theirAnswers : List Answer
 theirAnswers =
-    Pieces 1 43 ∷ Pieces 1 43 ∷ Refused 20 0
-    ∷ Refused 18 0 ∷ Pieces 2 131
-    ∷ Pieces 1 43 ∷ Refused 17 0 ∷ Refused 17 0
+    Done 1 43 0 ∷ Done 1 43 0 ∷ Refused 20 0
+    ∷ Refused 18 0 ∷ Done 2 131 0
+    ∷ Done 1 43 0 ∷ Refused 17 0 ∷ Refused 17 0
     ∷ Refused 14 2
     ∷ []

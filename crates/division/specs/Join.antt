@@ -7,15 +7,14 @@ use mathlib.Core.Bool.{Bool, true, false, cond, not, _&&_, Bool·beq}
 use mathlib.Core.Option.{Option, none, some}
 use mathlib.Core.List.{List, [], _∷_, _++_}
 use lib.Dec.{leb, eqb}
-use lib.ListN.{length, drop}
-use Rattle.lists.specs.Lists.{same, Res, ok, refused}
+use lib.ListN.{length}
+use Rattle.lists.specs.Lists.{same, Res, ok, refused, mapRes, andThen}
 use Rattle.characters.specs.Text.{text}
 use Rattle.records.specs.Records.{isMark}
 use Rattle.notebook.specs.Notebook.{Notebook, readFile}
 use Rattle.division.specs.Marks.{Mark, readMark}
 use Rattle.division.specs.Pieces.{Piece, split, fileOf}
-use Rattle.replies.specs.declared.Joining.{Joining}
-use Rattle.replies.specs.declared.Joining.the-variants.{Joined, Refused}
+use Rattle.replies.specs.Results.{Result, writes}
 
 -- ---- one piece without a record 911
 
@@ -103,8 +102,7 @@ orSet none = refused 19 0
 orSet (some p) = ok (fileOf p)
 
 abbrev pub joinSplit : Res (List Piece) → Res (List ℕ)
-joinSplit (ok ps) = orSet (joinPieces ps)
-joinSplit (refused n line) = refused n line
+joinSplit x = andThen x (λ (ps : List Piece). orSet (joinPieces ps))
 
 unfoldable pub joinedFile : List ℕ → Res (List ℕ)
 joinedFile s = cond (leb (length s) 131072) (joinSplit (split s)) (refused 1 0)
@@ -112,35 +110,15 @@ joinedFile s = cond (leb (length s) 131072) (joinSplit (split s)) (refused 1 0)
 -- ---- "it is then checked as a file"
 
 abbrev pub checkedFile : List ℕ → Res Notebook → Res (List ℕ)
-checkedFile w (ok b) = ok w
-checkedFile w (refused n line) = refused n line
+checkedFile w x = mapRes (λ (b : Notebook). w) x
 
 abbrev pub thenChecked : Res (List ℕ) → Res (List ℕ)
-thenChecked (ok w) = checkedFile w (readFile w)
-thenChecked (refused n line) = refused n line
+thenChecked x = andThen x (λ (w : List ℕ). checkedFile w (readFile w))
 
 -- the file that joining answers, or a refusal but for 20: "In demand 3, joining accepts a list if none of 1, 2 and 19 arises from the list
 -- and none of 1–16 from the joined file"
 unfoldable pub joinFile : List ℕ → Res (List ℕ)
 joinFile s = thenChecked (joinedFile s)
 
--- ---- the answer, and the output at exit
-
-abbrev pub held : Res (List ℕ) → ℕ → Joining
-held (ok w) room = cond (leb (length w) room) (Joined (length w)) (Refused 20 0)
-held (refused n line) room = Refused n line
-
-unfoldable pub joinOf : List ℕ → ℕ → Joining
-joinOf s room = held (joinFile s) room
-
-abbrev pub bytesOf : Res (List ℕ) → List ℕ
-bytesOf (ok w) = w
-bytesOf (refused n line) = []
-
--- "Bytes past a written result keep their contents"
-abbrev pub bufferAfter : Joining → List ℕ → List ℕ → List ℕ
-bufferAfter (Joined t) w d = w ++ drop (length w) d
-bufferAfter (Refused n line) w d = d
-
-unfoldable pub joinBuffer : List ℕ → List ℕ → List ℕ
-joinBuffer s d = bufferAfter (joinOf s (length d)) (bytesOf (joinFile s)) d
+unfoldable pub joinResult : List ℕ → Res Result
+joinResult s = mapRes writes (joinFile s)

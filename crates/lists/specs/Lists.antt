@@ -77,6 +77,16 @@ pub data Res (A : Type 0) : Type 0 where
   ok : A → Res A
   refused : ℕ → ℕ → Res A
 
+-- what is made of the value; a refusal stays
+abbrev pub mapRes : {A B : Type 0} → (A → B) → Res A → Res B
+mapRes f (ok x) = ok (f x)
+mapRes f (refused n line) = refused n line
+
+-- what comes after the value; a refusal comes first
+abbrev pub andThen : {A B : Type 0} → Res A → (A → Res B) → Res B
+andThen (ok x) f = f x
+andThen (refused n line) f = refused n line
+
 -- Faults are numbers of document 01's table, 0 for none. "Within it the lowest number": the first fault of two.
 infixr 20 _orElse_
 abbrev pub _orElse_ : ℕ → ℕ → ℕ

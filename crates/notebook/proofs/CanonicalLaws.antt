@@ -9,7 +9,7 @@ use mathlib.Core.Bool.{Bool, true}
 use mathlib.Core.List.{List, [], _∷_, _++_}
 use lib.ListN.{length, take, drop, length-append}
 use lib.Seq.{take-at, drop-at}
-use Rattle.lists.specs.Lists.{All, Res, ok}
+use Rattle.lists.specs.Lists.{All, Res, ok, mapRes}
 use Rattle.characters.specs.Text.{clean, text}
 use Rattle.characters.specs.Rows.{rows, flat, lineEnd}
 use Rattle.characters.proofs.RowLaws.{flat-rows, line-is, line-text}
@@ -17,8 +17,9 @@ use Rattle.records.specs.Records.{Record, ok as read, readLine, recordOf, lineF
 use Rattle.records.proofs.LineLaws.{reads, read-is}
 use Rattle.records.proofs.TheLanguage.{round, short, clear}
 use Rattle.notebook.specs.Notebook.{Notebook, readFile}
-use Rattle.notebook.specs.Check.{counted, checked, checkOf}
-use Rattle.notebook.specs.Canonical.{headRow, recordRow, recordRows, canonicalBytes, answered, canonicalOf}
+use Rattle.replies.specs.Results.{Result, writes}
+use Rattle.notebook.specs.Check.{counted, checkResult}
+use Rattle.notebook.specs.Canonical.{headRow, recordRow, recordRows, canonicalBytes, canonicalFile, canonicalResult}
 use Rattle.notebook.proofs.Accepted.{IsLine, head-length, line-bytes, rows-flat, Reads, Lines, none, more, lines-are, Taken, Carried, accepted, carries}
 
 -- ---- one record: its canonical row is read to it, and is no longer
@@ -119,9 +120,9 @@ module _ (f : List ℕ) (b : Notebook) (e : readFile f ≡ ok b) where
   reread : readFile (canonicalBytes b) ≡ readFile f
   reread = canonical-carries ∙ sym e
 
-  pub canonical-own : (room : ℕ) → canonicalOf (canonicalBytes b) room ≡ canonicalOf f room
-  unfolding canonicalOf
-  canonical-own room = ap (λ (x : Res Notebook). answered x room) reread
+  pub canonical-own : canonicalResult (canonicalBytes b) ≡ canonicalResult f
+  unfolding canonicalResult canonicalFile
+  canonical-own = ap (λ (x : Res Notebook). mapRes writes (mapRes canonicalBytes x)) reread
 
   pub canonical-fixed : (a : Notebook) → readFile (canonicalBytes b) ≡ ok a → canonicalBytes a ≡ canonicalBytes b
   canonical-fixed a h = let q : a ≡ b = carried-once h canonical-carries in ap canonicalBytes q
@@ -130,13 +131,13 @@ module _ (f : List ℕ) (b : Notebook) (e : readFile f ≡ ok b) where
       carried-once p q = cc
 
   -- the counts are the notebook's
-  pub check-counts : checkOf f ≡ counted (b .records)
-  unfolding checkOf
-  check-counts = ap checked e
+  pub check-counts : checkResult f ≡ ok (counted b)
+  unfolding checkResult
+  check-counts = ap (mapRes counted) e
 
-  pub check-canonical : checkOf (canonicalBytes b) ≡ checkOf f
-  unfolding checkOf
-  check-canonical = ap checked reread
+  pub check-canonical : checkResult (canonicalBytes b) ≡ checkResult f
+  unfolding checkResult
+  check-canonical = ap (mapRes counted) reread
 
 -- TWO ACCEPTED FILES HAVE EQUAL CANONICAL FILES exactly when they carry the same notebook
 pub canonical-same : (f g : List ℕ) (a b : Notebook) → readFile f ≡ ok a → readFile g ≡ ok b → (canonicalBytes a ≡ canonicalBytes b) ↔ (a ≡ b)

@@ -10,7 +10,7 @@ use mathlib.Core.List.{List, [], _∷_, _++_, head-eq-of-cons-eq, tail-eq-of-con
 use borrow.Author.Tests.{eq-eqb, ne-eqb, eqb-true, eqb-false}
 use lib.Dec.{eqb}
 use lib.ListN.{length, drop, length-append}
-use Rattle.lists.specs.Lists.{Res, ok, refused}
+use Rattle.lists.specs.Lists.{Res, ok, refused, mapRes}
 use Rattle.lists.proofs.Tests.{either}
 use Rattle.characters.specs.Text.{text}
 use Rattle.characters.specs.Rows.{rows}
@@ -21,10 +21,9 @@ use Rattle.rules.specs.Places.{oneOf, inFront, inRp, inRest, inGroup}
 use Rattle.order.specs.State.{none, start, hadAfter, advance, doctorOf, groupOf, drugOf}
 use Rattle.order.proofs.Laws.{provider-start, line-start, taken}
 use Rattle.notebook.specs.Facts.{factsOf}
-use Rattle.replies.specs.declared.Checked.{Checked}
-use Rattle.replies.specs.declared.Checked.the-variants.{Accepted, Refused}
+use Rattle.replies.specs.Results.{Result}
 use Rattle.notebook.specs.Notebook.{Notebook, readFile}
-use Rattle.notebook.specs.Check.{count, checked, checkOf}
+use Rattle.notebook.specs.Check.{count, counted, checkResult}
 use Rattle.notebook.specs.Index.{Entry, entryOf, entriesOf}
 use Rattle.notebook.specs.Meaning.{countEntries, Cuts, Each, lastLine, Stands}
 use Rattle.notebook.proofs.Walk.{Walk, over, more, accepted, walk-length}
@@ -38,20 +37,18 @@ unfolding countEntries count entryOf
 walk-count n over = refl
 walk-count n (more {r = r} l p w) = ap (λ (k : ℕ). cond (eqb ((recordOf (text r)) .number) n) 1 0 + k) (walk-count n w)
 
-pub index-counts : (s : List ℕ) (records groups drugs : ℕ) → checkOf s ≡ Accepted records groups drugs
-    → (length (entriesOf s) ≡ records) × (countEntries 5 (entriesOf s) ≡ groups) × (countEntries 201 (entriesOf s) ≡ drugs)
-unfolding checkOf
-index-counts s records groups drugs e = go (readFile s) refl e
+pub index-counts : (s : List ℕ) (c : Result) → checkResult s ≡ ok c
+    → (length (entriesOf s) ≡ c .a) × (countEntries 5 (entriesOf s) ≡ c .b) × (countEntries 201 (entriesOf s) ≡ c .c)
+unfolding checkResult
+index-counts s c e = go (readFile s) refl e
   where
-    go : (r : Res Notebook) → readFile s ≡ r → checked r ≡ Accepted records groups drugs
-        → (length (entriesOf s) ≡ records) × (countEntries 5 (entriesOf s) ≡ groups) × (countEntries 201 (entriesOf s) ≡ drugs)
+    go : (r : Res Notebook) → readFile s ≡ r → mapRes counted r ≡ ok c
+        → (length (entriesOf s) ≡ c .a) × (countEntries 5 (entriesOf s) ≡ c .b) × (countEntries 201 (entriesOf s) ≡ c .c)
     go (refused n line) q e = let z : _≡_ {A = ℕ} 0 1 = cc in absurd (omega arith)
     go (ok b) q e =
         let w = accepted s b q .walked in
-        let x : length (b .records) ≡ records = cc in
-        let y : count 5 (b .records) ≡ groups = cc in
-        let z : count 201 (b .records) ≡ drugs = cc in
-        (walk-length w ∙ x, walk-count 5 w ∙ y, walk-count 201 w ∙ z)
+        let x : counted b ≡ c = cc in
+        (walk-length w ∙ ap (λ (r : Result). r .a) x, walk-count 5 w ∙ ap (λ (r : Result). r .b) x, walk-count 201 w ∙ ap (λ (r : Result). r .c) x)
 
 -- ---- each entry cuts out its record's line
 

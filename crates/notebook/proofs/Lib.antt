@@ -8,3 +8,4 @@ pub mod FileGroups
 pub mod Lines
 pub mod Lasts
 pub mod IndexLaws
+pub mod Answered

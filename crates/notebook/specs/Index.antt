@@ -1,11 +1,9 @@
--- The call index. Document 01, "Index": "Six u32 per record after line 1"; its refusals are check's, then 20. What a refusal leaves in
--- the buffer: all of it. What lies behind the written numbers stays as well.
-use Prim.Native.Nat.{ℕ, _+_, _*_}
+-- The call index. Document 01, "Index": "Six u32 per record after line 1"; "Index and canonical: 1–16, then 20".
+use Prim.Native.Nat.{ℕ, _+_}
 use mathlib.Core.Bool.{Bool, cond, true}
 use mathlib.Core.List.{List, [], _∷_, _++_}
-use lib.Dec.{leb}
-use lib.ListN.{length, drop}
-use Rattle.lists.specs.Lists.{same, Res, ok, refused}
+use lib.ListN.{length}
+use Rattle.lists.specs.Lists.{same, Res, mapRes}
 use Rattle.characters.specs.Text.{text}
 use Rattle.characters.specs.Rows.{rows, isLine}
 use Rattle.records.specs.Records.{recordOf, header}
@@ -15,8 +13,7 @@ use Rattle.order.specs.declared.Moved.the-variants.{Refused as StepRefused, On}
 use Rattle.order.specs.State.{start, groupOf, drugOf}
 use Rattle.buffers.specs.Buffers.{six}
 use Rattle.notebook.specs.Notebook.{Notebook, stepLine, readFile}
-use Rattle.replies.specs.declared.Indexed.{Indexed}
-use Rattle.replies.specs.declared.Indexed.the-variants.{Written, Refused}
+use Rattle.replies.specs.Results.{Result}
 
 -- ---- the entry of a record
 
@@ -72,20 +69,9 @@ numbers (e ∷ es) = six (e .number) (e .offset) (e .bytes) (e .group) (e .docto
 unfoldable pub numbersOf : List ℕ → List ℕ
 numbersOf s = numbers (entriesOf s)
 
--- ---- the answer, and the buffer at exit
+-- "index the count of records": a records
+abbrev pub indexed : List ℕ → Notebook → Result
+indexed s b = record { a = length (b .records); b = 0; c = 0; written = numbersOf s }
 
--- "Index and canonical: 1–16, then 20"; "output can't hold the whole"; "Numbers 17–20 have line 0". room: how many numbers the buffer has
-abbrev pub indexed : Res Notebook → ℕ → Indexed
-indexed (ok b) room = cond (leb (6 * length (b .records)) room) (Written (length (b .records))) (Refused 20 0)
-indexed (refused n line) room = Refused n line
-
-unfoldable pub indexOf : List ℕ → ℕ → Indexed
-indexOf s room = indexed (readFile s) room
-
--- "Bytes past a written result keep their contents"
-abbrev pub bufferAfter : Indexed → List ℕ → List ℕ → List ℕ
-bufferAfter (Written n) w d = w ++ drop (length w) d
-bufferAfter (Refused n line) w d = d
-
-unfoldable pub indexBuffer : List ℕ → List ℕ → List ℕ
-indexBuffer s d = bufferAfter (indexOf s (length d)) (numbersOf s) d
+unfoldable pub indexResult : List ℕ → Res Result
+indexResult s = mapRes (indexed s) (readFile s)

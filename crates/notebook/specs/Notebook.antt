@@ -5,7 +5,7 @@ use mathlib.Core.Bool.{Bool, true, false, cond}
 use mathlib.Core.List.{List, [], _∷_}
 use lib.Dec.{leb, eqb}
 use lib.ListN.{length}
-use Rattle.lists.specs.Lists.{same, Res, ok, refused}
+use Rattle.lists.specs.Lists.{same, Res, ok, refused, mapRes}
 use Rattle.characters.specs.Text.{text}
 use Rattle.characters.specs.Rows.{rows, isLine, endMark}
 use Rattle.records.specs.Records.{Record, lineFault, recordOf, header}
@@ -30,8 +30,7 @@ stepLine st l = cond (eqb (lineFault (st .provider) l) 0) (stepOf st (factsOf (r
 
 -- a record more at the front
 abbrev pub prepend : Record → Res (List Record) → Res (List Record)
-prepend r (ok rs) = ok (r ∷ rs)
-prepend r (refused n line) = refused n line
+prepend r x = mapRes (λ (rs : List Record). r ∷ rs) x
 
 -- the end: "Number 14 at the end has the line count plus 1"
 unfoldable pub closed : State → Res (List Record)
@@ -53,8 +52,7 @@ recordsFrom st (r ∷ rs) =
 -- ---- line 1, and the file
 
 abbrev pub notebookOf : Bool → Res (List Record) → Res Notebook
-notebookOf provider (ok rs) = ok (record { provider = provider; records = rs })
-notebookOf provider (refused n line) = refused n line
+notebookOf provider x = mapRes (λ (rs : List Record). record { provider = provider; records = rs }) x
 
 -- "rule of line ends broken; empty input, or 1Ah alone"; "line 1 is another"
 unfoldable pub readRows : List (List ℕ) → Res Notebook

@@ -2,25 +2,21 @@
 use Prim.Native.Nat.{ℕ}
 use mathlib.Core.List.{List, [], _∷_, _++_, map}
 use Rattle.lists.specs.Lists.{bytes}
-use Rattle.replies.specs.declared.Checked.the-variants.{Accepted, Refused}
-use Rattle.replies.specs.declared.Indexed.the-variants.{Written}
-use Rattle.replies.specs.declared.Cutting.the-variants.{Pieces, Refused as CutRefused}
-use Rattle.replies.specs.declared.Joining.the-variants.{Joined, Refused as JoinRefused}
-use Rattle.replies.specs.Replies.{checkReply, indexReply, cutReply, joinReply}
+use Rattle.replies.specs.Replies.{refusal, result}
 use Rattle.printing.specs.Printed.{printed}
 
 -- "prints `ok 1 0 0` (records, groups, drugs) and 0Ah; a refusal prints `no`, number, line"; "Number 1 comes first, with line 0"; "capacity 69
 -- gives 6 pieces, 404 bytes"; "50 gives 18"; "Numbers 17–20 have line 0".
 abbrev pub lines : List (List ℕ)
 lines =
-    printed 3 (checkReply (Accepted 1 0 0))
-    ∷ printed 3 (checkReply (Refused 14 3))
-    ∷ printed 3 (checkReply (Refused 1 0))
-    ∷ printed 1 (indexReply (Written 21))
-    ∷ printed 2 (cutReply (Pieces 6 404))
-    ∷ printed 2 (cutReply (CutRefused 18 0))
-    ∷ printed 1 (joinReply (Joined 65536))
-    ∷ printed 1 (joinReply (JoinRefused 13 7001))
+    printed 3 (result 1 0 0)
+    ∷ printed 3 (refusal 14 3)
+    ∷ printed 3 (refusal 1 0)
+    ∷ printed 1 (result 21 0 0)
+    ∷ printed 2 (result 6 404 0)
+    ∷ printed 2 (refusal 18 0)
+    ∷ printed 1 (result 65536 0 0)
+    ∷ printed 1 (refusal 13 7001)
     ∷ []
 
 abbrev pub theirLines : List (List ℕ)

@@ -7,14 +7,15 @@ use mathlib.Core.Bool.{true, false, cond, _&&_}
 use mathlib.Core.List.{List, [], _∷_, _++_}
 use lib.Dec.{eqb}
 use lib.ListN.{length}
-use Rattle.lists.specs.Lists.{member}
+use Rattle.lists.specs.Lists.{Res, member}
 use Rattle.replies.specs.declared.Reply.{Reply}
-use Rattle.replies.specs.Replies.{refusal, result, checkReply, indexReply, canonicalReply, cutReply, joinReply}
-use Rattle.notebook.specs.Check.{checkOf}
-use Rattle.notebook.specs.Index.{indexOf, indexBuffer}
-use Rattle.notebook.specs.Canonical.{canonicalOf, canonicalBuffer}
-use Rattle.division.specs.Cut.{cutOf, cutBuffer}
-use Rattle.division.specs.Join.{joinOf, joinBuffer}
+use Rattle.replies.specs.Replies.{refusal, result}
+use Rattle.replies.specs.Results.{Result, replyTo, outputOf}
+use Rattle.notebook.specs.Check.{checkResult}
+use Rattle.notebook.specs.Index.{indexResult}
+use Rattle.notebook.specs.Canonical.{canonicalResult}
+use Rattle.division.specs.Cut.{cutResult}
+use Rattle.division.specs.Join.{joinResult}
 
 -- ---- the five calls and their inputs; out: the buffer at entry
 
@@ -25,15 +26,15 @@ pub data Call : Type 0 where
   cut : (file : List ℕ) (capacity : ℕ) (id out : List ℕ) → Call
   join : (pieces out : List ℕ) → Call
 
--- the reply that the contract promises
-abbrev pub replyOf : Call → Reply
-replyOf (check f) = checkReply (checkOf f)
-replyOf (index f out) = indexReply (indexOf f (length out))
-replyOf (canonical f out) = canonicalReply (canonicalOf f (length out))
-replyOf (cut f c id out) = cutReply (cutOf f c id (length out))
-replyOf (join s out) = joinReply (joinOf s (length out))
+-- what the call has to give
+abbrev pub resultOf : Call → Res Result
+resultOf (check f) = checkResult f
+resultOf (index f out) = indexResult f
+resultOf (canonical f out) = canonicalResult f
+resultOf (cut f c id out) = cutResult f c id
+resultOf (join s out) = joinResult s
 
--- the lent buffer at entry, and at exit as the contract promises; check is lent none
+-- the lent buffer at entry; check is lent none
 abbrev pub lent : Call → List ℕ
 lent (check f) = []
 lent (index f out) = out
@@ -41,12 +42,12 @@ lent (canonical f out) = out
 lent (cut f c id out) = out
 lent (join s out) = out
 
+-- the reply, and the lent buffer at exit, as the contract promises them
+abbrev pub replyOf : Call → Reply
+replyOf x = replyTo (resultOf x) (lent x)
+
 abbrev pub left : Call → List ℕ
-left (check f) = []
-left (index f out) = indexBuffer f out
-left (canonical f out) = canonicalBuffer f out
-left (cut f c id out) = cutBuffer f c id out
-left (join s out) = joinBuffer s out
+left x = outputOf (resultOf x) (lent x)
 
 -- the bytes whose lines are counted: the file, or the pieces as given
 abbrev pub given : Call → List ℕ

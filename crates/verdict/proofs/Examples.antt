@@ -23,7 +23,7 @@ use Rattle.records.specs.Records.{recordOf, header}
 use Rattle.order.specs.State.{stepOf}
 use Rattle.notebook.specs.Facts.{factsOf}
 use Rattle.notebook.specs.Notebook.{stepLine, closed, onward, recordsFrom, readRows, readFile}
-use Rattle.notebook.specs.Check.{count, checkOf}
+use Rattle.notebook.specs.Check.{count, checkResult}
 use Rattle.notebook.specs.Samples.{smallFile}
 use Rattle.verdict.specs.Acceptance.{Carries}
 use Rattle.verdict.proofs.Verdict.{check-is-grammar}
@@ -48,5 +48,5 @@ wrong-hold = none-has wrong refl
 
 -- document 01's file of 37 bytes is a file in the sense of specs/Acceptance.antt
 pub small-file : Carries smallFile 1 0 0
-unfolding bytes spell isLine numberFrom leap monthLength isReal isDay gregorian eraOf eraOn inEra fromEra readDay table edge oneWidth decimal sized fault value itemFault itemValue itemsFault itemsValue rowIn rowOf pairs t911 recordFrom faultFrom faultWhere lineFault recordOf header inGroup mayFollow pairBroken misplaced closesRp lacking missing valueWrong newerGroup refusal unfinished none start hadAfter advance refusalOf stepOf finishOf factsOf stepLine closed onward recordsFrom readRows readFile count checkOf
+unfolding bytes spell isLine numberFrom leap monthLength isReal isDay gregorian eraOf eraOn inEra fromEra readDay table edge oneWidth decimal sized fault value itemFault itemValue itemsFault itemsValue rowIn rowOf pairs t911 recordFrom faultFrom faultWhere lineFault recordOf header inGroup mayFollow pairBroken misplaced closesRp lacking missing valueWrong newerGroup refusal unfinished none start hadAfter advance refusalOf stepOf finishOf factsOf stepLine closed onward recordsFrom readRows readFile count checkResult
 small-file = check-is-grammar smallFile 1 0 0 .0 refl

@@ -8,7 +8,7 @@ use mathlib.Core.List.{List, [], _∷_, _++_, map}
 use lib.Dec.{eqb, leb}
 use lib.ListN.{length}
 use borrow.Author.Tests.{eqb-true, le-leb, leb-true}
-use Rattle.lists.specs.Lists.{bytes, same, Res, ok, refused}
+use Rattle.lists.specs.Lists.{bytes, same, Res, ok, refused, mapRes}
 use Rattle.lists.proofs.Tests.{both, same-true, same-refl}
 use Rattle.characters.specs.Text.{text, clean}
 use Rattle.characters.specs.Rows.{rows, flat, isLine, lineEnd, endMark}
@@ -24,9 +24,8 @@ use Rattle.order.specs.Run.{refusedAt, ranTo, ended, onward as orderOnward, run
 use Rattle.order.proofs.Laws.{taken, takes, provider-kept, provider-start}
 use Rattle.order.proofs.Run.{run-on, ran-after}
 use Rattle.notebook.specs.Facts.{factsOf}
-use Rattle.replies.specs.declared.Checked.the-variants.{Accepted}
 use Rattle.notebook.specs.Notebook.{Notebook, stepLine, prepend, closed, onward, recordsFrom, notebookOf, readRows, readFile}
-use Rattle.notebook.specs.Check.{checked, checkOf}
+use Rattle.notebook.specs.Check.{counts, counted, checkResult}
 use Rattle.verdict.specs.Acceptance.{MachineIsGrammar, fileBytes, Reads, File, FileIsGrammar, Carries, CheckIsGrammar}
 use Rattle.verdict.proofs.Machine.{accepts}
 use Rattle.verdict.proofs.Groups.{grammar-machine}
@@ -278,9 +277,9 @@ file-is-grammar s b = (file-of s b, of-file s b)
 
 -- every list of bytes, and check's counts
 pub check-is-grammar : CheckIsGrammar
-unfolding checkOf
-check-is-grammar s n groups drugs = (by (readFile s) refl, λ c. ap checked (of-file s (c .notebook) (c .file)) ∙ c .counts)
+unfolding checkResult
+check-is-grammar s n groups drugs = (by (readFile s) refl, λ c. ap (mapRes counted) (of-file s (c .notebook) (c .file)) ∙ ap ok (c .counts))
   where
-    by : (res : Res Notebook) → readFile s ≡ res → checked res ≡ Accepted n groups drugs → Carries s n groups drugs
-    by (ok b) q e = record { notebook = b; file = file-of s b q; counts = e }
-    by (refused m line) q e = absurd (let z : _≡_ {A = ℕ} 0 1 = cc in omega arith)
+    by : (res : Res Notebook) → readFile s ≡ res → mapRes counted res ≡ ok (counts n groups drugs) → Carries s n groups drugs
+    by (ok b) q e = record { notebook = b; file = file-of s b q; counts = cc }
+    by (refused m line) q e = absurd (no-refusal e)

@@ -14,9 +14,8 @@ use Rattle.order.specs.declared.Facts.{Facts}
 use Rattle.order.specs.State.{start}
 use Rattle.order.specs.Run.{ranTo, runOf}
 use Rattle.notebook.specs.Facts.{factsOf}
-use Rattle.replies.specs.declared.Checked.the-variants.{Accepted}
 use Rattle.notebook.specs.Notebook.{Notebook, readFile}
-use Rattle.notebook.specs.Check.{counted, checkOf}
+use Rattle.notebook.specs.Check.{counts as counting, counted, checkResult}
 use Rattle.grammar.specs.Grammar.{Grammatical}
 
 -- ---- records: the order's machine takes each in turn and ends without refusal, exactly if the grammar has them
@@ -65,7 +64,7 @@ FileIsGrammar = (s : List ℕ) (b : Notebook) → (readFile s ≡ ok b) ↔ File
 pub record Carries (s : List ℕ) (records groups drugs : ℕ) : Type 0 where
   pub notebook : Notebook
   pub file : File s notebook
-  pub counts : counted (notebook .records) ≡ Accepted records groups drugs
+  pub counts : counted notebook ≡ counting records groups drugs
 
 abbrev pub CheckIsGrammar : Type 0
-CheckIsGrammar = (s : List ℕ) (records groups drugs : ℕ) → (checkOf s ≡ Accepted records groups drugs) ↔ Carries s records groups drugs
+CheckIsGrammar = (s : List ℕ) (records groups drugs : ℕ) → (checkResult s ≡ ok (counting records groups drugs)) ↔ Carries s records groups drugs
