@@ -25,7 +25,9 @@ use Rattle.order.specs.State.{none, start, hadAfter, advance, refusalOf, stepOf
 use Rattle.notebook.specs.Facts.{factsOf}
 use Rattle.notebook.specs.Notebook.{Notebook, stepLine, closed, onward, recordsFrom, readRows, readFile}
 use Rattle.notebook.proofs.Accepted.{no-refusal}
-use Rattle.notebook.specs.Canonical.{recordRows, canonicalBytes}
+use Rattle.notebook.specs.Same.{arrange}
+use Rattle.notebook.specs.Canonical.{recordRows, writeFile, canonicalBytes}
+use Rattle.notebook.proofs.CanonicalLaws.{canonical-same}
 use Rattle.packing.specs.Packing.{total, put, pack}
 use Rattle.packing.specs.Widths.{past, digitsOf, over, serves, tries, plan}
 use Rattle.division.specs.Marks.{validID, markLine, markRow, readMark}
@@ -50,7 +52,7 @@ unfolding bytes value number spell isLine numberFrom leap monthLength isReal isD
 joins-hold = refl
 
 pub cuts-hold : map (λ (a : Asked). answerIn (cutResult (a .file) (a .capacity) (a .id)) (replicate (a .room) 0)) asked ≡ theirAnswers
-unfolding bytes spell isLine numberFrom leap monthLength isReal isDay gregorian eraOf eraOn inEra fromEra readDay writeDay table edge oneWidth decimal sized fault valueOf itemFault itemValue itemsFault itemsValue rowIn rowOf pairs t911 recordFrom faultFrom faultWhere lineFault recordOf header inGroup mayFollow pairBroken misplaced closesRp lacking missing valueWrong newerGroup refusal unfinished none start hadAfter advance refusalOf stepOf finishOf factsOf stepLine closed onward recordsFrom readRows readFile joined write recordRows canonicalBytes total put pack past digitsOf over serves tries plan validID markLine markRow pieceBytes numbered cutting cutList cutResult answerIn
+unfolding bytes spell isLine numberFrom leap monthLength isReal isDay gregorian eraOf eraOn inEra fromEra readDay writeDay table edge oneWidth decimal sized fault valueOf itemFault itemValue itemsFault itemsValue rowIn rowOf pairs t911 recordFrom faultFrom faultWhere lineFault recordOf header inGroup mayFollow pairBroken misplaced closesRp lacking missing valueWrong newerGroup refusal unfinished none start hadAfter advance refusalOf stepOf finishOf factsOf stepLine closed onward recordsFrom readRows readFile joined write recordRows arrange writeFile canonicalBytes total put pack past digitsOf over serves tries plan validID markLine markRow pieceBytes numbered cutting cutList cutResult answerIn
 cuts-hold = refl
 
 -- ---- sound lists
@@ -60,21 +62,21 @@ _also_ : {A B : Type 0} → A → B → A × B
 x also y = (x, y)
 
 pub sound-hold : All (λ (x : Claim). Sound twoDates (x .capacity) (x .list)) sound
-unfolding bytes value number spell isLine numberFrom leap monthLength isReal isDay gregorian eraOf eraOn inEra fromEra readDay writeDay table edge oneWidth decimal sized fault valueOf itemFault itemValue itemsFault itemsValue rowIn rowOf pairs t911 isMark recordFrom faultFrom faultWhere lineFault recordOf header inGroup mayFollow pairBroken misplaced closesRp lacking missing valueWrong newerGroup refusal unfinished none start hadAfter advance refusalOf stepOf finishOf factsOf stepLine closed onward recordsFrom readRows readFile joined write recordRows canonicalBytes validID readMark kindOf brokenFrom brokenLine bodyOf piecesIn splitRows split fileOf unmarked partOf partsOf agree find gather joinPieces joinedFile joinFile
+unfolding bytes value number spell isLine numberFrom leap monthLength isReal isDay gregorian eraOf eraOn inEra fromEra readDay writeDay table edge oneWidth decimal sized fault valueOf itemFault itemValue itemsFault itemsValue rowIn rowOf pairs t911 isMark recordFrom faultFrom faultWhere lineFault recordOf header inGroup mayFollow pairBroken misplaced closesRp lacking missing valueWrong newerGroup refusal unfinished none start hadAfter advance refusalOf stepOf finishOf factsOf stepLine closed onward recordsFrom readRows readFile joined write recordRows arrange writeFile canonicalBytes validID readMark kindOf brokenFrom brokenLine bodyOf piecesIn splitRows split fileOf unmarked partOf partsOf agree find gather joinPieces joinedFile joinFile
 sound-hold =
     record {
       pieces = record { piece = _; is = refl } also record { piece = _; is = refl } also record { piece = _; is = refl } also tt;
       fits = record { fits = omega arith } also record { fits = omega arith } also record { fits = omega arith } also tt;
       file = theirFile;
       joins = refl;
-      same = refl;
+      same = record { one = _; other = _; read-one = refl; read-other = refl; same = refl };
     }
     also record {
       pieces = record { piece = _; is = refl } also tt;
       fits = record { fits = omega arith } also tt;
       file = twoDates;
       joins = refl;
-      same = refl;
+      same = record { one = _; other = _; read-one = refl; read-other = refl; same = refl };
     }
     also tt
 
@@ -92,13 +94,16 @@ other : (ps : List (List ℕ)) (c : ℕ) (w : List ℕ) → joinFile (flat ps) �
 other ps c w j d s =
     let q : _≡_ {A = Res (List ℕ)} (ok w) (ok (s .file)) = sym j ∙ s .joins in
     let z : w ≡ s .file = cc in
-    let t : canonicalOf (readFile w) ≡ canonicalOf (readFile twoDates) = ap canonicalOf (ap readFile z ∙ s .same) in
+    let k = s .same in
+    let t : canonicalOf (readFile w) ≡ canonicalOf (readFile twoDates) =
+    ap canonicalOf (ap readFile z ∙ k .read-one) ∙ canonical-same (s .file) twoDates (k .one) (k .other) (k .read-one) (k .read-other) .1 (k .same)
+    ∙ sym (ap canonicalOf (k .read-other)) in
     let u : true ≡ false = sym (same-refl (canonicalOf (readFile twoDates))) ∙ ap (λ (x : List ℕ). same x (canonicalOf (readFile twoDates))) (sym t) ∙ d in
     let v : _≡_ {A = ℕ} 0 1 = cc in
     omega arith
 
 pub not-sound : All (λ (x : Claim). Sound twoDates (x .capacity) (x .list) → ⊥) notSound
-unfolding bytes value number spell isLine numberFrom leap monthLength isReal isDay gregorian eraOf eraOn inEra fromEra readDay writeDay table edge oneWidth decimal sized fault valueOf itemFault itemValue itemsFault itemsValue rowIn rowOf pairs t911 isMark recordFrom faultFrom faultWhere lineFault recordOf header inGroup mayFollow pairBroken misplaced closesRp lacking missing valueWrong newerGroup refusal unfinished none start hadAfter advance refusalOf stepOf finishOf factsOf stepLine closed onward recordsFrom readRows readFile joined write recordRows canonicalBytes validID readMark kindOf brokenFrom brokenLine bodyOf piecesIn splitRows split fileOf unmarked partOf partsOf agree find gather joinPieces joinedFile joinFile
+unfolding bytes value number spell isLine numberFrom leap monthLength isReal isDay gregorian eraOf eraOn inEra fromEra readDay writeDay table edge oneWidth decimal sized fault valueOf itemFault itemValue itemsFault itemsValue rowIn rowOf pairs t911 isMark recordFrom faultFrom faultWhere lineFault recordOf header inGroup mayFollow pairBroken misplaced closesRp lacking missing valueWrong newerGroup refusal unfinished none start hadAfter advance refusalOf stepOf finishOf factsOf stepLine closed onward recordsFrom readRows readFile joined write recordRows arrange writeFile canonicalBytes validID readMark kindOf brokenFrom brokenLine bodyOf piecesIn splitRows split fileOf unmarked partOf partsOf agree find gather joinPieces joinedFile joinFile
 not-sound =
     (λ s. omega (arith, s .fits .1 .1 .0 .fits))
     also (λ s. two-one (s .pieces .0 .is))

@@ -14,8 +14,10 @@ use lib.Seq.{take-at}
 use Rattle.lists.specs.Lists.{All, Res, ok, refused, mapRes, andThen}
 use Rattle.characters.specs.Rows.{flat}
 use Rattle.notebook.specs.Notebook.{Notebook, readFile}
-use Rattle.notebook.specs.Canonical.{canonicalBytes, canonicalFile, canonicalResult}
+use Rattle.notebook.specs.Same.{arrange}
+use Rattle.notebook.specs.Canonical.{writeFile, canonicalBytes, canonicalFile, canonicalResult}
 use Rattle.notebook.proofs.Accepted.{no-refusal}
+use Rattle.notebook.proofs.Arranging.{arranged-carries, arranged-again, arrange-as-is}
 use Rattle.division.specs.Marks.{validID}
 use Rattle.division.proofs.Chunks.{chunkBytes, chunks-once}
 use Rattle.replies.specs.declared.Answer.{Answer}
@@ -65,8 +67,8 @@ numbered f b c id out e = rw e (valid (validID id))
     list none = omega arith
     list (some ps) = written (leb (length (flat ps)) (length out)) (writesPieces ps)
 
-    valid : (v : Bool) → Numbered (answerOf (fitting (mapRes writesPieces (cond v (listed (cutting id c b)) (refused 17 0))) out))
-    valid true = list (cutting id c b)
+    valid : (v : Bool) → Numbered (answerOf (fitting (mapRes writesPieces (cond v (listed (cutting id c (arrange b))) (refused 17 0))) out))
+    valid true = list (cutting id c (arrange b))
     valid false = omega arith
 
 -- ---- what a call has to write, by whether the output can hold it
@@ -110,19 +112,31 @@ done-refused e = let z : _≡_ {A = ℕ} 0 1 = cc in omega arith
 -- a list was planned for a valid ID
 record Planned (id : List ℕ) (c : ℕ) (b : Notebook) (ps : List (List ℕ)) : Type 0 where
   valid : validID id ≡ true
-  is : cutting id c b ≡ some ps
+  is : cutting id c (arrange b) ≡ some ps
 
 module _ (f : List ℕ) (b : Notebook) (c : ℕ) (id : List ℕ) (e : readFile f ≡ ok b) where
+  own-sound : validID id ≡ true → (ps : List (List ℕ)) → cutting id c (arrange b) ≡ some ps → Sound f c ps
+  own-sound v =
+      let r : readFile (writeFile (arrange b)) ≡ ok (arrange b) = arranged-carries f b e in
+      sound (writeFile (arrange b)) id (arrange b) c r v f (record { one = arrange b; other = b; read-one = r; read-other = e; same = arranged-again b })
+
+  -- the records of the joined file stand in the sequence of the canonical file
+  joined-arranged : (qs : List (List ℕ)) (s : Sound f c qs) → s .same .one ≡ arrange b
+  joined-arranged qs s = sym (arrange-as-is (s .same .one)) ∙ s .same .same ∙ ap arrange (once (s .same .read-other) e)
+    where
+      once : {r : Res Notebook} {x y : Notebook} → r ≡ ok x → r ≡ ok y → x ≡ y
+      once p q = cc
+
   list-found : (ps : List (List ℕ)) → cutList f c id ≡ ok ps → Planned id c b ps
   unfolding cutList
-  list-found ps l = go (validID id) refl (cutting id c b) refl (sym (ap (λ (r : Res Notebook). andThen r (found id c)) e) ∙ l)
+  list-found ps l = go (validID id) refl (cutting id c (arrange b)) refl (sym (ap (λ (r : Res Notebook). andThen r (found id c)) e) ∙ l)
     where
-      go : (v : Bool) → validID id ≡ v → (m : Option (List (List ℕ))) → cutting id c b ≡ m → cond v (listed m) (refused 17 0) ≡ ok ps → Planned id c b ps
+      go : (v : Bool) → validID id ≡ v → (m : Option (List (List ℕ))) → cutting id c (arrange b) ≡ m → cond v (listed m) (refused 17 0) ≡ ok ps → Planned id c b ps
       go true p none q l = absurd (no-refusal l)
       go true p (some xs) q l = let z : xs ≡ ps = cc in record { valid = p; is = q ∙ ap some z }
       go false p m q l = absurd (no-refusal l)
 
-  list-of : validID id ≡ true → cutList f c id ≡ listed (cutting id c b)
+  list-of : validID id ≡ true → cutList f c id ≡ listed (cutting id c (arrange b))
   unfolding cutList
   list-of v = ap (λ (r : Res Notebook). andThen r (found id c)) e ∙ rw v
 
@@ -165,17 +179,17 @@ module _ (f : List ℕ) (b : Notebook) (c : ℕ) (id : List ℕ) (e : readFile f
   pub writes : (out : List ℕ) (n t : ℕ) → answerIn (cutResult f c id) out ≡ Done n t 0 → Written f c (outputOf (cutResult f c id) out) n t
   writes out n t h =
       let w : Wrote out n t = wrote out n t h in
-      let s : Sound f c (w .list) = sound f id b c e (w .found .valid) (w .list) (w .found .is) in
+      let s : Sound f c (w .list) = own-sound (w .found .valid) (w .list) (w .found .is) in
       record {
         list = w .list;
         is = record { bytes = w .front; whole = s .pieces; count = w .count };
         inside = w .inside;
         sound = s;
-        fewest = λ qs u. omega (arith, few w (least id b c f e qs u));
+        fewest = λ qs u. omega (arith, few w (least id (arrange b) c f qs u (joined-arranged qs u)));
         only = λ qs i. pieces-once qs (w .list) (i .whole) (s .pieces) (sym (i .bytes) ∙ w .front);
       }
     where
-      few : {k : ℕ} (w : Wrote out n t) → Listed id b c k → n ≤ k
+      few : {k : ℕ} (w : Wrote out n t) → Listed id (arrange b) c k → n ≤ k
       few w l =
           let q : some (l .list) ≡ some (w .list) = sym (l .is) ∙ w .found .is in
           let z : l .list ≡ w .list = cc in
@@ -183,11 +197,11 @@ module _ (f : List ℕ) (b : Notebook) (c : ℕ) (id : List ℕ) (e : readFile f
 
   -- ---- no list
 
-  no-list-18 : validID id ≡ true → (out : List ℕ) → cutting id c b ≡ none → answerIn (cutResult f c id) out ≡ Refused 18 0
+  no-list-18 : validID id ≡ true → (out : List ℕ) → cutting id c (arrange b) ≡ none → answerIn (cutResult f c id) out ≡ Refused 18 0
   unfolding cutResult
   no-list-18 v out q = sym (gives-refusal out (ap (mapRes writesPieces) (list-of v ∙ ap listed q)) .answer)
 
-  list-no-18 : validID id ≡ true → (out : List ℕ) (ps : List (List ℕ)) → cutting id c b ≡ some ps → answerIn (cutResult f c id) out ≡ Refused 18 0 → ⊥
+  list-no-18 : validID id ≡ true → (out : List ℕ) (ps : List (List ℕ)) → cutting id c (arrange b) ≡ some ps → answerIn (cutResult f c id) out ≡ Refused 18 0 → ⊥
   unfolding cutResult
   list-no-18 v out ps q h = go (leb (length (flat ps)) (length out)) refl
     where
@@ -203,13 +217,13 @@ module _ (f : List ℕ) (b : Notebook) (c : ℕ) (id : List ℕ) (e : readFile f
 
   pub finds : validID id ≡ true → (out : List ℕ) → (answerIn (cutResult f c id) out ≡ Refused 18 0) ↔ ((qs : List (List ℕ)) → Sound f c qs → ⊥)
   finds v out = (
-    λ h qs s. let l : Listed id b c (length qs) = least id b c f e qs s in list-no-18 v out (l .list) (l .is) h,
-    λ h. go h (cutting id c b) refl,
+    λ h qs s. let l : Listed id (arrange b) c (length qs) = least id (arrange b) c f qs s (joined-arranged qs s) in list-no-18 v out (l .list) (l .is) h,
+    λ h. go h (cutting id c (arrange b)) refl,
   )
     where
-      go : ((qs : List (List ℕ)) → Sound f c qs → ⊥) → (m : Option (List (List ℕ))) → cutting id c b ≡ m → answerIn (cutResult f c id) out ≡ Refused 18 0
+      go : ((qs : List (List ℕ)) → Sound f c qs → ⊥) → (m : Option (List (List ℕ))) → cutting id c (arrange b) ≡ m → answerIn (cutResult f c id) out ≡ Refused 18 0
       go h none q = no-list-18 v out q
-      go h (some ps) q = absurd (h ps (sound f id b c e v ps q))
+      go h (some ps) q = absurd (h ps (own-sound v ps q))
 
   -- ---- a list that is found
 
@@ -218,15 +232,15 @@ module _ (f : List ℕ) (b : Notebook) (c : ℕ) (id : List ℕ) (e : readFile f
   delivers ps q = deliver (ap (mapRes writesPieces) q)
 
   pub withholds : validID id ≡ true → (out : List ℕ) → (replyTo (cutResult f c id) out ≡ refusal 18 0 → ⊥) → Found f c id
-  withholds v out h = go (cutting id c b) refl
+  withholds v out h = go (cutting id c (arrange b)) refl
     where
-      go : (m : Option (List (List ℕ))) → cutting id c b ≡ m → Found f c id
+      go : (m : Option (List (List ℕ))) → cutting id c (arrange b) ≡ m → Found f c id
       go none q = absurd (h (ap replyOf (no-list-18 v out q)))
-      go (some ps) q = record { list = ps; sound = sound f id b c e v ps q; delivered = delivers ps (list-of v ∙ ap listed q) }
+      go (some ps) q = record { list = ps; sound = own-sound v ps q; delivered = delivers ps (list-of v ∙ ap listed q) }
 
   pub says : validID id ≡ true → (out : List ℕ) → OneOfThree (replyTo (cutResult f c id) out)
   unfolding answerIn cutResult
-  says v out = rw (list-of v) (list (cutting id c b))
+  says v out = rw (list-of v) (list (cutting id c (arrange b)))
     where
       room : (ps : List (List ℕ)) (x : Bool) → OneOfThree (replyOf (answerOf (cond x (ok (writesPieces ps)) (refused 20 0))))
       room ps true = inl (record { count = length ps; size = length (flat ps); is = refl })
@@ -267,9 +281,10 @@ accepts s x w = (joined-file s (x ∷ w), λ d. go (joinFile s) refl d)
 
 pub joins-back : (f : List ℕ) (b : Notebook) (c : ℕ) (id out : List ℕ) → readFile f ≡ ok b → (n t : ℕ) → answerIn (cutResult f c id) out ≡ Done n t 0
     → (ps qs : List (List ℕ)) → ListIn (outputOf (cutResult f c id) out) n t ps → Perm ps qs → (w : List ℕ) → CanonicalFile f w → JoinedFile (flat qs) w
+unfolding canonicalBytes
 joins-back f b c id out e n t h ps qs i m w x =
     let o : Wrote f b c id e out n t = wrote f b c id e out n t h in
-    let s : Sound f c (o .list) = sound f id b c e (o .found .valid) (o .list) (o .found .is) in
+    let s : Sound f c (o .list) = own-sound f b c id e (o .found .valid) (o .list) (o .found .is) in
     let q : ps ≡ o .list = pieces-once ps (o .list) (i .whole) (s .pieces) (sym (i .bytes) ∙ o .front) in
     joined-file (flat qs) w
-    (restores f id b c e (o .found .valid) (o .list) qs (o .found .is) (subst (λ (z : List (List ℕ)). Perm z qs) q m) ∙ ap ok (sym (canonical-is f b w e x)))
+    (restores (writeFile (arrange b)) id (arrange b) c (arranged-carries f b e) (o .found .valid) (o .list) qs (o .found .is) (subst (λ (z : List (List ℕ)). Perm z qs) q m) ∙ ap ok (sym (canonical-is f b w e x)))

@@ -10,7 +10,7 @@ use Rattle.records.specs.Records.{Record, isMark, header}
 use Rattle.records.proofs.TheLanguage.{no-header, no-mark}
 use Rattle.notebook.specs.Canonical.{headRow}
 use Rattle.notebook.proofs.Accepted.{head-text, Reads, Lines, none, more}
-use Rattle.notebook.proofs.CanonicalLaws.{row-read}
+use Rattle.notebook.proofs.WrittenLaws.{row-read}
 use Rattle.division.proofs.Chunks.{Body, body-is}
 
 pub read-unmarked : {d : Bool} {r : Record} {l : List ℕ} → Reads d r l → isMark (text l) ≡ false

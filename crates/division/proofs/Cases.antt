@@ -23,7 +23,8 @@ use Rattle.order.specs.State.{none, start, hadAfter, advance, refusalOf, stepOf
 use Rattle.notebook.specs.Facts.{factsOf}
 use Rattle.notebook.specs.Notebook.{Notebook, stepLine, closed, onward, recordsFrom, readRows, readFile}
 use Rattle.notebook.specs.Check.{count, checkResult}
-use Rattle.notebook.specs.Canonical.{recordRows, canonicalBytes, canonicalFile, canonicalResult}
+use Rattle.notebook.specs.Same.{arrange}
+use Rattle.notebook.specs.Canonical.{recordRows, writeFile, canonicalBytes, canonicalFile, canonicalResult}
 use Rattle.printing.specs.Printed.{digitsOf as decimalDigits, decimal as decimalOf, numbers, line, printed}
 use Rattle.packing.specs.Packing.{total, put}
 use Rattle.packing.specs.Widths.{Plan, past, digitsOf, over, serves}
@@ -71,13 +72,13 @@ abbrev planning : Notebook → Plan (List ℕ) → Answer
 planning b p = answering (cond (validID ident) (listed (piecesOf ident b p)) (refused 17 0))
 
 abbrev computed : ℕ → Notebook → Answer
-computed c b = planning b (planned length c (recordRows (b .records)))
+computed c b = planning (arrange b) (planned length c (recordRows (arrange b .records)))
 
 answered : (s : List ℕ) (b : Notebook) (c : ℕ) → readFile s ≡ ok b → answerIn (cutResult s c ident) thousand ≡ computed c b
 unfolding answerIn cutResult cutList cutting
 answered s b c e =
     ap (λ (r : Res Notebook). answering (andThen r (found ident c))) e
-    ∙ ap (planning b) (plan-is length c (recordRows (b .records)))
+    ∙ ap (planning (arrange b)) (plan-is length c (recordRows (arrange b .records)))
 
 abbrev Cut : ℕ → ℕ → Answer → Type 0
 Cut n c r = answerIn (cutResult (withNotes n) c ident) thousand ≡ r
@@ -86,11 +87,11 @@ cut : (n c : ℕ) → Read n → Cut n c (computed c (book n))
 cut n c e = answered (withNotes n) (book n) c e
 
 cuts : Cut 20 69 (Done 6 404 0) × Cut 18 60 (Done 10 547 0) × Cut 18 59 (Refused 18 0) × Cut 2 51 (Done 1 51 0) × Cut 2 50 (Refused 18 0)
-unfolding notes book bytes spell eraOn inEra writeDay joined header write recordRows canonicalBytes total put packed past digitsOf over serves tried planned validID markLine markRow pieceBytes numbered t911
+unfolding notes book bytes spell eraOn inEra writeDay joined header write recordRows arrange writeFile canonicalBytes total put packed past digitsOf over serves tried planned validID markLine markRow pieceBytes numbered t911
 cuts = (cut 20 69 (reads .0), cut 18 60 (reads .1), cut 18 59 (reads .1), cut 2 51 (reads .2), cut 2 50 (reads .2))
 
 -- ---- ALL CASES
 
 pub cases-hold : map (λ (c : Case). answer (c .asked)) cases ≡ map (λ (c : Case). c .said) cases
-unfolding bytes spell isLine numberFrom leap monthLength isReal isDay gregorian eraOf eraOn inEra fromEra readDay writeDay table edge oneWidth decimal sized fault value itemFault itemValue itemsFault itemsValue rowIn rowOf pairs t911 recordFrom faultFrom faultWhere lineFault recordOf header inGroup mayFollow pairBroken misplaced closesRp lacking missing valueWrong newerGroup refusal unfinished none start hadAfter advance refusalOf stepOf finishOf factsOf stepLine closed onward recordsFrom readRows readFile count checkResult joined write recordRows canonicalBytes canonicalFile canonicalResult answerIn decimalDigits decimalOf numbers line printed
+unfolding bytes spell isLine numberFrom leap monthLength isReal isDay gregorian eraOf eraOn inEra fromEra readDay writeDay table edge oneWidth decimal sized fault value itemFault itemValue itemsFault itemsValue rowIn rowOf pairs t911 recordFrom faultFrom faultWhere lineFault recordOf header inGroup mayFollow pairBroken misplaced closesRp lacking missing valueWrong newerGroup refusal unfinished none start hadAfter advance refusalOf stepOf finishOf factsOf stepLine closed onward recordsFrom readRows readFile count checkResult joined write recordRows arrange writeFile canonicalBytes canonicalFile canonicalResult answerIn decimalDigits decimalOf numbers line printed
 cases-hold = rw (cuts .4, cuts .3, cuts .2, cuts .1, cuts .0) refl

@@ -15,9 +15,9 @@ use Rattle.characters.specs.Text.{text}
 use Rattle.characters.specs.Rows.{flat, lineEnd}
 use Rattle.records.specs.Records.{Record}
 use Rattle.notebook.specs.Notebook.{Notebook, readFile}
-use Rattle.notebook.specs.Canonical.{recordRows, canonicalBytes}
+use Rattle.notebook.specs.Canonical.{recordRows, writeFile}
 use Rattle.notebook.proofs.Accepted.{no-refusal, line-bytes, Lines, none as noLines, more, LinesRead, lines-read}
-use Rattle.notebook.proofs.CanonicalLaws.{row-short, lines-short}
+use Rattle.notebook.proofs.WrittenLaws.{row-short, lines-short}
 use Rattle.packing.specs.Packing.{total, concat, Fits}
 use Rattle.packing.specs.Widths.{digitsOf, over, Plan, whole, split as divided, fails, plan}
 use Rattle.packing.proofs.Packing.{Pairs, nil, cons, Way, way-of, lighter}
@@ -200,7 +200,7 @@ module _ (i : List ℕ) (b : Notebook) (c : ℕ) where
   listed n a = go (plan length c ls) refl a
     where
       go : (p : Plan (List ℕ)) → plan length c ls ≡ p → AtMost n p → Listed n
-      go whole q h = record { list = canonicalBytes b ∷ []; is = ap (planned i b) q; few = h }
+      go whole q h = record { list = writeFile b ∷ []; is = ap (planned i b) q; few = h }
       go (divided xs) q h =
           record { list = numbered (b .provider) i (length xs) 1 xs; is = ap (planned i b) q; few = omega (arith, numbered-length (b .provider) (length xs) 1 xs) }
       go fails q h = absurd h
@@ -247,12 +247,12 @@ module _ (i : List ℕ) (b : Notebook) (c : ℕ) where
           by false j = many (x ∷ []) g h (partsOf (pieceOf x ∷ [])) refl j
       go (x ∷ y ∷ xs) g h j = many (x ∷ y ∷ xs) g h (partsOf (map pieceOf (x ∷ y ∷ xs))) refl j
 
-  -- A SOUND LIST HAS NO FEWER PIECES than the list that cutting finds
-  pub least : (f : List ℕ) → readFile f ≡ ok b → (qs : List (List ℕ)) → Sound f c qs → Listed (length qs)
-  least f e qs s =
+  -- A SOUND LIST HAS NO FEWER PIECES than the list that cutting finds of the notebook of its joined file
+  pub least : (f : List ℕ) (qs : List (List ℕ)) (s : Sound f c qs) → s .same .one ≡ b → Listed (length qs)
+  least f qs s q =
       let z : Chunks qs = chunked qs (s .pieces) in
       let j : JoinedFrom (flat qs) (s .file) = joined-from (flat qs) (s .file) (s .joins) in
-      let r : readFile (fileOf (j .piece)) ≡ ok b = ap readFile (j .is) ∙ s .same ∙ e in
+      let r : readFile (fileOf (j .piece)) ≡ ok b = ap readFile (j .is) ∙ s .same .read-one ∙ ap ok q in
       let c′ : split (flat (map chunkBytes (z .chunks))) ≡ ok (j .pieces) = subst (λ (t : List (List ℕ)). split (flat t) ≡ ok (j .pieces)) (z .bytes) (j .cut) in
       let k : joinPieces (map pieceOf (z .chunks)) ≡ some (j .piece) = ap joinPieces (same-pieces (z .chunks) (j .pieces) (z .good) c′) ∙ j .joins in
       let n : length (z .chunks) ≡ length qs = sym (ap length (z .bytes) ∙ map-length chunkBytes (z .chunks)) in

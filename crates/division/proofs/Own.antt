@@ -1,4 +1,5 @@
--- The pieces that cutting finds: they are sound, and joining them in any order restores the canonical file. Assumes nothing.
+-- The pieces that cutting finds of a notebook: they are sound for every file that carries it, and joining them in any order gives the notebook's file.
+-- Assumes nothing.
 use Prim.Native.Nat.{ℕ, suc, _+_, _*_, _≤_}
 use native.Mathlib.Omega.{arith}
 use mathlib.Core.Path.{_≡_, refl, sym, ap, _∙_, subst}
@@ -12,9 +13,10 @@ use Rattle.characters.specs.Text.{text}
 use Rattle.characters.specs.Rows.{flat}
 use Rattle.records.specs.Records.{Record, isMark}
 use Rattle.notebook.specs.Notebook.{Notebook, readFile}
-use Rattle.notebook.specs.Canonical.{headRow, recordRows, canonicalBytes}
+use Rattle.notebook.specs.Same.{CarrySame}
+use Rattle.notebook.specs.Canonical.{headRow, recordRows, writeFile}
 use Rattle.notebook.proofs.Accepted.{head-length, Lines, none as noLines, more, accepted}
-use Rattle.notebook.proofs.CanonicalLaws.{lines-written, canonical-small, canonical-carries}
+use Rattle.notebook.proofs.WrittenLaws.{lines-written, written-small, written-carries}
 use Rattle.packing.specs.Packing.{total, concat, Fits}
 use Rattle.packing.specs.Widths.{digitsOf, over, Plan, whole, split as divided, fails, plan}
 use Rattle.packing.proofs.Widths.{digits-count, digits-le, Divides, Planned, plan-good}
@@ -226,38 +228,38 @@ module _ (f i : List ℕ) (b : Notebook) (c : ℕ) (e : readFile f ≡ ok b) whe
   all-free = free-lines (lines-written (accepted f b e .taken .lines))
 
   size : 13 + length (flat ls) ≤ 65536
-  unfolding canonicalBytes
-  size = omega (arith, canonical-small f b e, length-append (headRow (b .provider)) (flat ls), head-length (b .provider))
+  unfolding writeFile
+  size = omega (arith, written-small f b e, length-append (headRow (b .provider)) (flat ls), head-length (b .provider))
 
   -- ---- one piece
 
   abbrev only : Chunk
   only = record { provider = b .provider; rows = ls; ended = false }
 
-  only-bytes : canonicalBytes b ≡ chunkBytes only
-  unfolding canonicalBytes chunkBytes
+  only-bytes : writeFile b ≡ chunkBytes only
+  unfolding writeFile chunkBytes
   only-bytes = ap (λ (t : List ℕ). headRow (b .provider) ++ t) (sym (append-nil (flat ls)))
 
-  split-canonical : split (canonicalBytes b) ≡ ok (pieceOf only ∷ [])
-  split-canonical = ap split only-bytes ∙ split-one only (free-bodies ls all-free)
+  split-whole : split (writeFile b) ≡ ok (pieceOf only ∷ [])
+  split-whole = ap split only-bytes ∙ split-one only (free-bodies ls all-free)
 
-  restore-whole : joinFile (flat (canonicalBytes b ∷ [])) ≡ ok (canonicalBytes b)
-  unfolding joinPieces fileOf canonicalBytes
+  restore-whole : joinFile (flat (writeFile b ∷ [])) ≡ ok (writeFile b)
+  unfolding joinPieces fileOf writeFile
   restore-whole =
-      let n : flat (canonicalBytes b ∷ []) ≡ canonicalBytes b = append-nil (canonicalBytes b) in
+      let n : flat (writeFile b ∷ []) ≡ writeFile b = append-nil (writeFile b) in
       let j : joinPieces (pieceOf only ∷ []) ≡ some (pieceOf only) = rw (free-unmarked ls all-free) in
-      let q : joinedFile (canonicalBytes b) ≡ ok (canonicalBytes b) =
-      joined-split (canonicalBytes b) (pieceOf only ∷ []) (pieceOf only) (omega (arith, canonical-small f b e)) split-canonical j in
-      ap joinFile n ∙ join-file (canonicalBytes b) (canonicalBytes b) b q (canonical-carries f b e)
+      let q : joinedFile (writeFile b) ≡ ok (writeFile b) =
+      joined-split (writeFile b) (pieceOf only ∷ []) (pieceOf only) (omega (arith, written-small f b e)) split-whole j in
+      ap joinFile n ∙ join-file (writeFile b) (writeFile b) b q (written-carries f b e)
 
-  sound-whole : 13 + total length ls ≤ c → Sound f c (canonicalBytes b ∷ [])
-  unfolding canonicalBytes
-  sound-whole h = record {
-    pieces = (record { piece = pieceOf only; is = split-canonical }, tt);
+  sound-whole : (g : List ℕ) → CarrySame (writeFile b) g → 13 + total length ls ≤ c → Sound g c (writeFile b ∷ [])
+  unfolding writeFile
+  sound-whole g s h = record {
+    pieces = (record { piece = pieceOf only; is = split-whole }, tt);
     fits = (record { fits = omega (arith, length-append (headRow (b .provider)) (flat ls), head-length (b .provider), total-flat ls) }, tt);
-    file = canonicalBytes b;
+    file = writeFile b;
     joins = restore-whole;
-    same = canonical-carries f b e ∙ sym e;
+    same = s;
   }
 
   -- ---- two or more
@@ -280,26 +282,26 @@ module _ (f i : List ℕ) (b : Notebook) (c : ℕ) (e : readFile f ≡ ok b) whe
           size,
         )
 
-    restore-split : (ps : List Part) → Perm own ps → joinFile (flat (map bytesOf ps)) ≡ ok (canonicalBytes b)
-    unfolding canonicalBytes
+    restore-split : (ps : List Part) → Perm own ps → joinFile (flat (map bytesOf ps)) ≡ ok (writeFile b)
+    unfolding writeFile
     restore-split ps m =
-        let q : joinedFile (flat (map bytesOf ps)) ≡ ok (canonicalBytes b) =
+        let q : joinedFile (flat (map bytesOf ps)) ≡ ok (writeFile b) =
         joined-own (b .provider) i xs v (g .two) (g .most) runs-free ps m (own-size ps m)
         ∙ ap (λ (t : List (List ℕ)). ok (headRow (b .provider) ++ flat t)) (g .all) in
-        join-file (flat (map bytesOf ps)) (canonicalBytes b) b q (canonical-carries f b e)
+        join-file (flat (map bytesOf ps)) (writeFile b) b q (written-carries f b e)
 
-    sound-split : Sound f c (map bytesOf own)
-    sound-split = record {
+    sound-split : (h : List ℕ) → CarrySame (writeFile b) h → Sound h c (map bytesOf own)
+    sound-split h s = record {
       pieces = own-pieces own (parts-own (b .provider) i (length xs) 1 xs v (g .most) (omega (arith, g .most)) runs-free);
       fits = parts-fit (b .provider) i (length xs) 1 c xs v (g .most) (omega (arith, g .most)) runs-free (g .fits);
-      file = canonicalBytes b;
+      file = writeFile b;
       joins = restore-split own (perm-refl own);
-      same = canonical-carries f b e ∙ sym e;
+      same = s;
     }
 
   -- ---- by the plan's cases
 
-  by-plan : (P : List (List ℕ) → Type 0) → (13 + total length ls ≤ c → P (canonicalBytes b ∷ []))
+  by-plan : (P : List (List ℕ) → Type 0) → (13 + total length ls ≤ c → P (writeFile b ∷ []))
       → ((xs : List (List (List ℕ))) → Divides length c ls xs → P (map bytesOf (parts (b .provider) i (length xs) 1 xs)))
       → (ps : List (List ℕ)) → cutting i c b ≡ some ps → P ps
   unfolding cutting
@@ -312,18 +314,18 @@ module _ (f i : List ℕ) (b : Notebook) (c : ℕ) (e : readFile f ≡ ok b) whe
 
   module _ (v : validID i ≡ true) where
     -- WHAT CUTTING FINDS IS SOUND
-    pub sound : (ps : List (List ℕ)) → cutting i c b ≡ some ps → Sound f c ps
-    sound = by-plan (Sound f c) sound-whole (sound-split v)
+    pub sound : (g : List ℕ) → CarrySame (writeFile b) g → (ps : List (List ℕ)) → cutting i c b ≡ some ps → Sound g c ps
+    sound g s = by-plan (Sound g c) (sound-whole g s) (λ xs d. sound-split v xs d g s)
 
-    -- IN ANY ORDER it is joined to the canonical file
-    pub restores : (ps qs : List (List ℕ)) → cutting i c b ≡ some ps → Perm ps qs → joinFile (flat qs) ≡ ok (canonicalBytes b)
-    restores ps qs k = by-plan (λ ps. Perm ps qs → joinFile (flat qs) ≡ ok (canonicalBytes b)) single several ps k
+    -- IN ANY ORDER it is joined to the notebook's file
+    pub restores : (ps qs : List (List ℕ)) → cutting i c b ≡ some ps → Perm ps qs → joinFile (flat qs) ≡ ok (writeFile b)
+    restores ps qs k = by-plan (λ ps. Perm ps qs → joinFile (flat qs) ≡ ok (writeFile b)) single several ps k
       where
-        single : 13 + total length ls ≤ c → Perm (canonicalBytes b ∷ []) qs → joinFile (flat qs) ≡ ok (canonicalBytes b)
+        single : 13 + total length ls ≤ c → Perm (writeFile b ∷ []) qs → joinFile (flat qs) ≡ ok (writeFile b)
         single h m = rw (perm-one m) restore-whole
 
         several : (xs : List (List (List ℕ))) → Divides length c ls xs → Perm (map bytesOf (parts (b .provider) i (length xs) 1 xs)) qs
-            → joinFile (flat qs) ≡ ok (canonicalBytes b)
+            → joinFile (flat qs) ≡ ok (writeFile b)
         several xs g m =
             let u : (l : List Part) × (qs ≡ map bytesOf l) × Perm (parts (b .provider) i (length xs) 1 xs) l =
             perm-unmap bytesOf (parts (b .provider) i (length xs) 1 xs) m in

@@ -2,7 +2,6 @@
 use native.Mathlib.Omega.{arith}
 use mathlib.Core.Path.{ap, sym, _∙_}
 use lib.ListN.{length}
-use Rattle.notebook.specs.Notebook.{Notebook}
 use Rattle.notebook.specs.Canonical.{canonicalBytes}
 use Rattle.notebook.proofs.CanonicalLaws.{canonical-same, canonical-short}
 use Rattle.replies.specs.Replies.{replyOf}
@@ -43,4 +42,4 @@ canonical-files-same f g a b p q v w x y =
 pub canonical-file-shortest : Canonical-shortest
 canonical-file-shortest f g a b p q v w x y h =
     let i = ap length (canonical-is f a v p x) in
-    (omega (arith, i, canonical-short f a p), omega (arith, i, ap (λ (z : Notebook). length (canonicalBytes z)) h, canonical-short g b q))
+    (omega (arith, i, canonical-short f a p), omega (arith, i, ap length (canonical-same f g a b p q .1 h), canonical-short g b q))

@@ -8,7 +8,8 @@ use lib.ListN.{length}
 use Rattle.lists.specs.Lists.{Res, ok, refused, mapRes, andThen}
 use Rattle.characters.specs.Rows.{flat}
 use Rattle.notebook.specs.Notebook.{Notebook, readFile}
-use Rattle.notebook.specs.Canonical.{headRow, recordRows, canonicalBytes}
+use Rattle.notebook.specs.Same.{arrange}
+use Rattle.notebook.specs.Canonical.{headRow, recordRows, writeFile}
 use Rattle.packing.specs.Widths.{Plan, whole, split, fails, plan}
 use Rattle.division.specs.Marks.{validID, markRow}
 use Rattle.replies.specs.Results.{Result}
@@ -26,11 +27,11 @@ numbered provider id n k (x ∷ xs) = pieceBytes provider id n k x ∷ numbered 
 
 -- "If the canonical file fits the capacity, it is the only piece. Otherwise the pieces number n"
 abbrev pub planned : List ℕ → Notebook → Plan (List ℕ) → Option (List (List ℕ))
-planned id b whole = some (canonicalBytes b ∷ [])
+planned id b whole = some (writeFile b ∷ [])
 planned id b (split xs) = some (numbered (b .provider) id (length xs) 1 xs)
 planned id b fails = none
 
--- the list of pieces for an ID and a capacity, none where no width serves
+-- the list of pieces of a notebook whose records stand as they are, for an ID and a capacity; none where no width serves
 unfoldable pub cutting : List ℕ → ℕ → Notebook → Option (List (List ℕ))
 cutting id c b = planned id b (plan length c (recordRows (b .records)))
 
@@ -41,7 +42,7 @@ listed none = refused 18 0
 listed (some ps) = ok ps
 
 abbrev pub found : List ℕ → ℕ → Notebook → Res (List (List ℕ))
-found id c b = cond (validID id) (listed (cutting id c b)) (refused 17 0)
+found id c b = cond (validID id) (listed (cutting id c (arrange b))) (refused 17 0)
 
 unfoldable pub cutList : List ℕ → ℕ → List ℕ → Res (List (List ℕ))
 cutList s c id = andThen (readFile s) (found id c)

@@ -10,6 +10,7 @@ use lib.ListN.{length, take, drop}
 use Rattle.lists.specs.Lists.{All, Res, ok}
 use Rattle.characters.specs.Rows.{flat}
 use Rattle.notebook.specs.Notebook.{Notebook, readFile}
+use Rattle.notebook.specs.Same.{SameNotebook, CarrySame}
 use Rattle.notebook.specs.Canonical.{canonicalResult}
 use Rattle.division.specs.Marks.{validID}
 use Rattle.division.specs.Pieces.{Piece, split}
@@ -39,7 +40,7 @@ pub record Sound (f : List ℕ) (c : ℕ) (ps : List (List ℕ)) : Type 0 where
   pub file : List ℕ
   pub joins : joinFile (flat ps) ≡ ok file
   -- "the joined file carries the same notebook"
-  pub same : readFile file ≡ readFile f
+  pub same : CarrySame file f
 
 -- ---- what the calls reply, in document 01's numbers, and leave in their outputs
 
@@ -144,7 +145,7 @@ ForTwo P =
     → (v w : List ℕ) → CanonicalFile f v → CanonicalFile g w → P f g a b v w
 
 abbrev pub Canonical-same : Type 0
-Canonical-same = ForTwo (λ f g a b v w. (v ≡ w) ↔ (a ≡ b))
+Canonical-same = ForTwo (λ f g a b v w. (v ≡ w) ↔ SameNotebook a b)
 
 abbrev pub Canonical-shortest : Type 0
-Canonical-shortest = ForTwo (λ f g a b v w. a ≡ b → (length v ≤ length f) × (length v ≤ length g))
+Canonical-shortest = ForTwo (λ f g a b v w. SameNotebook a b → (length v ≤ length f) × (length v ≤ length g))

@@ -1,131 +1,62 @@
 -- The canonical file of an accepted file: its rows, that it is accepted and carries the same notebook, that it is no longer than the file, and
--- that equal canonical files are equal notebooks. Assumes nothing.
-use Prim.Native.Nat.{ℕ, _+_, _≤_}
+-- that equal canonical files carry the same notebook. All from the laws of arranging and writing. Assumes nothing.
+use Prim.Native.Nat.{ℕ, _≤_}
 use native.Mathlib.Omega.{arith}
-use native.Mathlib.Nat.{le-refl}
 use mathlib.Core.Path.{_≡_, sym, ap, _∙_}
 use mathlib.Core.Logic.{_↔_}
-use mathlib.Core.Bool.{Bool, true}
-use mathlib.Core.List.{List, [], _∷_, _++_}
-use lib.ListN.{length, take, drop, length-append}
-use lib.Seq.{take-at, drop-at}
-use Rattle.lists.specs.Lists.{All, Res, ok, mapRes}
-use Rattle.characters.specs.Text.{clean, text}
-use Rattle.characters.specs.Rows.{rows, flat, lineEnd}
-use Rattle.characters.proofs.RowLaws.{flat-rows, line-is, line-text}
-use Rattle.records.specs.Records.{Record, ok as read, readLine, recordOf, lineFault, write}
-use Rattle.records.proofs.LineLaws.{reads, read-is}
-use Rattle.records.proofs.TheLanguage.{round, short, clear}
+use mathlib.Core.List.{List}
+use lib.ListN.{length, take, drop}
+use Rattle.lists.specs.Lists.{Res, ok, mapRes}
+use Rattle.characters.specs.Rows.{rows}
 use Rattle.notebook.specs.Notebook.{Notebook, readFile}
+use Rattle.notebook.specs.Same.{arrange, SameNotebook}
 use Rattle.replies.specs.Results.{Result, writes}
 use Rattle.notebook.specs.Check.{counted, checkResult}
-use Rattle.notebook.specs.Canonical.{headRow, recordRow, recordRows, canonicalBytes, canonicalFile, canonicalResult}
-use Rattle.notebook.proofs.Accepted.{IsLine, head-length, line-bytes, rows-flat, Reads, Lines, none, more, lines-are, Taken, Carried, accepted, carries}
+use Rattle.notebook.specs.Canonical.{headRow, recordRows, writeFile, canonicalBytes, canonicalFile, canonicalResult}
+use Rattle.notebook.proofs.WrittenLaws.{written-short, written-small, written-head, written-rows, written-long}
+use Rattle.notebook.proofs.Arranging.{arranged-carries, arranged-again, arranged-length, arranged-counts}
 
--- ---- one record: its canonical row is read to it, and is no longer
-
--- the row is read to the record, as records' own laws have it
-pub row-read : {d : Bool} {r : Record} {l : List ℕ} → Reads d r l → readLine d (text l) ≡ read r
-row-read {d} {r} {l} x = reads d (text l) (x .good) ∙ ap read (x .is)
-
--- what is read and clean is a row with the line end behind it
-pub row-of : (d : Bool) (r : Record) (t : List ℕ) → readLine d t ≡ read r → Reads d r (t ++ lineEnd)
-row-of d r t e =
-    let c : clean t ≡ true = clear d t r e in
-    let x : text (t ++ lineEnd) ≡ t = line-text t c in
-    record { line = line-is t c; good = ap (lineFault d) x ∙ read-is d t r e .0; is = ap recordOf x ∙ read-is d t r e .1 }
-
-pub row-written : {d : Bool} {r : Record} {l : List ℕ} → Reads d r l → Reads d r (recordRow r)
-row-written {d} {r} {l} x = row-of d r (write r) (round d (text l) r (row-read x))
-
-pub row-short : {d : Bool} {r : Record} {l : List ℕ} → Reads d r l → length (recordRow r) ≤ length l
-row-short {d} {r} {l} x =
-    omega (arith, short d (text l) r (row-read x), length-append (write r) lineEnd, length-append (text l) lineEnd, ap length (line-bytes l (x .line)))
-
--- ---- the records
-
-pub lines-written : {d : Bool} {rs : List Record} {ls : List (List ℕ)} → Lines d rs ls → Lines d rs (recordRows rs)
-unfolding recordRows
-lines-written none = none
-lines-written (more x xs) = more (row-written x) (lines-written xs)
-
-pub lines-short : {d : Bool} {rs : List Record} {ls : List (List ℕ)} → Lines d rs ls → length (flat (recordRows rs)) ≤ length (flat ls)
-unfolding recordRows
-lines-short none = le-refl 0
-lines-short (more {r = r} {l = l} {rs = rs} {ls = ls} x xs) =
-    omega (arith, row-short x, lines-short xs, length-append (recordRow r) (flat (recordRows rs)), length-append l (flat ls))
-
--- ---- the file
+again : (b : Notebook) → canonicalBytes (arrange b) ≡ canonicalBytes b
+unfolding canonicalBytes
+again b = ap writeFile (arranged-again b)
 
 module _ (f : List ℕ) (b : Notebook) (e : readFile f ≡ ok b) where
-  carried : Carried f b
-  carried = accepted f b e
+  -- IT IS ACCEPTED, AND CARRIES THE SAME NOTEBOOK (`arranged-again`)
+  pub canonical-carries : readFile (canonicalBytes b) ≡ ok (arrange b)
+  unfolding canonicalBytes
+  canonical-carries = arranged-carries f b e
 
-  body : List (List ℕ)
-  body = recordRows (b .records)
-
-  body-lines : Lines (b .provider) (b .records) body
-  unfolding body
-  body-lines = lines-written (carried .taken .lines)
-
-  -- THE CANONICAL FILE IS NO LONGER
+  -- IT IS NO LONGER
   pub canonical-short : length (canonicalBytes b) ≤ length f
   unfolding canonicalBytes
-  canonical-short =
-      let t : Taken (b .provider) _ (carried .rest) (b .records) = carried .taken in
-      let c : f ≡ headRow (b .provider) ++ flat (t .front ++ t .behind) =
-      sym (flat-rows f) ∙ ap flat (carried .cut ∙ ap (λ (x : List (List ℕ)). headRow (b .provider) ∷ x) (t .cut)) in
-      omega (
-        arith,
-        ap length c,
-        flat-front (t .front) (t .behind),
-        lines-short (t .lines),
-        length-append (headRow (b .provider)) (flat (t .front ++ t .behind)),
-        length-append (headRow (b .provider)) (flat (recordRows (b .records))),
-      )
-    where
-      flat-front : (xs ys : List (List ℕ)) → length (flat xs) ≤ length (flat (xs ++ ys))
-      flat-front [] ys = omega arith
-      flat-front (x ∷ xs) ys = omega (arith, length-append x (flat xs), length-append x (flat (xs ++ ys)), flat-front xs ys)
-
-  pub canonical-small : length (canonicalBytes b) ≤ 65536
-  canonical-small = omega (arith, canonical-short, carried .small)
+  canonical-short = omega (arith, arranged-length b, written-short f b e)
 
   -- its rows: line 1, and each record in its one spelling
-  pub canonical-head : take 13 (canonicalBytes b) ≡ headRow (b .provider)
+  pub canonical-head : take 13 (canonicalBytes b) ≡ headRow (arrange b .provider)
   unfolding canonicalBytes
-  canonical-head = take-at (headRow (b .provider)) (flat (recordRows (b .records))) 13 (head-length (b .provider))
+  canonical-head = written-head (writeFile (arrange b)) (arrange b) canonical-carries
 
-  pub canonical-body : drop 13 (canonicalBytes b) ≡ flat (recordRows (b .records))
+  pub canonical-rows : rows (drop 13 (canonicalBytes b)) ≡ recordRows (arrange b .records)
   unfolding canonicalBytes
-  canonical-body = drop-at (headRow (b .provider)) (flat (recordRows (b .records))) 13 (head-length (b .provider))
+  canonical-rows = written-rows (writeFile (arrange b)) (arrange b) canonical-carries
 
-  pub record-lines : All IsLine (recordRows (b .records))
-  unfolding body
-  record-lines = lines-are body-lines
-
-  pub canonical-rows : rows (drop 13 (canonicalBytes b)) ≡ recordRows (b .records)
-  canonical-rows = ap rows canonical-body ∙ rows-flat (recordRows (b .records)) record-lines
+  pub canonical-small : length (canonicalBytes b) ≤ 65536
+  unfolding canonicalBytes
+  canonical-small = written-small (writeFile (arrange b)) (arrange b) canonical-carries
 
   pub canonical-long : 13 ≤ length (canonicalBytes b)
   unfolding canonicalBytes
-  canonical-long = omega (arith, head-length (b .provider), length-append (headRow (b .provider)) (flat (recordRows (b .records))))
+  canonical-long = written-long (writeFile (arrange b)) (arrange b) canonical-carries
 
-  -- IT IS ACCEPTED, AND CARRIES THE SAME NOTEBOOK; so it is its own canonical file
-  pub canonical-carries : readFile (canonicalBytes b) ≡ ok b
-  unfolding canonicalBytes body
-  canonical-carries = carries (b .provider) (b .records) (recordRows (b .records)) body-lines (carried .taken .ruled) (canonical-small)
-
-  -- so every call answers alike of both, and the canonical file is its own
-  reread : readFile (canonicalBytes b) ≡ readFile f
-  reread = canonical-carries ∙ sym e
-
+  -- so it is its own canonical file
   pub canonical-own : canonicalResult (canonicalBytes b) ≡ canonicalResult f
   unfolding canonicalResult canonicalFile
-  canonical-own = ap (λ (x : Res Notebook). mapRes writes (mapRes canonicalBytes x)) reread
+  canonical-own =
+      ap (λ (x : Res Notebook). mapRes writes (mapRes canonicalBytes x)) canonical-carries ∙ ap (λ (w : List ℕ). ok (writes w)) (again b)
+      ∙ sym (ap (λ (x : Res Notebook). mapRes writes (mapRes canonicalBytes x)) e)
 
   pub canonical-fixed : (a : Notebook) → readFile (canonicalBytes b) ≡ ok a → canonicalBytes a ≡ canonicalBytes b
-  canonical-fixed a h = let q : a ≡ b = carried-once h canonical-carries in ap canonicalBytes q
+  canonical-fixed a h = let q : a ≡ arrange b = carried-once h canonical-carries in ap canonicalBytes q ∙ again b
     where
       carried-once : {r : Res Notebook} {x y : Notebook} → r ≡ ok x → r ≡ ok y → x ≡ y
       carried-once p q = cc
@@ -137,11 +68,12 @@ module _ (f : List ℕ) (b : Notebook) (e : readFile f ≡ ok b) where
 
   pub check-canonical : checkResult (canonicalBytes b) ≡ checkResult f
   unfolding checkResult
-  check-canonical = ap (mapRes counted) reread
+  check-canonical = ap (mapRes counted) canonical-carries ∙ ap ok (arranged-counts b) ∙ sym check-counts
 
 -- TWO ACCEPTED FILES HAVE EQUAL CANONICAL FILES exactly when they carry the same notebook
-pub canonical-same : (f g : List ℕ) (a b : Notebook) → readFile f ≡ ok a → readFile g ≡ ok b → (canonicalBytes a ≡ canonicalBytes b) ↔ (a ≡ b)
-canonical-same f g a b p q = (λ e. same-of e (canonical-carries f a p) (canonical-carries g b q), λ e. ap canonicalBytes e)
+pub canonical-same : (f g : List ℕ) (a b : Notebook) → readFile f ≡ ok a → readFile g ≡ ok b → (canonicalBytes a ≡ canonicalBytes b) ↔ SameNotebook a b
+unfolding canonicalBytes
+canonical-same f g a b p q = (λ e. same-of e (arranged-carries f a p) (arranged-carries g b q), λ e. ap writeFile e)
   where
-    same-of : canonicalBytes a ≡ canonicalBytes b → readFile (canonicalBytes a) ≡ ok a → readFile (canonicalBytes b) ≡ ok b → a ≡ b
+    same-of : {x y : Notebook} → writeFile x ≡ writeFile y → readFile (writeFile x) ≡ ok x → readFile (writeFile y) ≡ ok y → x ≡ y
     same-of e h k = cc

@@ -2,6 +2,8 @@ pub mod AllExamples
 pub mod Placing
 pub mod Accepted
 pub mod GroupLaws
+pub mod WrittenLaws
+pub mod Arranging
 pub mod CanonicalLaws
 pub mod Walk
 pub mod FileGroups

@@ -7,6 +7,7 @@ use Rattle.lists.specs.Lists.{Res, mapRes}
 use Rattle.characters.specs.Rows.{flat, lineEnd}
 use Rattle.records.specs.Records.{Record, write, header}
 use Rattle.notebook.specs.Notebook.{Notebook, readFile}
+use Rattle.notebook.specs.Same.{arrange}
 use Rattle.replies.specs.Results.{Result, writes}
 
 -- ---- the canonical file of a notebook, row by row
@@ -27,8 +28,12 @@ unfoldable pub recordRows : List Record → List (List ℕ)
 recordRows [] = []
 recordRows (r ∷ rs) = recordRow r ∷ recordRows rs
 
+-- the file of a notebook whose records stand as they are
+unfoldable pub writeFile : Notebook → List ℕ
+writeFile b = headRow (b .provider) ++ flat (recordRows (b .records))
+
 unfoldable pub canonicalBytes : Notebook → List ℕ
-canonicalBytes b = headRow (b .provider) ++ flat (recordRows (b .records))
+canonicalBytes b = writeFile (arrange b)
 
 -- of an accepted file
 unfoldable pub canonicalFile : List ℕ → Res (List ℕ)

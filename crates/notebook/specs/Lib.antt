@@ -1,5 +1,6 @@
 pub mod Facts
 pub mod Notebook
+pub mod Same
 pub mod Groups
 pub mod Check
 pub mod Samples

@@ -15,8 +15,7 @@ use Rattle.order.specs.declared.Moved.the-variants.{Refused, On}
 use Rattle.order.specs.State.{start, stepOf, finishOf}
 use Rattle.notebook.specs.Facts.{factsOf}
 
--- "Two accepted files carry the same notebook if direction, the list of record numbers and every item agree": they are read to equal
--- notebooks. provider: the direction is 1
+-- what a file carries: "direction, the list of record numbers and every item". provider: the direction is 1
 pub record Notebook : Type 0 where
   pub provider : Bool
   pub records : List Record

@@ -25,7 +25,8 @@ use Rattle.buffers.specs.Buffers.{six}
 use Rattle.replies.specs.Results.{answerIn}
 use Rattle.notebook.specs.Check.{checkResult}
 use Rattle.notebook.specs.Index.{entryOf, entered, entriesFrom, entriesBehind, entriesOf, numbers, numbersOf, indexResult}
-use Rattle.notebook.specs.Canonical.{recordRows, canonicalBytes, canonicalFile, canonicalResult}
+use Rattle.notebook.specs.Same.{arrange}
+use Rattle.notebook.specs.Canonical.{recordRows, writeFile, canonicalBytes, canonicalFile, canonicalResult}
 use Rattle.packing.specs.Packing.{total, put, pack}
 use Rattle.packing.specs.Widths.{past, digitsOf, over, serves, tries, plan}
 use Rattle.division.specs.Marks.{validID, markLine, readMark}
@@ -39,5 +40,5 @@ pub examples-reach : allReached ≡ true
 examples-reach = refl
 
 pub examples-hold : allHold (checks ++ (indexes ++ (canonicals ++ (cuts ++ joins)))) ≡ true
-unfolding answerIn six entryOf entered entriesFrom entriesBehind entriesOf numbers numbersOf bytes value number spell plainNumber isLine numberFrom leap monthLength isReal isDay gregorian eraOf eraOn inEra fromEra readDay writeDay joined table edge oneWidth decimal sized fault valueOf seven postal prefecture itemFault itemValue itemsFault itemsValue rowIn rowOf pairs codePair t911 isMark recordFrom faultFrom faultWhere lineFault recordOf header write inGroup mayFollow pairBroken misplaced continues closesRp lacking missing valueWrong newerGroup refusal unfinished none start hadAfter advance refusalOf stepOf finishOf factsOf stepLine closed onward recordsFrom readRows readFile checkResult indexResult recordRows canonicalBytes canonicalFile canonicalResult total put pack past digitsOf over serves tries plan validID markLine readMark kindOf brokenFrom brokenLine bodyOf piecesIn splitRows split fileOf unmarked partOf partsOf agree find gather joinPieces joinedFile joinFile joinResult pieceBytes numbered cutting cutList cutResult lineEnds
+unfolding answerIn six entryOf entered entriesFrom entriesBehind entriesOf numbers numbersOf bytes value number spell plainNumber isLine numberFrom leap monthLength isReal isDay gregorian eraOf eraOn inEra fromEra readDay writeDay joined table edge oneWidth decimal sized fault valueOf seven postal prefecture itemFault itemValue itemsFault itemsValue rowIn rowOf pairs codePair t911 isMark recordFrom faultFrom faultWhere lineFault recordOf header write inGroup mayFollow pairBroken misplaced continues closesRp lacking missing valueWrong newerGroup refusal unfinished none start hadAfter advance refusalOf stepOf finishOf factsOf stepLine closed onward recordsFrom readRows readFile checkResult indexResult recordRows arrange writeFile canonicalBytes canonicalFile canonicalResult total put pack past digitsOf over serves tries plan validID markLine readMark kindOf brokenFrom brokenLine bodyOf piecesIn splitRows split fileOf unmarked partOf partsOf agree find gather joinPieces joinedFile joinFile joinResult pieceBytes numbered cutting cutList cutResult lineEnds
 examples-hold = refl

@@ -16,6 +16,7 @@ use Rattle.replies.specs.Replies.{replyOf}
 use Rattle.replies.specs.Results.{Result, answerOf, left, fitting, answerIn, replyTo, outputOf}
 use Rattle.replies.proofs.Results.{gives-refusal}
 use Rattle.notebook.specs.Notebook.{Notebook, readFile}
+use Rattle.notebook.specs.Same.{arrange}
 use Rattle.notebook.specs.Check.{counted, checkResult}
 use Rattle.notebook.specs.Index.{indexResult}
 use Rattle.notebook.specs.Canonical.{canonicalFile, canonicalResult}
@@ -61,7 +62,7 @@ check-answers s = go (readFile s) (file-refuses checkNumbers refl s)
 
 cut-refuses : (s : List ℕ) (c : ℕ) (id : List ℕ) → Refuses (Given cutNumbers s) (cutList s c id)
 unfolding cutList below
-cut-refuses s c id = then-refuses (Given cutNumbers s) (found id c) (readFile s) (file-refuses cutNumbers refl s) (λ b. valid (validID id) (cutting id c b))
+cut-refuses s c id = then-refuses (Given cutNumbers s) (found id c) (readFile s) (file-refuses cutNumbers refl s) (λ b. valid (validID id) (cutting id c (arrange b)))
   where
     list : (ps : Option (List (List ℕ))) → Refuses (Given cutNumbers s) (listed ps)
     list none = without-line 18 (omega arith) refl refl
