@@ -32,7 +32,7 @@ use Rattle.replies.specs.declared.Checked.{Checked}
 use Rattle.replies.specs.declared.Checked.the-variants.{Accepted, Refused}
 use Rattle.notebook.specs.Notebook.{Notebook, stepLine, prepend, closed, onward, recordsFrom, notebookOf, readRows, readFile}
 use Rattle.notebook.specs.Check.{count, counted, checked, checkOf}
-use Rattle.checking.specs.Walking.{directionOf, tally, Judged, Behind, Closing}
+use Rattle.checking.specs.Walking.{directionOf, tally, Behind, Closing}
 use Rattle.checking.proofs.LineFacts.{line-size, whole-line, records-end, records-mark, records-broken, records-on}
 use Rattle.checking.specs.declared.Turn.{Turn}
 use Rattle.checking.specs.declared.Turn.the-variants.{Over, Refused as TurnRefused, On as TurnOn}
