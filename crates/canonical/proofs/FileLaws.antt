@@ -36,8 +36,8 @@ use Rattle.checking.specs.declared.Turn.the-variants.{Over, Refused as TurnRefu
 use Rattle.checking.specs.Turns.{StepAt, RefusedAt, broken, faulty, TurnOf}
 use Rattle.checking.proofs.TurnLaws.{turn-facts, turn-over, turn-refused, turn-step, turn-fits}
 use Rattle.checking.proofs.LineFacts.{whole-line, whole-length, records-end, records-mark, records-broken, records-on}
-use Rattle.replies.specs.declared.Canonical.{Canonical}
-use Rattle.replies.specs.declared.Canonical.the-variants.{Written, Refused}
+use Rattle.replies.specs.declared.Answer.{Answer}
+use Rattle.replies.specs.declared.Answer.the-variants.{Done, Refused}
 use Rattle.notebook.specs.Canonical.{recordRow, recordRows}
 use Rattle.canonical.specs.declared.Run.{Run}
 use Rattle.canonical.specs.Writing.{ahead, reach, Ready, Passed, Sound, Ended, Output, poured, PouredMeans, Poured, closing, Finished}
@@ -46,7 +46,7 @@ use Rattle.lists.proofs.Parts.{part-length}
 -- ---- the end
 
 module _ (st : State) (at : ℕ) {n : ℕ} (e : n ≡ finishOf st) where
-  pub close-good : n ≡ 0 → Written at ≡ closing st at
+  pub close-good : n ≡ 0 → Done at 0 0 ≡ closing st at
   unfolding closing
   close-good z = rw (eq-eqb (finishOf st) 0 (sym e ∙ z))
 
@@ -69,11 +69,11 @@ pour-record d at r (ok rs) =
     let l : at + length (recordRow r ++ flat (recordRows rs)) ≡ at + length (recordRow r) + length (flat (recordRows rs)) = omega (arith, length-append (recordRow r) (flat (recordRows rs))) in
     cc
 
-pour-end : (d : List ℕ) (st : State) (at : ℕ) {r : Canonical} → at ≤ 65536 → at ≤ length d → r ≡ closing st at → PouredMeans (poured d at (closed st)) d r
+pour-end : (d : List ℕ) (st : State) (at : ℕ) {r : Answer} → at ≤ 65536 → at ≤ length d → r ≡ closing st at → PouredMeans (poured d at (closed st)) d r
 unfolding poured closed closing recordRows
-pour-end d st at h i e = subst (λ (r : Canonical). PouredMeans (poured d at (closed st)) d r) (sym e) (go (eqb (finishOf st) 0))
+pour-end d st at h i e = subst (λ (r : Answer). PouredMeans (poured d at (closed st)) d r) (sym e) (go (eqb (finishOf st) 0))
   where
-    go : (b : Bool) → PouredMeans (poured d at (cond b (ok []) (refused (finishOf st) (st .line + 1)))) d (cond b (Written at) (Refused (finishOf st) (st .line + 1)))
+    go : (b : Bool) → PouredMeans (poured d at (cond b (ok []) (refused (finishOf st) (st .line + 1)))) d (cond b (Done at 0 0) (Refused (finishOf st) (st .line + 1)))
     go true = (ap (λ (n : ℕ). ok (record { buffer = d; end = n })) (omega arith), h, i)
     go false = refl
 
@@ -142,17 +142,17 @@ module _ {provider : Bool} {s : List ℕ} {from : ℕ} {d : List ℕ} {st : Stat
   pouring-fits = omega (arith, v .line, v .high, v .small)
 
   -- the answer, if what is left answers it
-  answer : {r : Canonical} → PouredMeans (poured d′ next (recordsFrom st (rows (drop at s)))) d′ r → Poured (length d) (poured d from (recordsFrom (start provider) (rows (drop from s)))) d′ r
+  answer : {r : Answer} → PouredMeans (poured d′ next (recordsFrom st (rows (drop at s)))) d′ r → Poured (length d) (poured d from (recordsFrom (start provider) (rows (drop from s)))) d′ r
   answer {r} m = record { means = subst (λ (x : Res Output). PouredMeans x d′ r) (sym (v .left)) m; size = v .size }
 
   module _ {stops : List ℕ} {k : Line} (w : LineOf s at stops k) where
-    ends : {r : Canonical} → recordsFrom st (rows (drop at s)) ≡ closed st → r ≡ closing st next → Poured (length d) (poured d from (recordsFrom (start provider) (rows (drop from s)))) d′ r
+    ends : {r : Answer} → recordsFrom st (rows (drop at s)) ≡ closed st → r ≡ closing st next → Poured (length d) (poured d from (recordsFrom (start provider) (rows (drop from s)))) d′ r
     ends {r} q e = answer (subst (λ (x : Res (List Record)). PouredMeans (poured d′ next x) d′ r) (sym q) (pour-end d′ st next pouring-end pouring-inside e))
 
-    poured-end : {r : Canonical} → k ≡ End → r ≡ closing st next → Poured (length d) (poured d from (recordsFrom (start provider) (rows (drop from s)))) d′ r
+    poured-end : {r : Answer} → k ≡ End → r ≡ closing st next → Poured (length d) (poured d from (recordsFrom (start provider) (rows (drop from s)))) d′ r
     poured-end e q = ends (records-end w st e) q
 
-    poured-mark : {r : Canonical} → k ≡ Mark → r ≡ closing st next → Poured (length d) (poured d from (recordsFrom (start provider) (rows (drop from s)))) d′ r
+    poured-mark : {r : Answer} → k ≡ Mark → r ≡ closing st next → Poured (length d) (poured d from (recordsFrom (start provider) (rows (drop from s)))) d′ r
     poured-mark e q = ends (records-mark w st e) q
 
     refusal : {n : ℕ} → recordsFrom st (rows (drop at s)) ≡ refused n (st .line + 1) → Poured (length d) (poured d from (recordsFrom (start provider) (rows (drop from s)))) d′ (Refused n (st .line + 1))
@@ -235,25 +235,25 @@ module _ {provider : Bool} {s : List ℕ} {from : ℕ} {d : List ℕ} {st : Stat
   running-reach = pouring-end (v .pouring)
 
   -- the answer with an array and a reply
-  abbrev Answer : List ℕ → Canonical → Type 0
-  Answer d″ r = Poured (length d) (poured (sets d 0 (part s 0 from)) from (recordsFrom (start provider) (rows (drop from s)))) d″ r
+  abbrev Pours : List ℕ → Answer → Type 0
+  Pours d″ r = Poured (length d) (poured (sets d 0 (part s 0 from)) from (recordsFrom (start provider) (rows (drop from s)))) d″ r
 
   -- the same for the array as it will be when the run is copied
-  abbrev Ahead : Canonical → Type 0
+  abbrev Ahead : Answer → Type 0
   Ahead r = Poured (length (sets d 0 (part s 0 from))) (poured (sets d 0 (part s 0 from)) from (recordsFrom (start provider) (rows (drop from s)))) (ahead s d′ run at) r
 
-  finished : {d″ : List ℕ} {r : Canonical} → Finished st s at d′ d″ run r → Ahead r → Answer d″ r
+  finished : {d″ : List ℕ} {r : Answer} → Finished st s at d′ d″ run r → Ahead r → Pours d″ r
   finished {d″} {r} f p = record {
     means = subst (λ (y : List ℕ). PouredMeans (poured (sets d 0 (part s 0 from)) from (recordsFrom (start provider) (rows (drop from s)))) y r) (sym (f .buffer)) (p .means);
     size = f .size ∙ v .same;
   }
 
   -- a refusal says nothing of the array
-  kept : {n line : ℕ} → Ahead (Refused n line) → Answer d′ (Refused n line)
+  kept : {n line : ℕ} → Ahead (Refused n line) → Pours d′ (Refused n line)
   kept p = record { means = p .means; size = v .same }
 
   module _ {stops : List ℕ} {k : Turn} (w : TurnOf st s at stops k) where
-    pub running-over : {d″ : List ℕ} {r : Canonical} → k ≡ Over → Finished st s at d′ d″ run r → Poured (length d) (poured (sets d 0 (part s 0 from)) from (recordsFrom (start provider) (rows (drop from s)))) d″ r
+    pub running-over : {d″ : List ℕ} {r : Answer} → k ≡ Over → Finished st s at d′ d″ run r → Poured (length d) (poured (sets d 0 (part s 0 from)) from (recordsFrom (start provider) (rows (drop from s)))) d″ r
     running-over q f = finished f (⊎-elim (λ l. poured-end (v .pouring) l refl (f .answer)) (λ l. poured-mark (v .pouring) l refl (f .answer)) (turn-over w q))
 
     pub running-stopped : {n : ℕ} → k ≡ TurnRefused n → Poured (length d) (poured (sets d 0 (part s 0 from)) from (recordsFrom (start provider) (rows (drop from s)))) d′ (Refused n (st .line + 1))
@@ -323,7 +323,7 @@ module _ (st : State) (s : List ℕ) (at : ℕ) (d : List ℕ) (run : Run) (i : 
     pub finish-small : reach run at ≤ 65536 → n ≤ 65536
     finish-small z = omega (arith, x .next, z, part-length s (run .from) at (r .low) i)
 
-    pub finish-done : {c : Canonical} → c ≡ closing st n → Finished st s at d d₁ run c
+    pub finish-done : {c : Answer} → c ≡ closing st n → Finished st s at d d₁ run c
     finish-done e = record {
       answer = e ∙ ap (closing st) (x .next ∙ ap (λ (k : ℕ). run .at + k) (part-length s (run .from) at (r .low) i));
       buffer = x .list;

@@ -8,7 +8,7 @@ use borrow.Author.Tests.{le-leb, lt-leb, eqb-true, eqb-false}
 use lib.Dec.{leb, eqb}
 use lib.ListN.{length, take, drop, length-append}
 use lib.Seq.{sets, length-sets, length-take-le, take-at}
-use Rattle.lists.specs.Lists.{part, Res, ok, refused}
+use Rattle.lists.specs.Lists.{part, Res, ok, refused, mapRes}
 use Rattle.scanning.specs.declared.Line.{Line}
 use Rattle.scanning.specs.declared.Line.the-variants.{Whole, Mark, End, Broken}
 use Rattle.characters.specs.Rows.{rows, flat, lineEnd, WholeLine}
@@ -23,22 +23,24 @@ use Rattle.checking.specs.Walking.{directionOf}
 use Rattle.checking.proofs.ReadLaws.{read-large, read-end, read-mark, read-broken, read-provider, read-patient, read-version, line-1-high, line-1-fits, line-1-behind}
 use Rattle.checking.proofs.LineFacts.{line-size}
 use Rattle.checking.proofs.CheckLaws.{zeros-size}
-use Rattle.replies.specs.declared.Canonical.{Canonical}
-use Rattle.replies.specs.declared.Canonical.the-variants.{Written, Refused}
-use Rattle.notebook.specs.Canonical.{headRow, recordRows, canonicalBytes, answered, canonicalOf, bytesOf, bufferAfter, canonicalBuffer}
-use Rattle.canonical.specs.Writing.{Output, poured, Poured, fileBytes, MadeMeans, MadeOf, Holds}
+use Rattle.replies.specs.declared.Answer.{Answer}
+use Rattle.replies.specs.declared.Answer.the-variants.{Done, Refused}
+use Rattle.notebook.specs.Canonical.{headRow, recordRows, canonicalBytes, canonicalFile, canonicalResult}
+use Rattle.replies.specs.Results.{writes, Gives}
+use Rattle.replies.proofs.Results.{gives-refusal, front-20, front-room, front-written}
+use Rattle.canonical.specs.Writing.{Output, poured, Poured, MadeMeans, MadeOf, Holds}
 
 -- ---- the array
 
 -- line 1, and the records poured behind it
-made : (s d d₁ d₂ : List ℕ) (e r : ℕ) (provider : Bool) (x : Res (List Record)) (c : Canonical) → Wrote d d₁ 0 r (headRow provider) → r ≡ e + 2
-    → readFile s ≡ notebookOf provider x → Poured (length d) (poured d₁ (e + 2) x) d₂ c → MadeOf (length d) (fileBytes (readFile s)) d₂ c
-unfolding poured canonicalBytes
-made s d d₁ d₂ e r provider (refused n line) (Refused m l) w g q v = record { means = ap fileBytes q ∙ (let y : _≡_ {A = Res (List ℕ)} (refused n line) (refused m l) = cc in y); size = v .size }
+made : (s d d₁ d₂ : List ℕ) (e r : ℕ) (provider : Bool) (x : Res (List Record)) (c : Answer) → Wrote d d₁ 0 r (headRow provider) → r ≡ e + 2
+    → readFile s ≡ notebookOf provider x → Poured (length d) (poured d₁ (e + 2) x) d₂ c → MadeOf (length d) (canonicalFile s) d₂ c
+unfolding poured canonicalBytes canonicalFile
+made s d d₁ d₂ e r provider (refused n line) (Refused m l) w g q v = record { means = ap (mapRes canonicalBytes) q ∙ (let y : _≡_ {A = Res (List ℕ)} (refused n line) (refused m l) = cc in y); size = v .size }
   where
     u : _≡_ {A = Res Output} (refused n line) (refused m l)
     u = v .means
-made s d d₁ d₂ e r provider (refused n line) (Written t) w g q v = absurd (no (v .means .0))
+made s d d₁ d₂ e r provider (refused n line) (Done t b c) w g q v = absurd (no (v .means .0))
   where
     no : _≡_ {A = Res Output} (refused n line) (ok (record { buffer = d₂; end = t })) → ⊥
     no f = let y : _≡_ {A = ℕ} 0 1 = cc in omega arith
@@ -46,7 +48,7 @@ made s d d₁ d₂ e r provider (ok rs) (Refused m l) w g q v = absurd (no (v .m
   where
     no : _≡_ {A = Res Output} (ok (record { buffer = sets d₁ (e + 2) (flat (recordRows rs)); end = e + 2 + length (flat (recordRows rs)) })) (refused m l) → ⊥
     no f = let y : _≡_ {A = ℕ} 0 1 = cc in omega arith
-made s d d₁ d₂ e r provider (ok rs) (Written t) w g q v = record { means = (ap fileBytes q ∙ ap ok (sym all), v .means .2); size = v .size }
+made s d d₁ d₂ e r provider (ok rs) (Done t b c) w g q v = record { means = (ap (mapRes canonicalBytes) q ∙ ap ok (sym all), v .means .2); size = v .size }
   where
     rest : List ℕ
     rest = flat (recordRows rs)
@@ -71,24 +73,25 @@ made s d d₁ d₂ e r provider (ok rs) (Written t) w g q v = record { means = (
     all : take t d₂ ≡ headRow provider ++ rest
     all = front (then w behind) (omega (arith, then w behind .high, then w behind .next))
 
-refused-so : (s d : List ℕ) {n line : ℕ} → readFile s ≡ refused n line → MadeOf (length d) (fileBytes (readFile s)) d (Refused n line)
-refused-so s d e = record { means = ap fileBytes e; size = refl }
+refused-so : (s d : List ℕ) {n line : ℕ} → readFile s ≡ refused n line → MadeOf (length d) (canonicalFile s) d (Refused n line)
+unfolding canonicalFile
+refused-so s d e = record { means = ap (mapRes canonicalBytes) e; size = refl }
 
 module _ (s d : List ℕ) (z : Holds s d) where
   pub into-room : length s ≤ 65536 → length s ≤ length d
   into-room h = z .room h
 
-  pub into-large : 65536 < length s → MadeOf (length d) (fileBytes (readFile s)) d (Refused 1 0)
+  pub into-large : 65536 < length s → MadeOf (length d) (canonicalFile s) d (Refused 1 0)
   into-large h = refused-so s d (read-large s h)
 
   module _ (h : length s ≤ 65536) {stops : List ℕ} {k : Line} (w : LineOf s 0 stops k) where
-    pub into-end : k ≡ End → MadeOf (length d) (fileBytes (readFile s)) d (Refused 2 1)
+    pub into-end : k ≡ End → MadeOf (length d) (canonicalFile s) d (Refused 2 1)
     into-end e = refused-so s d (read-end s h w e)
 
-    pub into-mark : k ≡ Mark → MadeOf (length d) (fileBytes (readFile s)) d (Refused 2 1)
+    pub into-mark : k ≡ Mark → MadeOf (length d) (canonicalFile s) d (Refused 2 1)
     into-mark e = refused-so s d (read-mark s h w e)
 
-    pub into-broken : k ≡ Broken → MadeOf (length d) (fileBytes (readFile s)) d (Refused 2 1)
+    pub into-broken : k ≡ Broken → MadeOf (length d) (canonicalFile s) d (Refused 2 1)
     into-broken e = refused-so s d (read-broken s h w e)
 
     module _ {e : ℕ} {good : Bool} {n : ℕ} (q : k ≡ Whole e good n) where
@@ -103,7 +106,7 @@ module _ (s d : List ℕ) (z : Holds s d) where
           ap (take (e + 2 - 0)) a ∙ take-at (part s 0 e ++ lineEnd) (flat (rows (drop (e + 2) s))) (e + 2 - 0) l
 
       module _ {f : ℕ} (p : f ≡ directionOf (take (e - 0) (drop 0 s))) where
-        pub into-version : f ≡ 0 → MadeOf (length d) (fileBytes (readFile s)) d (Refused 3 1)
+        pub into-version : f ≡ 0 → MadeOf (length d) (canonicalFile s) d (Refused 3 1)
         into-version o = refused-so s d (read-version s h w q p o)
 
         -- the array with line 1
@@ -121,16 +124,16 @@ module _ (s d : List ℕ) (z : Holds s d) where
             the-wrote : Wrote d (sets d 0 (part s 0 (e + 2))) 0 (e + 2) (part s 0 (e + 2))
             the-wrote = record { next = omega (arith, first-length); list = refl; size = length-sets d 0 (part s 0 (e + 2)); high = omega (arith, line .high, z .room h) }
 
-        pub into-whole : {d₂ : List ℕ} {c : Canonical} → (f ≡ 0 → ⊥) → Poured (length d) (poured (sets d 0 (part s 0 (e + 2))) (e + 2) (recordsFrom (start (eqb f 1)) (rows (drop (e + 2) s)))) d₂ c
-            → MadeOf (length d) (fileBytes (readFile s)) d₂ c
+        pub into-whole : {d₂ : List ℕ} {c : Answer} → (f ≡ 0 → ⊥) → Poured (length d) (poured (sets d 0 (part s 0 (e + 2))) (e + 2) (recordsFrom (start (eqb f 1)) (rows (drop (e + 2) s)))) d₂ c
+            → MadeOf (length d) (canonicalFile s) d₂ c
         unfolding with-first
         into-whole {d₂} {c} o v = go (eqb f 1) refl v
           where
             by : (provider : Bool) → part s 0 e ≡ header provider → readFile s ≡ notebookOf provider (recordsFrom (start provider) (rows (drop (e + 2) s)))
-                → Poured (length d) (poured (sets d 0 (part s 0 (e + 2))) (e + 2) (recordsFrom (start provider) (rows (drop (e + 2) s)))) d₂ c → MadeOf (length d) (fileBytes (readFile s)) d₂ c
+                → Poured (length d) (poured (sets d 0 (part s 0 (e + 2))) (e + 2) (recordsFrom (start provider) (rows (drop (e + 2) s)))) d₂ c → MadeOf (length d) (canonicalFile s) d₂ c
             by provider a b v = made s d with-first d₂ e (e + 2) provider (recordsFrom (start provider) (rows (drop (e + 2) s))) c (first-wrote provider a) refl b v
 
-            go : (b : Bool) → eqb f 1 ≡ b → Poured (length d) (poured (sets d 0 (part s 0 (e + 2))) (e + 2) (recordsFrom (start b) (rows (drop (e + 2) s)))) d₂ c → MadeOf (length d) (fileBytes (readFile s)) d₂ c
+            go : (b : Bool) → eqb f 1 ≡ b → Poured (length d) (poured (sets d 0 (part s 0 (e + 2))) (e + 2) (recordsFrom (start b) (rows (drop (e + 2) s)))) d₂ c → MadeOf (length d) (canonicalFile s) d₂ c
             go true g v = let y = read-provider s h w q p (eqb-true f 1 g) in by true (y .0) (y .1) v
             go false g v = let y = read-patient s h w q p o (eqb-false f 1 g) in by false (y .0) (y .1) v
 
@@ -138,70 +141,29 @@ pub ruleset into-laws = (into-room, line-size, zeros-size, line-1-high, line-1-f
 
 -- ---- the output
 
-module _ (s d a : List ℕ) {l : ℕ} {c : Canonical} (m : MadeOf l (fileBytes (readFile s)) a c) where
-  means : {j : Canonical} → c ≡ j → MadeMeans (fileBytes (readFile s)) a j
-  means e = subst (MadeMeans (fileBytes (readFile s)) a) e (m .means)
+module _ (s d a : List ℕ) {l : ℕ} {c : Answer} (m : MadeOf l (canonicalFile s) a c) where
+  means : {j : Answer} → c ≡ j → MadeMeans (canonicalFile s) a j
+  means e = subst (MadeMeans (canonicalFile s) a) e (m .means)
 
-  -- a refusal leaves the output as it was
-  kept : {n line : ℕ} → Refused n line ≡ canonicalOf s (length d) → d ≡ canonicalBuffer s d
-  unfolding canonicalBuffer
-  kept e = ap (λ (x : Canonical). bufferAfter x (bytesOf (readFile s)) d) e
+  pub canonical-refused : {n line : ℕ} → c ≡ Refused n line → Gives (canonicalResult s) d d (Refused n line)
+  unfolding canonicalResult
+  canonical-refused e = gives-refusal d (ap (mapRes writes) (means e))
 
-  pub canonical-refused : {n line : ℕ} → c ≡ Refused n line → Refused n line ≡ canonicalOf s (length d)
-  unfolding canonicalOf
-  canonical-refused {n} {line} e = go (readFile s) (means e)
-    where
-      go : (x : Res Notebook) → fileBytes x ≡ refused n line → Refused n line ≡ answered x (length d)
-      go (ok b) q = let y : _≡_ {A = ℕ} 0 1 = cc in absurd (omega arith)
-      go (refused i l) q = let y : _≡_ {A = Canonical} (Refused n line) (Refused i l) = cc in y
-
-  pub canonical-refused-kept : {n line : ℕ} → c ≡ Refused n line → d ≡ canonicalBuffer s d
-  canonical-refused-kept e = kept (canonical-refused e)
-
-  module _ {t : ℕ} (e : c ≡ Written t) where
+  module _ {t b b′ : ℕ} (e : c ≡ Done t b b′) where
     pub canonical-inside : t ≤ length a
     canonical-inside = means e .1
 
-    file : List ℕ
-    file = take (t - 0) (drop 0 a)
+    given : canonicalResult s ≡ ok (writes (take (t - 0) (drop 0 a)))
+    unfolding canonicalResult
+    given = let z : t ≡ t - 0 = omega arith in ap (mapRes writes) (means e .0) ∙ ap (λ (n : ℕ). ok (writes (take n a))) z
 
-    file-length : length file ≡ t
-    unfolding file
-    file-length = length-take-le (t - 0) a (omega (arith, canonical-inside)) ∙ omega arith
+    pub canonical-short : length d < t → Gives (canonicalResult s) d d (Refused 20 0)
+    canonical-short h = front-20 a d canonical-inside given h
 
-    read : (b : Notebook) × (readFile s ≡ ok b) × (canonicalBytes b ≡ file)
-    unfolding file
-    read = go (readFile s) refl (means e .0)
-      where
-        same-end : t ≡ t - 0
-        same-end = omega arith
+    pub canonical-room : t ≤ length d → Room d 0 (take (t - 0) (drop 0 a))
+    canonical-room h = front-room a d canonical-inside given h
 
-        go : (x : Res Notebook) → readFile s ≡ x → fileBytes x ≡ ok (take t a) → (b : Notebook) × (readFile s ≡ ok b) × (canonicalBytes b ≡ take (t - 0) a)
-        go (ok b) q f = (b, q, (let y : canonicalBytes b ≡ take t a = cc in y ∙ ap (λ (n : ℕ). take n a) same-end))
-        go (refused n l) q f = let y : _≡_ {A = ℕ} 0 1 = cc in absurd (omega arith)
+    pub canonical-written : {d′ : List ℕ} {r : ℕ} → Wrote d d′ 0 r (take (t - 0) (drop 0 a)) → Gives (canonicalResult s) d d′ (Done t 0 0)
+    canonical-written w = front-written a d canonical-inside given w
 
-    by-room : canonicalOf s (length d) ≡ cond (leb t (length d)) (Written t) (Refused 20 0)
-    unfolding canonicalOf
-    by-room = ap (λ (x : Res Notebook). answered x (length d)) (read .1) ∙ ap (λ (n : ℕ). cond (leb n (length d)) (Written n) (Refused 20 0)) (ap length (read .2) ∙ file-length)
-
-    pub canonical-short : length d < t → Refused 20 0 ≡ canonicalOf s (length d)
-    canonical-short h = sym (by-room ∙ rw (lt-leb t (length d) h))
-
-    pub canonical-short-kept : length d < t → d ≡ canonicalBuffer s d
-    canonical-short-kept h = kept (canonical-short h)
-
-    module _ (h : t ≤ length d) where
-      pub canonical-room : Room d 0 (take (t - 0) (drop 0 a))
-      unfolding file
-      canonical-room = omega (arith, file-length)
-
-      pub canonical-written : Written t ≡ canonicalOf s (length d)
-      canonical-written = sym (by-room ∙ rw (le-leb t (length d) h))
-
-      pub canonical-buffer : {d′ : List ℕ} {r : ℕ} → Wrote d d′ 0 r (take (t - 0) (drop 0 a)) → d′ ≡ canonicalBuffer s d
-      unfolding canonicalBuffer file
-      canonical-buffer w =
-          w .list ∙ sets-all file d (omega (arith, file-length)) ∙ ap (λ (x : List ℕ). x ++ drop (length x) d) (sym (ap bytesOf (read .1) ∙ read .2))
-          ∙ ap (λ (x : Canonical). bufferAfter x (bytesOf (readFile s)) d) canonical-written
-
-pub ruleset canonical-laws = (canonical-refused, canonical-refused-kept, canonical-inside, canonical-short, canonical-short-kept, canonical-room, canonical-written, canonical-buffer)
+pub ruleset canonical-laws = (canonical-refused, canonical-inside, canonical-short, canonical-room, canonical-written)

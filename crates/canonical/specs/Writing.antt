@@ -22,10 +22,10 @@ use Rattle.codes.specs.Codes.{codes, placeOf, sliceOf}
 use Rattle.lines.specs.Codes.{Spanned}
 use Rattle.buffers.specs.Buffers.{Wrote}
 use Rattle.notebook.specs.Notebook.{Notebook}
-use Rattle.replies.specs.declared.Canonical.{Canonical}
-use Rattle.replies.specs.declared.Canonical.the-variants.{Written, Refused}
+use Rattle.replies.specs.declared.Answer.{Answer}
+use Rattle.replies.specs.declared.Answer.the-variants.{Done, Refused}
 use Rattle.canonical.specs.declared.Run.{Run}
-use Rattle.notebook.specs.Canonical.{recordRows, canonicalBytes}
+use Rattle.notebook.specs.Canonical.{recordRows}
 
 -- ---- one item
 
@@ -172,21 +172,21 @@ unfoldable pub poured : List ℕ → ℕ → Res (List Record) → Res Output
 poured d at (ok rs) = ok (record { buffer = sets d at (flat (recordRows rs)); end = at + length (flat (recordRows rs)) })
 poured d at (refused n line) = refused n line
 
-abbrev pub PouredMeans : Res Output → List ℕ → Canonical → Type 0
-PouredMeans x d (Written t) = (x ≡ ok (record { buffer = d; end = t })) × (t ≤ 65536) × (t ≤ length d)
+abbrev pub PouredMeans : Res Output → List ℕ → Answer → Type 0
+PouredMeans x d (Done t b c) = (x ≡ ok (record { buffer = d; end = t })) × (t ≤ 65536) × (t ≤ length d)
 PouredMeans x d (Refused n line) = x ≡ refused n line
 
 -- m: the array's length
-pub record Poured (m : ℕ) (x : Res Output) (d : List ℕ) (r : Canonical) : Type 0 where
+pub record Poured (m : ℕ) (x : Res Output) (d : List ℕ) (r : Answer) : Type 0 where
   pub means : PouredMeans x d r
   pub size : length d ≡ m
 
 -- the end: what is missing there, or the bytes
-unfoldable pub closing : State → ℕ → Canonical
-closing st at = cond (eqb (finishOf st) 0) (Written at) (Refused (finishOf st) (st .line + 1))
+unfoldable pub closing : State → ℕ → Answer
+closing st at = cond (eqb (finishOf st) 0) (Done at 0 0) (Refused (finishOf st) (st .line + 1))
 
 -- the last run is copied
-pub record Finished (st : State) (s : List ℕ) (at : ℕ) (d d′ : List ℕ) (run : Run) (r : Canonical) : Type 0 where
+pub record Finished (st : State) (s : List ℕ) (at : ℕ) (d d′ : List ℕ) (run : Run) (r : Answer) : Type 0 where
   pub answer : r ≡ closing st (reach run at)
   pub buffer : d′ ≡ ahead s d run at
   pub size : length d′ ≡ length d
@@ -196,15 +196,10 @@ pub record Finished (st : State) (s : List ℕ) (at : ℕ) (d d′ : List ℕ) (
 pub record Holds (s d : List ℕ) : Type 0 where
   pub room : length s ≤ 65536 → length s ≤ length d
 
--- the canonical file, or the refusal
-abbrev pub fileBytes : Res Notebook → Res (List ℕ)
-fileBytes (ok b) = ok (canonicalBytes b)
-fileBytes (refused n line) = refused n line
-
-abbrev pub MadeMeans : Res (List ℕ) → List ℕ → Canonical → Type 0
-MadeMeans x d (Written t) = (x ≡ ok (take t d)) × (t ≤ length d)
+abbrev pub MadeMeans : Res (List ℕ) → List ℕ → Answer → Type 0
+MadeMeans x d (Done t b c) = (x ≡ ok (take t d)) × (t ≤ length d)
 MadeMeans x d (Refused n line) = x ≡ refused n line
 
-pub record MadeOf (m : ℕ) (x : Res (List ℕ)) (d : List ℕ) (r : Canonical) : Type 0 where
+pub record MadeOf (m : ℕ) (x : Res (List ℕ)) (d : List ℕ) (r : Answer) : Type 0 where
   pub means : MadeMeans x d r
   pub size : length d ≡ m

@@ -16,11 +16,12 @@ ghost use Rattle.lines.specs.Codes.{Commas, Spanned};
 ghost use Rattle.buffers.specs.Buffers.{Room, Wrote};
 ghost use Rattle.notebook.specs.Notebook.{recordsFrom, readFile};
 ghost use Rattle.checking.specs.Walking.{Behind, Closing};
-ghost use Rattle.notebook.specs.Canonical.{recordRow, canonicalOf, canonicalBuffer};
+ghost use Rattle.notebook.specs.Canonical.{recordRow, canonicalFile, canonicalResult};
+ghost use Rattle.replies.specs.Results.{Gives};
 ghost use Rattle.canonical.specs.Writing.{postalBytes, numberBytes, dayBytes, itemBytes, Spellable, OwnUnless, Items, Sound};
 ghost use Rattle.canonical.specs.Writing.{spot, Stands, Ready, Passed, spotsOf, LineIn, begins, itemAt, tailAt, ItemOf, Stays, Ended};
-ghost use Rattle.canonical.specs.Writing.{reach, Finished, poured, Poured, closing, fileBytes, MadeOf, Holds};
-use replies::Canonical;
+ghost use Rattle.canonical.specs.Writing.{reach, Finished, poured, Poured, closing, MadeOf, Holds};
+use replies::Answer;
 
 // ---- one item
 
@@ -256,20 +257,20 @@ fn put_record(
 // ---- the file
 
 // The end of a file: what is missing there, or how many bytes are written.
-fn close(st: order::State, at: usize) -> Canonical
+fn close(st: order::State, at: usize) -> Answer
     requires { ⌜ Closing st ⌝ }
     requires { ⌜ at ≤ 65536 ⌝ }
     ensures { λ r. ⌜ r ≡ closing st at ⌝ }
 {
     let missing = st.finish();
     if missing == 0 {
-        return Canonical::Written(at as u32);
+        return Answer::Done(at as u32, 0, 0);
     }
-    Canonical::Refused(missing, st.line + 1)
+    Answer::Refused(missing, st.line + 1)
 }
 
 // The end of a file at a position: the last run, then as `close`.
-fn finish(st: order::State, s: &[u8], at: usize, out: &mut [u8], run: Run) -> Canonical
+fn finish(st: order::State, s: &[u8], at: usize, out: &mut [u8], run: Run) -> Answer
     requires { ⌜ Closing st ⌝ }
     requires { ⌜ at ≤ length (now s) ⌝ }
     requires { ⌜ Ready (now out) run at [] ⌝ }
@@ -290,7 +291,7 @@ fn write_records(
     s: &[u8],
     from: usize,
     out: &mut [u8],
-) -> Canonical
+) -> Answer
     requires { ⌜ Lent (now codes) ⌝ }
     requires { ⌜ Sixteen (now stops) ⌝ }
     requires { ⌜ Behind (now s) from ⌝ }
@@ -305,7 +306,7 @@ fn write_records(
             checking::Turn::Over => return finish(st, s, at, out, run),
             checking::Turn::Refused(n) => {
                 let line = st.line + 1;
-                return Canonical::Refused(n, line);
+                return Answer::Refused(n, line);
             }
             checking::Turn::On(after, _, _, end, commas) => {
                 let number = after.place;
@@ -318,25 +319,25 @@ fn write_records(
 }
 
 // The canonical file of an accepted file at the front of an array that holds the file; or the one refusal.
-pub fn canonical_into(s: &[u8], out: &mut [u8]) -> Canonical
+pub fn canonical_into(s: &[u8], out: &mut [u8]) -> Answer
     requires { ⌜ Holds (now s) (now out) ⌝ }
-    ensures { λ r. ⌜ MadeOf (length (now (out .entry))) (fileBytes (readFile (now (s .entry)))) (now (out .exit)) r ⌝ }
+    ensures { λ r. ⌜ MadeOf (length (now (out .entry))) (canonicalFile (now (s .entry))) (now (out .exit)) r ⌝ }
 {
     let len = s.len();
     if 65536 < len {
-        return Canonical::Refused(1, 0);
+        return Answer::Refused(1, 0);
     }
     let codes = codes::item_codes();
     let mut stops = [0usize; 16];
     let start = 0;
     match scanning::line_at(&mut stops, s, start) {
-        scanning::Line::End => Canonical::Refused(2, 1),
-        scanning::Line::Mark => Canonical::Refused(2, 1),
-        scanning::Line::Broken => Canonical::Refused(2, 1),
+        scanning::Line::End => Answer::Refused(2, 1),
+        scanning::Line::Mark => Answer::Refused(2, 1),
+        scanning::Line::Broken => Answer::Refused(2, 1),
         scanning::Line::Whole(end, _, _) => {
             let direction = checking::direction(&s[start..end]);
             if direction == 0 {
-                return Canonical::Refused(3, 1);
+                return Answer::Refused(3, 1);
             }
             let from = end + 2;
             write_records(&codes, &mut stops, direction == 1, s, from, out)
@@ -345,29 +346,27 @@ pub fn canonical_into(s: &[u8], out: &mut [u8]) -> Canonical
 }
 
 // The canonical file of an accepted file, or the one refusal; file: an array for it, so that a refusal leaves the output as it was.
-fn canonical_by(s: &[u8], file: &mut [u8], out: &mut [u8]) -> Canonical
+fn canonical_by(s: &[u8], file: &mut [u8], out: &mut [u8]) -> Answer
     requires { ⌜ Holds (now s) (now file) ⌝ }
-    ensures answer { λ r. ⌜ r ≡ canonicalOf (now (s .entry)) (length (now (out .entry))) ⌝ }
-    ensures buffer { λ _. ⌜ now (out .exit) ≡ canonicalBuffer (now (s .entry)) (now (out .entry)) ⌝ }
+    ensures { λ r. ⌜ Gives (canonicalResult (now (s .entry))) (now (out .entry)) (now (out .exit)) r ⌝ }
 {
     match canonical_into(s, file) {
-        Canonical::Refused(number, line) => Canonical::Refused(number, line),
-        Canonical::Written(bytes) => {
+        Answer::Refused(number, line) => Answer::Refused(number, line),
+        Answer::Done(bytes, _, _) => {
             let start = 0;
             let end = bytes as usize;
             if out.len() < end {
-                return Canonical::Refused(20, 0);
+                return Answer::Refused(20, 0);
             }
             buffers::put_all(out, start, &file[start..end]);
-            Canonical::Written(bytes)
+            Answer::Done(bytes, 0, 0)
         }
     }
 }
 
 // The same with an array of its own, of a length that the file asks for: clearing one for any file takes longer than to read a short one.
-pub fn canonical_file(s: &[u8], out: &mut [u8]) -> Canonical
-    ensures answer { λ r. ⌜ r ≡ canonicalOf (now (s .entry)) (length (now (out .entry))) ⌝ }
-    ensures buffer { λ _. ⌜ now (out .exit) ≡ canonicalBuffer (now (s .entry)) (now (out .entry)) ⌝ }
+pub fn canonical_file(s: &[u8], out: &mut [u8]) -> Answer
+    ensures { λ r. ⌜ Gives (canonicalResult (now (s .entry))) (now (out .entry)) (now (out .exit)) r ⌝ }
 {
     let len = s.len();
     if len <= 2048 {

@@ -1,4 +1,3 @@
-pub mod StepLaws
 pub mod LineFacts
 pub mod TurnLaws
 pub mod ReadLaws

@@ -20,7 +20,6 @@ use Rattle.records.specs.Records.{Record, recordOf}
 use Rattle.order.specs.declared.State.{State}
 use Rattle.lines.specs.Codes.{Commas}
 use Rattle.notebook.specs.Notebook.{stepLine, closed, onward, recordsFrom}
-use Rattle.checking.specs.Walking.{Judged}
 
 module _ {s : List ℕ} {at : ℕ} {stops : List ℕ} {k : Line} (w : LineOf s at stops k) where
   -- the places stay sixteen
@@ -74,9 +73,6 @@ module _ {s : List ℕ} {at : ℕ} {stops : List ℕ} {k : Line} (w : LineOf s a
 
     pub whole-places : Stops (take (e - at) (drop at s)) stops
     whole-places = scanned .places
-
-    pub whole-judged : Judged good (take (e - at) (drop at s))
-    whole-judged = record { chars = whole-line .chars }
 
     pub whole-length : length (part s at e) ≡ e - at
     whole-length = length-take-le (e - at) (drop at s) (omega (arith, whole-line .low, whole-line .high, length-drop at s))

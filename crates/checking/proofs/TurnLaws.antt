@@ -1,75 +1,62 @@
 -- One turn of a walk over records: the ways through `read_record`, and what a turn says to a loop. Assumes nothing.
 use Prim.Native.Nat.{ℕ, _+_, _-_, _≤_, _<_}
 use mathlib.Core.Path.{_≡_, refl, sym, ap, _∙_, subst}
-use mathlib.Core.Bool.{Bool}
-use mathlib.Core.Logic.{_⊎_, inl, inr}
+use mathlib.Core.Bool.{true}
 use mathlib.Core.List.{List}
+use borrow.Author.Tests.{ne-eqb}
 use mir.Val.{Fits}
 use mir.Syntax.{w64}
 use lib.ListN.{length, take, drop}
 use Rattle.lists.specs.Lists.{part}
-use Rattle.scanning.specs.declared.Line.the-variants.{End as EndLine, Mark as MarkLine}
-use Rattle.scanning.specs.Scans.{Stops, Sixteen}
-use Rattle.scanning.specs.Scans.{LineOf}
+use Rattle.scanning.specs.Scans.{Stops, Sixteen, LineOf}
+use Rattle.records.specs.Records.{lineFault}
 use Rattle.order.specs.declared.State.{State}
+use Rattle.order.specs.declared.Facts.{Facts}
 use Rattle.order.specs.declared.Moved.{Moved}
 use Rattle.order.specs.declared.Moved.the-variants.{Refused as StepRefused, On as StepOn}
+use Rattle.order.specs.State.{stepOf}
+use Rattle.notebook.specs.Notebook.{stepLine}
 use Rattle.lines.specs.Codes.{Commas}
-use Rattle.lines.specs.declared.Found.{Found}
-use Rattle.lines.specs.declared.Found.the-variants.{Whole, Mark, End, Broken}
-use Rattle.lines.specs.Found.{Told, Tells, lineOf, FoundOf}
+use Rattle.lines.specs.declared.LineRead.{LineRead}
+use Rattle.lines.specs.declared.LineRead.the-variants.{Record, Fault, Over as ReadOver}
+use Rattle.lines.specs.Found.{FaultAt, broken as broken-line, faulty as faulty-line, OverAt, RecordAt, ReadMeans, ReadOf}
 use Rattle.checking.specs.declared.Turn.{Turn}
 use Rattle.checking.specs.declared.Turn.the-variants.{On, Refused, Over}
-use Rattle.notebook.specs.Notebook.{stepLine}
-use Rattle.checking.specs.Walking.{Judged}
 use Rattle.checking.specs.Turns.{StepAt, RefusedAt, broken, faulty, TurnMeans, TurnOf}
-use Rattle.checking.proofs.LineFacts.{whole-low, whole-high, whole-fits, whole-less, whole-commas, whole-places, whole-judged}
+use Rattle.checking.proofs.LineFacts.{whole-low, whole-high, whole-fits, whole-less, whole-commas, whole-places}
 
 -- ---- the ways through read_record
 
-module _ {provider : Bool} {s : List ℕ} {at : ℕ} {stops : List ℕ} {k : Found} (w : FoundOf provider s at stops k) where
-  at-line : {j : Found} → k ≡ j → LineOf s at stops (lineOf j)
-  at-line q = subst (λ (j : Found). LineOf s at stops (lineOf j)) q (w .line)
+-- a line's own fault comes before the order's
+step-faulty : (st : State) (l : List ℕ) {n : ℕ} → n ≡ lineFault (st .provider) l → (n ≡ 0 → ⊥) → StepRefused n ≡ stepLine st l
+unfolding stepLine
+step-faulty st l {n} p z = rw (sym p, ne-eqb n 0 z)
 
-  pub found-size : Sixteen stops
-  found-size = w .line .size
+module _ (st : State) {s : List ℕ} {at : ℕ} {stops : List ℕ} {k : LineRead} (w : ReadOf (st .provider) s at stops k) where
+  pub turn-ends : k ≡ ReadOver → TurnOf st s at stops Over
+  turn-ends q = record { means = subst (ReadMeans (st .provider) s at stops) q (w .means); size = w .size }
 
-  pub turn-end : (st : State) → k ≡ End → TurnOf st s at stops Over
-  turn-end st q = record { means = inl (at-line q); size = found-size }
+  pub turn-fault : {n : ℕ} → k ≡ Fault n → TurnOf st s at stops (Refused n)
+  turn-fault {n} q = record { means = go (subst (ReadMeans (st .provider) s at stops) q (w .means)); size = w .size }
+    where
+      go : FaultAt (st .provider) s at stops n → RefusedAt st s at stops n
+      go (broken-line l e) = broken l e
+      go (faulty-line e good m l p z) = faulty e m (record { good = good; line = l; step = step-faulty st (part s at e) p z })
 
-  pub turn-mark : (st : State) → k ≡ Mark → TurnOf st s at stops Over
-  turn-mark st q = record { means = inr (at-line q); size = found-size }
+  module _ {facts : Facts} {e n : ℕ} (q : k ≡ Record facts e n) {m : Moved} (o : m ≡ stepOf st facts) where
+    placed-at : {j : Moved} → m ≡ j → StepAt st s at stops e n j
+    unfolding stepLine
+    placed-at u =
+        let x : RecordAt (st .provider) s at stops facts e n = subst (ReadMeans (st .provider) s at stops) q (w .means) in
+        record { good = true; line = x .line; step = rw (x .fine, ← (x .facts-are)) (sym u ∙ o) }
 
-  pub turn-broken : (st : State) → k ≡ Broken → TurnOf st s at stops (Refused 2)
-  turn-broken st q = record { means = broken (at-line q) refl; size = found-size }
+    pub turn-faulty : {j : ℕ} → m ≡ StepRefused j → TurnOf st s at stops (Refused j)
+    turn-faulty u = record { means = faulty e n (placed-at u); size = w .size }
 
-  module _ {e : ℕ} {good : Bool} {n known : ℕ} (q : k ≡ Whole e good n known) where
-    pub found-low : at ≤ e
-    found-low = whole-low (at-line q) refl
+    pub turn-on : {t : State} {rp d : ℕ} → m ≡ StepOn t rp d → TurnOf st s at stops (On t rp d e n)
+    turn-on u = record { means = placed-at u; size = w .size }
 
-    pub found-high : e ≤ length s
-    found-high = whole-high (at-line q) refl
-
-    pub found-commas : Commas (take (e - at) (drop at s)) n
-    found-commas = whole-commas (at-line q) refl
-
-    pub found-places : Stops (take (e - at) (drop at s)) stops
-    found-places = whole-places (at-line q) refl
-
-    pub found-judged : Judged good (take (e - at) (drop at s))
-    found-judged = whole-judged (at-line q) refl
-
-    pub found-told : Told provider good (take (e - at) (drop at s)) known
-    found-told = subst (Tells provider s at) q (w .tells)
-
-    module _ {st : State} {m : Moved} (o : m ≡ stepLine st (take (e - at) (drop at s))) where
-      pub turn-faulty : {j : ℕ} → m ≡ StepRefused j → TurnOf st s at stops (Refused j)
-      turn-faulty u = record { means = faulty e n (record { good = good; line = at-line q; step = sym u ∙ o }); size = found-size }
-
-      pub turn-on : {t : State} {rp d : ℕ} → m ≡ StepOn t rp d → TurnOf st s at stops (On t rp d e n)
-      turn-on u = record { means = record { good = good; line = at-line q; step = sym u ∙ o }; size = found-size }
-
-pub ruleset read-record-laws = (found-size, turn-end, turn-mark, turn-broken, found-low, found-high, turn-faulty, turn-on)
+pub ruleset read-record-laws = (turn-ends, turn-fault, turn-faulty, turn-on)
 
 -- ---- what a turn says to a loop
 
@@ -77,7 +64,7 @@ module _ {st : State} {s : List ℕ} {at : ℕ} {stops : List ℕ} {k : Turn} (w
   pub turn-size : Sixteen stops
   turn-size = w .size
 
-  pub turn-over : k ≡ Over → LineOf s at stops EndLine ⊎ LineOf s at stops MarkLine
+  pub turn-over : k ≡ Over → OverAt s at stops
   turn-over q = subst (TurnMeans st s at stops) q (w .means)
 
   pub turn-refused : {n : ℕ} → k ≡ Refused n → RefusedAt st s at stops n

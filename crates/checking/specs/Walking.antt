@@ -1,11 +1,9 @@
 -- A walk over the records of a file, as the code takes it: the direction that line 1 tells, the counts so far, and what a step may rely on.
 use Prim.Native.Nat.{ℕ, _+_, _-_, _≤_}
-use mathlib.Core.Path.{_≡_}
-use mathlib.Core.Bool.{Bool, cond, true, false}
+use mathlib.Core.Bool.{cond, true, false}
 use mathlib.Core.List.{List}
 use lib.ListN.{length}
 use Rattle.lists.specs.Lists.{same, Res, ok, refused}
-use Rattle.characters.specs.Text.{allChars}
 use Rattle.records.specs.Records.{Record, header}
 use Rattle.order.specs.declared.State.{State}
 use Rattle.replies.specs.declared.Answer.{Answer}
@@ -20,10 +18,6 @@ directionOf l = cond (same l (header true)) 1 (cond (same l (header false)) 2 0)
 abbrev pub tally : State → Res (List Record) → Answer
 tally st (ok rs) = Done (st .line - 1 + length rs) (st .groups + count 5 rs) (st .drugs + count 201 rs)
 tally st (refused n line) = Refused n line
-
--- it was found whether a line is characters
-pub record Judged (good : Bool) (l : List ℕ) : Type 0 where
-  pub chars : good ≡ allChars l
 
 -- a position behind line 1 of a file within the limit
 pub record Behind (s : List ℕ) (from : ℕ) : Type 0 where

@@ -4,17 +4,15 @@
 ghost use mathlib.Core.Path.{_≡_};
 ghost use lib.ListN.{drop};
 ghost use Rattle.characters.specs.Rows.{rows};
-ghost use Rattle.scanning.specs.Scans.{Stops, Sixteen};
+ghost use Rattle.scanning.specs.Scans.{Sixteen};
 ghost use Rattle.order.specs.State.{start, Room};
 ghost use Rattle.codes.specs.Codes.{Lent};
-ghost use Rattle.lines.specs.Codes.{Commas};
-ghost use Rattle.lines.specs.Found.{Told};
-ghost use Rattle.notebook.specs.Notebook.{stepLine, closed as closedOf, recordsFrom};
+ghost use Rattle.notebook.specs.Notebook.{closed as closedOf, recordsFrom};
 ghost use Rattle.checking.specs.Turns.{TurnOf};
 ghost use mathlib.Core.List.{[]};
 ghost use Rattle.notebook.specs.Check.{checkResult};
 ghost use Rattle.replies.specs.Results.{answerIn};
-ghost use Rattle.checking.specs.Walking.{tally, directionOf, Judged, Behind, Closing};
+ghost use Rattle.checking.specs.Walking.{tally, directionOf, Behind, Closing};
 use replies::Answer;
 
 // 1 for provider to patient, 2 for patient to provider, 0 for a line that is no line 1.
@@ -44,32 +42,6 @@ fn close(st: order::State) -> Answer
     Answer::Refused(missing, st.line + 1)
 }
 
-// Reads a record line, and puts its record in its place; good: the line is characters; commas and stops: its commas and their places;
-// known: its number if its items are known to have no fault, else 0.
-fn step_line(
-    codes: &[usize; 83],
-    st: order::State,
-    good: bool,
-    commas: usize,
-    stops: &[usize; 16],
-    line: &[u8],
-    known: u32,
-) -> order::Moved
-    requires { ⌜ Lent (now codes) ⌝ }
-    requires { ⌜ Commas (now line) commas ⌝ }
-    requires { ⌜ Stops (now line) (now stops) ⌝ }
-    requires { ⌜ Sixteen (now stops) ⌝ }
-    requires { ⌜ Room st ⌝ }
-    requires { ⌜ Judged good (now line) ⌝ }
-    requires { ⌜ Told (st .provider) good (now line) known ⌝ }
-    ensures { λ m. ⌜ m ≡ stepLine st (now (line .entry)) ⌝ }
-{
-    match lines::read_line(codes, st.provider, good, commas, stops, line, known) {
-        lines::LineRead::Fault(n) => order::Moved::Refused(digits::wide(n)),
-        lines::LineRead::Fine(facts) => st.step(facts),
-    }
-}
-
 // What the record at a position does to a state: the next state, RP and doctor, where its text ends and how many commas it has; or a refusal;
 // or there is none.
 pub enum Turn {
@@ -78,7 +50,7 @@ pub enum Turn {
     Over,
 }
 
-// Finds, reads and places the record at a position; stops: the places of its commas, from its beginning. One call for all of it, since what a
+// Reads and places the record at a position; stops: the places of its commas, from its beginning. One call for all of it, since what a
 // call stores is read back slowly: the state waits while the next line is found.
 pub fn read_record(
     codes: &[usize; 83],
@@ -92,16 +64,13 @@ pub fn read_record(
     requires { ⌜ Room st ⌝ }
     ensures { λ r. ⌜ TurnOf st (now (s .entry)) at (now (stops .exit)) r ⌝ }
 {
-    match lines::find_line(codes, st.provider, stops, s, at) {
-        lines::Found::End => Turn::Over,
-        lines::Found::Mark => Turn::Over,
-        lines::Found::Broken => Turn::Refused(2),
-        lines::Found::Whole(end, good, commas, known) => {
-            match step_line(codes, st, good, commas, stops, &s[at..end], known) {
-                order::Moved::Refused(n) => Turn::Refused(n),
-                order::Moved::On(next, rp, doctor) => Turn::On(next, rp, doctor, end, commas),
-            }
-        }
+    match lines::read_line(codes, st.provider, stops, s, at) {
+        lines::LineRead::Over => Turn::Over,
+        lines::LineRead::Fault(n) => Turn::Refused(n),
+        lines::LineRead::Record(facts, end, commas) => match st.step(facts) {
+            order::Moved::Refused(n) => Turn::Refused(n),
+            order::Moved::On(next, rp, doctor) => Turn::On(next, rp, doctor, end, commas),
+        },
     }
 }
 

@@ -1,29 +1,29 @@
 -- The call: the pieces of a notebook are those of its canonical bytes, and the answer by the way through the code. Assumes nothing.
 use Prim.Native.Nat.{ℕ, suc, _-_, _≤_}
 use native.Mathlib.Omega.{arith}
-use mathlib.Core.Path.{_≡_, refl, sym, ap, ap₂, _∙_, subst}
+use mathlib.Core.Path.{_≡_, refl, sym, ap, _∙_, subst}
 use mathlib.Core.Bool.{Bool, true, false, cond}
 use mathlib.Core.Option.{some}
 use mathlib.Core.List.{List, [], _∷_, _++_}
 use borrow.Author.Tests.{eqb-true}
 use lib.Dec.{eqb}
 use lib.ListN.{length, take}
-use Rattle.lists.specs.Lists.{all, part, Res, ok, refused}
+use Rattle.lists.specs.Lists.{all, part, Res, ok, refused, mapRes, andThen}
 use Rattle.lists.proofs.Tests.{both}
 use Rattle.digits.specs.Digits.{isDigit}
 use Rattle.characters.specs.Rows.{flat}
 use Rattle.notebook.specs.Notebook.{Notebook, readFile}
-use Rattle.replies.specs.declared.Canonical.{Canonical}
-use Rattle.replies.specs.declared.Canonical.the-variants.{Written, Refused as NotWritten}
-use Rattle.notebook.specs.Canonical.{headRow, recordRows, canonicalBytes}
-use Rattle.canonical.specs.Writing.{fileBytes, MadeMeans, MadeOf}
+use Rattle.replies.specs.declared.Answer.{Answer}
+use Rattle.replies.specs.declared.Answer.the-variants.{Done, Refused}
+use Rattle.replies.specs.Results.{Result, Gives}
+use Rattle.replies.proofs.Results.{gives-refusal}
+use Rattle.notebook.specs.Canonical.{headRow, recordRows, canonicalBytes, canonicalFile}
+use Rattle.canonical.specs.Writing.{MadeMeans, MadeOf}
 use Rattle.notebook.proofs.CanonicalLaws.{canonical-head, canonical-rows, canonical-small, canonical-long}
 use Rattle.packing.specs.Widths.{Plan, whole, split, fails, plan}
 use Rattle.division.specs.Marks.{validID, markRow}
-use Rattle.replies.specs.declared.Cutting.{Cutting}
-use Rattle.replies.specs.declared.Cutting.the-variants.{Refused}
-use Rattle.division.specs.Cut.{pieceBytes, numbered, planned, cutting, listed, found, cutList, held, cutOf, bytesOf, bufferAfter, cutBuffer}
-use Rattle.cut.specs.Loops.{numberedAs, plannedAs, cuttingOf, Given, CutBytes}
+use Rattle.division.specs.Cut.{pieceBytes, numbered, planned, cutting, listed, found, cutList, writesPieces, cutResult}
+use Rattle.cut.specs.Loops.{numberedAs, plannedAs, cuttingOf, Given, cutOfBytes}
 
 -- ---- the pieces of a notebook are those of its canonical bytes
 
@@ -55,11 +55,11 @@ record Made (f s : List ℕ) : Type 0 where
   read : readFile f ≡ ok book
   bytes : canonicalBytes book ≡ s
 
-made-of : (f s : List ℕ) (r : Res Notebook) → readFile f ≡ r → fileBytes r ≡ ok s → Made f s
+made-of : (f s : List ℕ) (r : Res Notebook) → readFile f ≡ r → mapRes canonicalBytes r ≡ ok s → Made f s
 made-of f s (ok b) q e = record { book = b; read = q; bytes = cc }
 made-of f s (refused n line) q e = let z : _≡_ {A = ℕ} 0 1 = cc in absurd (omega arith)
 
-refused-of : (n line : ℕ) (r : Res Notebook) → fileBytes r ≡ refused n line → r ≡ refused n line
+refused-of : (n line : ℕ) (r : Res Notebook) → mapRes canonicalBytes r ≡ refused n line → r ≡ refused n line
 refused-of n line (ok b) e = let z : _≡_ {A = ℕ} 0 1 = cc in absurd (omega arith)
 refused-of n line (refused m l) e = cc
 
@@ -67,45 +67,34 @@ id-length : (id : List ℕ) → validID id ≡ true → length id ≡ 14
 unfolding validID
 id-length id e = eqb-true (length id) 14 (both (eqb (length id) 14) (all isDigit id) e .0)
 
-module _ (f : List ℕ) (c : ℕ) (id d : List ℕ) {buf : List ℕ} {l : ℕ} {m : Canonical} (p : MadeOf l (fileBytes (readFile f)) buf m) where
-  -- a refusal leaves the output as it was
-  kept : {n line : ℕ} → Refused n line ≡ cutOf f c id (length d) → d ≡ cutBuffer f c id d
-  unfolding cutBuffer
-  kept e = ap (λ (a : Cutting). bufferAfter a (bytesOf (cutList f c id)) d) e
+module _ (f : List ℕ) (c : ℕ) (id d : List ℕ) {buf : List ℕ} {l : ℕ} {m : Answer} (p : MadeOf l (canonicalFile f) buf m) where
+  pub cut-refused : {n line : ℕ} → m ≡ Refused n line → Gives (cutResult f c id) d d (Refused n line)
+  unfolding canonicalFile cutResult cutList
+  cut-refused {n} {line} e =
+      let q : readFile f ≡ refused n line = refused-of n line (readFile f) (subst (MadeMeans (mapRes canonicalBytes (readFile f)) buf) e (p .means)) in
+      gives-refusal d (ap (λ (r : Res Notebook). mapRes writesPieces (andThen r (found id c))) q)
 
-  module _ {n line : ℕ} (e : m ≡ NotWritten n line) where
-    pub cut-refused : Refused n line ≡ cutOf f c id (length d)
-    unfolding cutOf cutList
-    cut-refused =
-        let q : readFile f ≡ refused n line = refused-of n line (readFile f) (subst (MadeMeans (fileBytes (readFile f)) buf) e (p .means)) in
-        sym (ap (λ (r : Res Notebook). held (found id c r) (length d)) q)
-
-    pub cut-refused-kept : d ≡ cutBuffer f c id d
-    cut-refused-kept = kept cut-refused
-
-  module _ {t : ℕ} (e : m ≡ Written t) where
-    means : (fileBytes (readFile f) ≡ ok (take t buf)) × (t ≤ length buf)
-    means = subst (MadeMeans (fileBytes (readFile f)) buf) e (p .means)
+  module _ {t i j : ℕ} (e : m ≡ Done t i j) where
+    means : (canonicalFile f ≡ ok (take t buf)) × (t ≤ length buf)
+    means = subst (MadeMeans (canonicalFile f) buf) e (p .means)
 
     pub cut-inside : t ≤ length buf
     cut-inside = means .1
 
     made : Made f (part buf 0 t)
+    unfolding canonicalFile
     made = let z : t - 0 ≡ t = omega arith in made-of f (part buf 0 t) (readFile f) refl (rw z (means .0))
 
     list-is : cutList f c id ≡ cond (validID id) (listed (cutting id c (made .book))) (refused 17 0)
     unfolding cutList
-    list-is = ap (found id c) (made .read)
+    list-is = ap (λ (r : Res Notebook). andThen r (found id c)) (made .read)
 
     module _ {x : Bool} (q : x ≡ validID id) where
-      pub cut-no-id : x ≡ false → Refused 17 0 ≡ cutOf f c id (length d)
-      unfolding cutOf
+      pub cut-no-id : x ≡ false → Gives (cutResult f c id) d d (Refused 17 0)
+      unfolding cutResult
       cut-no-id z =
           let y : cutList f c id ≡ refused 17 0 = list-is ∙ rw (sym q ∙ z) in
-          sym (ap (λ (r : Res (List (List ℕ))). held r (length d)) y)
-
-      pub cut-no-id-kept : x ≡ false → d ≡ cutBuffer f c id d
-      cut-no-id-kept z = kept (cut-no-id z)
+          gives-refusal d (ap (mapRes writesPieces) y)
 
       module _ (z : x ≡ true) where
         pub cut-given : Given (part buf 0 t) id
@@ -118,13 +107,8 @@ module _ (f : List ℕ) (c : ℕ) (id d : List ℕ) {buf : List ℕ} {l : ℕ} {
         pieces-are : cutList f c id ≡ listed (cuttingOf id c (part buf 0 t))
         pieces-are = list-is ∙ rw (sym q ∙ z) (ap listed (sym (cutting-as f (made .book) (made .read) id c) ∙ ap (cuttingOf id c) (made .bytes)))
 
-        module _ {d′ : List ℕ} {r : Cutting} (v : CutBytes (part buf 0 t) c id d d′ r) where
-          pub cut-answer : r ≡ cutOf f c id (length d)
-          unfolding cutOf
-          cut-answer = v .answer ∙ ap (λ (l : Res (List (List ℕ))). held l (length d)) (sym pieces-are)
+        pub cut-gives : {d′ : List ℕ} {r : Answer} → Gives (cutOfBytes (part buf 0 t) c id) d d′ r → Gives (cutResult f c id) d d′ r
+        unfolding cutResult cutOfBytes
+        cut-gives {d′} {r} v = subst (λ (x : Res Result). Gives x d d′ r) (ap (mapRes writesPieces) (sym pieces-are)) v
 
-          pub cut-buffer : d′ ≡ cutBuffer f c id d
-          unfolding cutBuffer
-          cut-buffer = v .buffer ∙ ap₂ (λ (a : Cutting) (l : Res (List (List ℕ))). bufferAfter a (bytesOf l) d) cut-answer (sym pieces-are)
-
-pub ruleset cut-laws = (cut-refused, cut-refused-kept, cut-inside, cut-no-id, cut-no-id-kept, cut-given, cut-answer, cut-buffer)
+pub ruleset cut-laws = (cut-refused, cut-inside, cut-no-id, cut-given, cut-gives)

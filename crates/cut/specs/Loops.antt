@@ -6,14 +6,14 @@ use mathlib.Core.Path.{_≡_}
 use mathlib.Core.Option.{Option, none, some}
 use mathlib.Core.List.{List, [], _∷_, _++_}
 use lib.ListN.{length, drop}
-use Rattle.lists.specs.Lists.{part}
+use Rattle.lists.specs.Lists.{part, Res, mapRes}
 use Rattle.digits.specs.Digits.{spell}
 use Rattle.characters.specs.Rows.{rows, flat}
 use Rattle.packing.specs.Packing.{pack}
 use Rattle.packing.specs.Widths.{Plan, whole, split, fails, digitsOf, over, tries, plan}
 use Rattle.division.specs.Marks.{markRow}
-use Rattle.division.specs.Cut.{listed, held, bytesOf, bufferAfter}
-use Rattle.replies.specs.declared.Cutting.{Cutting}
+use Rattle.division.specs.Cut.{listed, writesPieces}
+use Rattle.replies.specs.Results.{Result}
 use Rattle.cut.specs.declared.Chosen.{Chosen}
 use Rattle.cut.specs.declared.Chosen.the-variants.{Count, NoWidth}
 
@@ -132,6 +132,6 @@ pub record Given (s id : List ℕ) : Type 0 where
   pub header : 13 ≤ length s
   pub ident : length id ≡ 14
 
-pub record CutBytes (s : List ℕ) (c : ℕ) (id d d′ : List ℕ) (r : Cutting) : Type 0 where
-  pub answer : r ≡ held (listed (cuttingOf id c s)) (length d)
-  pub buffer : d′ ≡ bufferAfter r (bytesOf (listed (cuttingOf id c s))) d
+-- what cutting them has to give
+unfoldable pub cutOfBytes : List ℕ → ℕ → List ℕ → Res Result
+cutOfBytes s c id = mapRes writesPieces (listed (cuttingOf id c s))

@@ -10,9 +10,10 @@ ghost use Rattle.buffers.specs.Buffers.{Wrote};
 ghost use Rattle.packing.specs.Widths.{digitsOf, serves};
 ghost use Rattle.canonical.specs.Writing.{Holds};
 ghost use Rattle.division.specs.Marks.{markRow};
-ghost use Rattle.division.specs.Cut.{cutOf, cutBuffer};
-ghost use Rattle.cut.specs.Loops.{OverOf, RunAt, Small, chosen, MarkRoom, pieceAs, PieceRoom, poured, Ready, Given, CutBytes};
-use replies::Cutting;
+ghost use Rattle.division.specs.Cut.{cutResult};
+ghost use Rattle.replies.specs.Results.{Gives};
+ghost use Rattle.cut.specs.Loops.{OverOf, RunAt, Small, chosen, MarkRoom, pieceAs, PieceRoom, poured, Ready, Given, cutOfBytes};
+use replies::Answer;
 
 // The width of the count, the count, and the bytes that the pieces hold besides their records; or no width serves.
 pub enum Chosen {
@@ -172,56 +173,54 @@ fn pour_pieces(out: &mut [u8], s: &[u8], c: usize, w: usize, n: u32, id: &[u8]) 
 }
 
 // Cuts the bytes of a canonical file, for a valid ID. Where the file does not fit, the capacity is below 65,536.
-fn cut_bytes(s: &[u8], capacity: u64, id: &[u8], out: &mut [u8]) -> Cutting
+fn cut_bytes(s: &[u8], capacity: u64, id: &[u8], out: &mut [u8]) -> Answer
     requires { ⌜ Given (now s) (now id) ⌝ }
-    ensures { λ r. ⌜ CutBytes (now (s .entry)) capacity (now (id .entry)) (now (out .entry)) (now (out .exit)) r ⌝ }
+    ensures { λ r. ⌜ Gives (cutOfBytes (now (s .entry)) capacity (now (id .entry))) (now (out .entry)) (now (out .exit)) r ⌝ }
 {
     let c = capacity as usize;
     let len = s.len();
     if len <= c {
         if out.len() < len {
-            return Cutting::Refused(20, 0);
+            return Answer::Refused(20, 0);
         }
         buffers::put_all(out, 0, s);
-        return Cutting::Pieces(1, len as u32);
+        return Answer::Done(1, len as u32, 0);
     }
     match first_width(s, c) {
-        Chosen::NoWidth => Cutting::Refused(18, 0),
+        Chosen::NoWidth => Answer::Refused(18, 0),
         Chosen::Count(w, n, t) => {
             let total = t + (len - 13);
             if out.len() < total {
-                return Cutting::Refused(20, 0);
+                return Answer::Refused(20, 0);
             }
             pour_pieces(out, s, c, w, n, id);
-            Cutting::Pieces(n, total as u32)
+            Answer::Done(n, total as u32, 0)
         }
     }
 }
 
 // Cuts a file into pieces of at most the capacity, one after another from the output's start on; or the one refusal. bytes: an array for the
 // canonical file.
-fn cut_by(file: &[u8], bytes: &mut [u8], capacity: u64, id: &[u8], out: &mut [u8]) -> Cutting
+fn cut_by(file: &[u8], bytes: &mut [u8], capacity: u64, id: &[u8], out: &mut [u8]) -> Answer
     requires { ⌜ Holds (now file) (now bytes) ⌝ }
-    ensures answer { λ r. ⌜ r ≡ cutOf (now (file .entry)) capacity (now (id .entry)) (length (now (out .entry))) ⌝ }
-    ensures buffer { λ _. ⌜ now (out .exit) ≡ cutBuffer (now (file .entry)) capacity (now (id .entry)) (now (out .entry)) ⌝ }
+    ensures { λ r. ⌜ Gives (cutResult (now (file .entry)) capacity (now (id .entry))) (now (out .entry)) (now (out .exit)) r ⌝ }
 {
     match canonical::canonical_into(file, bytes) {
-        replies::Canonical::Refused(number, line) => Cutting::Refused(number, line),
-        replies::Canonical::Written(count) => {
+        Answer::Refused(number, line) => Answer::Refused(number, line),
+        Answer::Done(count, _, _) => {
             if pieces::valid_id(id) {
                 let start = 0;
                 let end = count as usize;
                 return cut_bytes(&bytes[start..end], capacity, id, out);
             }
-            Cutting::Refused(17, 0)
+            Answer::Refused(17, 0)
         }
     }
 }
 
 // The same with an array of its own, of a length that the file asks for.
-pub fn cut(file: &[u8], capacity: u64, id: &[u8], out: &mut [u8]) -> Cutting
-    ensures answer { λ r. ⌜ r ≡ cutOf (now (file .entry)) capacity (now (id .entry)) (length (now (out .entry))) ⌝ }
-    ensures buffer { λ _. ⌜ now (out .exit) ≡ cutBuffer (now (file .entry)) capacity (now (id .entry)) (now (out .entry)) ⌝ }
+pub fn cut(file: &[u8], capacity: u64, id: &[u8], out: &mut [u8]) -> Answer
+    ensures { λ r. ⌜ Gives (cutResult (now (file .entry)) capacity (now (id .entry))) (now (out .entry)) (now (out .exit)) r ⌝ }
 {
     let len = file.len();
     if len <= 2048 {

@@ -4,11 +4,10 @@ use native.Mathlib.Omega.{arith}
 use mathlib.Core.Path.{_≡_, refl, sym, ap, _∙_, subst}
 use mathlib.Core.Bool.{Bool, true, false, cond}
 use mathlib.Core.List.{List, [], _∷_, _++_}
-use borrow.Author.Tests.{le-leb, lt-leb}
-use lib.Dec.{leb, eqb}
+use lib.Dec.{eqb}
 use lib.ListN.{length, take, drop, length-append}
 use lib.Seq.{length-take-le}
-use Rattle.lists.specs.Lists.{same, part, Res, ok, refused}
+use Rattle.lists.specs.Lists.{same, part, ok, mapRes}
 use Rattle.scanning.specs.declared.Line.{Line}
 use Rattle.scanning.specs.declared.Line.the-variants.{Whole, Mark, End, Broken}
 use Rattle.characters.specs.Rows.{rows, isLine, lineEnd, WholeLine, BrokenRow}
@@ -17,16 +16,15 @@ use Rattle.characters.proofs.RowLaws.{line-is, line-text}
 use Rattle.records.specs.Records.{header}
 use Rattle.order.specs.State.{start}
 use Rattle.buffers.specs.Buffers.{Room, Wrote}
-use Rattle.buffers.proofs.Runs.{sets-all}
-use Rattle.replies.specs.declared.Checked.{Checked}
-use Rattle.replies.specs.declared.Checked.the-variants.{Accepted, Refused as CheckRefused}
-use Rattle.notebook.specs.Notebook.{Notebook, readFile}
-use Rattle.notebook.specs.Check.{checked, checkOf}
+use Rattle.replies.specs.declared.Answer.{Answer}
+use Rattle.replies.specs.declared.Answer.the-variants.{Done, Refused}
+use Rattle.replies.specs.Results.{answerIn, Gives}
+use Rattle.replies.proofs.Results.{gives-refusal, gives-20, gives-written}
+use Rattle.notebook.specs.Check.{checkResult}
 use Rattle.checking.specs.Walking.{directionOf}
-use Rattle.replies.specs.declared.Indexed.{Indexed}
-use Rattle.replies.specs.declared.Indexed.the-variants.{Written, Refused}
-use Rattle.notebook.specs.Index.{Entry, entriesFrom, entriesBehind, entriesOf, numbers, numbersOf, indexed, indexOf, bufferAfter, indexBuffer}
+use Rattle.notebook.specs.Index.{Entry, entriesFrom, entriesBehind, entriesOf, numbers, numbersOf, indexed, indexResult}
 use Rattle.index.specs.Filling.{Fillable}
+use Rattle.notebook.proofs.Answered.{Counted, check-refused, check-accepted}
 use Rattle.notebook.proofs.Walk.{Accepted as AcceptedFile, accepted, walk-length, numbers-length}
 
 -- ---- line 1
@@ -89,69 +87,33 @@ pub ruleset fill-laws = (fill-end, fill-mark, fill-broken, fill-room, fill-whole
 
 -- ---- the answer and the buffer
 
--- what the check says of the file
-refused-as : (s : List ℕ) (n line : ℕ) → checkOf s ≡ CheckRefused n line → readFile s ≡ refused n line
-unfolding checkOf
-refused-as s n line e = go (readFile s) e
-  where
-    go : (r : Res Notebook) → checked r ≡ CheckRefused n line → r ≡ refused n line
-    go (ok b) e = let z : _≡_ {A = ℕ} 0 1 = cc in absurd (omega arith)
-    go (refused m l) e = cc
+module _ (s d : List ℕ) {c : Answer} (p : c ≡ answerIn (checkResult s) []) where
+  pub index-refused : {n line : ℕ} → c ≡ Refused n line → Gives (indexResult s) d d (Refused n line)
+  unfolding indexResult
+  index-refused {n} {line} e = gives-refusal d (ap (mapRes (indexed s)) (check-refused s n line (sym p ∙ e)))
 
-record Counted (s : List ℕ) (n : ℕ) : Type 0 where
-  book : Notebook
-  read : readFile s ≡ ok book
-  count : length (book .records) ≡ n
-
-counted : (s : List ℕ) (n g x : ℕ) → checkOf s ≡ Accepted n g x → Counted s n
-unfolding checkOf
-counted s n g x e = go (readFile s) refl e
-  where
-    go : (r : Res Notebook) → readFile s ≡ r → checked r ≡ Accepted n g x → Counted s n
-    go (ok b) q e = record { book = b; read = q; count = cc }
-    go (refused m l) q e = let z : _≡_ {A = ℕ} 0 1 = cc in absurd (omega arith)
-
-module _ (s d : List ℕ) {c : Checked} (p : c ≡ checkOf s) where
-  -- a refusal leaves the buffer as it was
-  kept : {n line : ℕ} → Refused n line ≡ indexOf s (length d) → d ≡ indexBuffer s d
-  unfolding indexBuffer
-  kept e = ap (λ (a : Indexed). bufferAfter a (numbersOf s) d) e
-
-  pub index-refused : {n line : ℕ} → c ≡ CheckRefused n line → Refused n line ≡ indexOf s (length d)
-  unfolding indexOf
-  index-refused {n} {line} e = sym (ap (λ (r : Res Notebook). indexed r (length d)) (refused-as s n line (sym p ∙ e)))
-
-  pub index-refused-kept : {n line : ℕ} → c ≡ CheckRefused n line → d ≡ indexBuffer s d
-  index-refused-kept e = kept (index-refused e)
-
-  module _ {n g x : ℕ} (e : c ≡ Accepted n g x) where
+  module _ {n g x : ℕ} (e : c ≡ Done n g x) where
     by-count : Counted s n
-    by-count = counted s n g x (sym p ∙ e)
+    by-count = check-accepted s n g x (sym p ∙ e)
 
-    by-room : indexOf s (length d) ≡ cond (leb (6 * n) (length d)) (Written n) (Refused 20 0)
-    unfolding indexOf
-    by-room = ap (λ (r : Res Notebook). indexed r (length d)) (by-count .read) ∙ rw (by-count .count)
+    file : AcceptedFile s (by-count .book)
+    file = accepted s (by-count .book) (by-count .read)
 
-    pub index-short : length d < n * 6 → Refused 20 0 ≡ indexOf s (length d)
-    index-short h = sym (by-room ∙ rw (lt-leb (6 * n) (length d) (omega arith)))
+    given : indexResult s ≡ ok (indexed s (by-count .book))
+    unfolding indexResult
+    given = ap (mapRes (indexed s)) (by-count .read)
 
-    pub index-short-kept : length d < n * 6 → d ≡ indexBuffer s d
-    index-short-kept h = kept (index-short h)
+    size : length (numbersOf s) ≡ n * 6
+    unfolding numbersOf
+    size = omega (arith, numbers-length (entriesOf s), walk-length (file .walked), by-count .count)
 
-    module _ (h : n * 6 ≤ length d) where
-      file : AcceptedFile s (by-count .book)
-      file = accepted s (by-count .book) (by-count .read)
+    pub index-short : length d < n * 6 → Gives (indexResult s) d d (Refused 20 0)
+    index-short h = gives-20 d given (omega (arith, size))
 
-      pub index-fillable : Fillable s d
-      unfolding numbersOf
-      index-fillable = record { small = file .small; room = omega (arith, numbers-length (entriesOf s), walk-length (file .walked), by-count .count) }
+    pub index-fillable : n * 6 ≤ length d → Fillable s d
+    index-fillable h = record { small = file .small; room = omega (arith, size) }
 
-      pub index-written : Written n ≡ indexOf s (length d)
-      index-written = sym (by-room ∙ rw (le-leb (6 * n) (length d) (omega arith)))
+    pub index-written : {d′ : List ℕ} {r : ℕ} → Wrote d d′ 0 r (numbersOf s) → Gives (indexResult s) d d′ (Done n 0 0)
+    index-written {d′} w = subst (λ (k : ℕ). Gives (indexResult s) d d′ (Done k 0 0)) (by-count .count) (gives-written d given w)
 
-      pub index-buffer : {d′ : List ℕ} {r : ℕ} → Wrote d d′ 0 r (numbersOf s) → d′ ≡ indexBuffer s d
-      unfolding indexBuffer
-      index-buffer w =
-          w .list ∙ sets-all (numbersOf s) d (index-fillable .room) ∙ ap (λ (a : Indexed). bufferAfter a (numbersOf s) d) index-written
-
-pub ruleset index-laws = (index-refused, index-refused-kept, index-short, index-short-kept, index-fillable, index-written, index-buffer)
+pub ruleset index-laws = (index-refused, index-short, index-fillable, index-written)

@@ -2,7 +2,7 @@
 // lines are walked again and each record's six numbers written. Definitions: notebook, specs/Index.antt. A further number of an entry moves
 // together: `Entry`, `entryOf`, `numbers`, and the writer of crate buffers.
 ghost use mathlib.Core.Path.{_≡_};
-ghost use lib.ListN.{length, drop};
+ghost use lib.ListN.{drop};
 ghost use Prim.Native.Nat.{_-_};
 ghost use Rattle.characters.specs.Rows.{rows};
 ghost use Rattle.order.specs.State.{start, groupOf, drugOf};
@@ -10,9 +10,10 @@ ghost use Rattle.scanning.specs.Scans.{Sixteen};
 ghost use Rattle.codes.specs.Codes.{Lent};
 ghost use Rattle.buffers.specs.Buffers.{Room, Wrote, six};
 ghost use Rattle.checking.specs.Walking.{Behind};
-ghost use Rattle.notebook.specs.Index.{entriesFrom, numbers, numbersOf, indexOf, indexBuffer};
+ghost use Rattle.notebook.specs.Index.{entriesFrom, numbers, numbersOf, indexResult};
+ghost use Rattle.replies.specs.Results.{Gives};
 ghost use Rattle.index.specs.Filling.{Spanned, Fillable};
-use replies::Indexed;
+use replies::Answer;
 
 // The entry of a record whose line stands from at to end and moved the reader to the state.
 fn put_entry(
@@ -86,19 +87,18 @@ fn fill(s: &[u8], out: &mut [u32]) -> usize
 }
 
 // The index of an accepted file, or the one refusal.
-pub fn index(s: &[u8], out: &mut [u32]) -> Indexed
-    ensures answer { λ r. ⌜ r ≡ indexOf (now (s .entry)) (length (now (out .entry))) ⌝ }
-    ensures buffer { λ _. ⌜ now (out .exit) ≡ indexBuffer (now (s .entry)) (now (out .entry)) ⌝ }
+pub fn index(s: &[u8], out: &mut [u32]) -> Answer
+    ensures { λ r. ⌜ Gives (indexResult (now (s .entry))) (now (out .entry)) (now (out .exit)) r ⌝ }
 {
     match checking::check(s) {
-        replies::Checked::Refused(number, line) => Indexed::Refused(number, line),
-        replies::Checked::Accepted(records, _, _) => {
+        Answer::Refused(number, line) => Answer::Refused(number, line),
+        Answer::Done(records, _, _) => {
             let needed = (records as usize) * 6;
             if out.len() < needed {
-                return Indexed::Refused(20, 0);
+                return Answer::Refused(20, 0);
             }
             fill(s, out);
-            Indexed::Written(records)
+            Answer::Done(records, 0, 0)
         }
     }
 }

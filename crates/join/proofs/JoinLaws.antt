@@ -1,7 +1,7 @@
 -- The ways through joining: line 1 and the rows in the buffer, one piece or a set, the input's refusals, the check, the output. Assumes
 -- nothing.
 use Prim.Native.Nat.{ℕ, suc, _+_, _-_, _≤_, _<_}
-use mathlib.Core.Path.{_≡_, refl, sym, ap, ap₂, _∙_, subst}
+use mathlib.Core.Path.{_≡_, refl, sym, ap, _∙_, subst}
 use mathlib.Core.Bool.{Bool, true, false, cond, not, _&&_, Bool·beq, false≢true}
 use mathlib.Core.Option.{Option, none, some}
 use mathlib.Core.List.{List, [], _∷_, _++_}
@@ -11,16 +11,18 @@ use mir.Val.{Fits}
 use mir.Syntax.{w32}
 use lib.Dec.{leb, eqb}
 use lib.ListN.{length, take, drop, replicate, length-replicate, getD-replicate, length-append}
-use lib.Seq.{length-take-le}
-use Rattle.lists.specs.Lists.{same, part, Res, ok, refused}
+use Rattle.lists.specs.Lists.{same, part, Res, ok, refused, mapRes}
 use Rattle.characters.specs.Rows.{rows}
 use Rattle.notebook.specs.Canonical.{headRow}
 use Rattle.buffers.specs.Buffers.{Wrote}
-use Rattle.buffers.proofs.Runs.{sets-all, then, front}
-use Rattle.replies.specs.declared.Checked.{Checked}
-use Rattle.replies.specs.declared.Checked.the-variants.{Accepted, Refused as NotAccepted}
+use Rattle.buffers.proofs.Runs.{then, front}
+use Rattle.replies.specs.declared.Answer.{Answer}
+use Rattle.replies.specs.declared.Answer.the-variants.{Done, Refused}
+use Rattle.replies.specs.Results.{writes, answerIn, Gives}
+use Rattle.replies.proofs.Results.{gives-refusal, front-20, front-written}
 use Rattle.notebook.specs.Notebook.{Notebook, readFile}
-use Rattle.notebook.specs.Check.{checked, checkOf}
+use Rattle.notebook.specs.Check.{checkResult}
+use Rattle.notebook.proofs.Answered.{check-refused, check-accepted}
 use Rattle.division.specs.Pieces.{brokenLine, Piece, bodyOf, piecesIn, startsWell, splitRows, split, fileOf}
 use Rattle.pieces.proofs.RowLaws.{head-true, head-false}
 use Rattle.join.specs.declared.Next.{Next}
@@ -31,9 +33,7 @@ use Rattle.join.specs.declared.Filled.{Filled}
 use Rattle.join.specs.declared.Filled.the-variants.{Full, Large}
 use Rattle.join.specs.declared.Made.{Made}
 use Rattle.join.specs.declared.Made.the-variants.{Bytes, No}
-use Rattle.replies.specs.declared.Joining.{Joining}
-use Rattle.replies.specs.declared.Joining.the-variants.{Joined, Refused}
-use Rattle.division.specs.Join.{unmarked, Part, partOf, with, partsOf, agree, gather, whole, joinParts, joinPieces, orSet, joinSplit, joinedFile, checkedFile, thenChecked, joinFile, held, joinOf, bytesOf, bufferAfter, joinBuffer}
+use Rattle.division.specs.Join.{unmarked, Part, partOf, with, partsOf, agree, gather, whole, joinParts, joinPieces, orSet, joinSplit, joinedFile, checkedFile, thenChecked, joinFile, joinResult}
 use Rattle.join.specs.Spans.{unbroken, sound, Opened, Ended, NextMeans, NextIs, OpenedFirst, FirstMeans, FirstIs, PlainLines, partBy, identAt, MarkedLines, WrongLines, LinesMean, LinesAre, like, isSet, Blank, Collected, CollectMeans, CollectIs, taken, spans, FillMeans, FillIs, MadeMeans, MadeIs, SoundMeans, SoundIs, Given, GivenSet, First, Input}
 use Rattle.lists.proofs.Parts.{part-length}
 use Rattle.join.proofs.SoundLaws.{sound-line, line-sound}
@@ -379,34 +379,10 @@ pub ruleset into-laws = (into-large, into-ends, into-before, into-input, into-si
 
 -- ---- the check, and the output
 
-refusal : (x : Res Notebook) {n line : ℕ} → checked x ≡ NotAccepted n line → x ≡ refused n line
-refusal (ok b) e = let z : _≡_ {A = ℕ} 0 1 = cc in absurd (omega arith)
-refusal (refused a b) e = cc
-
-accepted : (x : Res Notebook) {a b c : ℕ} (w : List ℕ) → checked x ≡ Accepted a b c → checkedFile w x ≡ ok w
-accepted (ok y) w e = refl
-accepted (refused n line) w e = let z : _≡_ {A = ℕ} 0 1 = cc in absurd (omega arith)
-
 module _ (s : List ℕ) {B : List ℕ} {m : Made} (x : MadeIs (joinedFile s) B m) where
-  -- a refusal of the joined file is the answer, and leaves the output
-  no-answer : {n line : ℕ} (room : ℕ) → joinFile s ≡ refused n line → Refused n line ≡ joinOf s room
-  unfolding joinOf
-  no-answer room e = sym (ap (λ (k : Res (List ℕ)). held k room) e)
-
-  no-buffer : {n line : ℕ} (d : List ℕ) → joinFile s ≡ refused n line → d ≡ joinBuffer s d
-  unfolding joinBuffer
-  no-buffer d e = sym (ap (λ (j : Joining). bufferAfter j (bytesOf (joinFile s)) d) (sym (no-answer (length d) e)))
-
-  module _ {n line : ℕ} (q : m ≡ No n line) where
-    refused-so : joinFile s ≡ refused n line
-    unfolding joinFile
-    refused-so = subst (MadeMeans (joinedFile s) B) q (x .means)
-
-    pub join-no-answer : (room : ℕ) → Refused n line ≡ joinOf s room
-    join-no-answer room = no-answer room refused-so
-
-    pub join-no-buffer : (d : List ℕ) → d ≡ joinBuffer s d
-    join-no-buffer d = no-buffer d refused-so
+  pub join-no : (d : List ℕ) {n line : ℕ} → m ≡ No n line → Gives (joinResult s) d d (Refused n line)
+  unfolding joinResult joinFile
+  join-no d q = gives-refusal d (ap (mapRes writes) (subst (MadeMeans (joinedFile s) B) q (x .means)))
 
   module _ {t : ℕ} (q : m ≡ Bytes t) where
     made : (joinedFile s ≡ ok (take t B)) × (t ≤ length B)
@@ -418,62 +394,29 @@ module _ (s : List ℕ) {B : List ℕ} {m : Made} (x : MadeIs (joinedFile s) B m
     pub join-fits : Fits w32 t
     join-fits = omega (arith, made .1, x .size)
 
-    lent : take (t - 0) (drop 0 B) ≡ take t B
-    lent = let z : t - 0 ≡ t = omega arith in ap (λ (j : ℕ). take j B) z
+    -- the file, as the code takes it
+    file : List ℕ
+    file = take (t - 0) (drop 0 B)
 
-    by-check : joinFile s ≡ checkedFile (take t B) (readFile (take t B))
-    unfolding joinFile
-    by-check = ap thenChecked (made .0)
+    by-check : joinResult s ≡ mapRes writes (checkedFile file (readFile file))
+    unfolding joinResult joinFile file
+    by-check = let z : t ≡ t - 0 = omega arith in ap (λ (r : Res (List ℕ)). mapRes writes (thenChecked r)) (made .0 ∙ ap (λ (k : ℕ). ok (take k B)) z)
 
-    module _ {k : Checked} (c : k ≡ checkOf (take (t - 0) (drop 0 B))) where
-      answer-is : checked (readFile (take t B)) ≡ k
-      unfolding checkOf
-      answer-is = sym (c ∙ ap (λ (w : List ℕ). checked (readFile w)) lent)
+    module _ {k : Answer} (c : k ≡ answerIn (checkResult (take (t - 0) (drop 0 B))) []) (d : List ℕ) where
+      pub join-refused : {n line : ℕ} → k ≡ Refused n line → Gives (joinResult s) d d (Refused n line)
+      unfolding file
+      join-refused {n} {line} e =
+          gives-refusal d (by-check ∙ ap (λ (r : Res Notebook). mapRes writes (checkedFile file r)) (check-refused file n line (sym c ∙ e)))
 
-      module _ {n line : ℕ} (e : k ≡ NotAccepted n line) where
-        refused-by : joinFile s ≡ refused n line
-        refused-by = by-check ∙ ap (checkedFile (take t B)) (refusal (readFile (take t B)) (answer-is ∙ e))
+      module _ {n₁ n₂ n₃ : ℕ} (e : k ≡ Done n₁ n₂ n₃) where
+        given : joinResult s ≡ ok (writes (take (t - 0) (drop 0 B)))
+        unfolding file
+        given = by-check ∙ ap (λ (r : Res Notebook). mapRes writes (checkedFile file r)) (check-accepted file n₁ n₂ n₃ (sym c ∙ e) .read)
 
-        pub join-refused-answer : (room : ℕ) → Refused n line ≡ joinOf s room
-        join-refused-answer room = no-answer room refused-by
+        pub join-short : length d < t → Gives (joinResult s) d d (Refused 20 0)
+        join-short h = front-20 B d join-end given h
 
-        pub join-refused-buffer : (d : List ℕ) → d ≡ joinBuffer s d
-        join-refused-buffer d = no-buffer d refused-by
+        pub join-written : {d₁ : List ℕ} {r : ℕ} → Wrote d d₁ 0 r (take (t - 0) (drop 0 B)) → Gives (joinResult s) d d₁ (Done t 0 0)
+        join-written w = front-written B d join-end given w
 
-      module _ {n₁ n₂ n₃ : ℕ} (e : k ≡ Accepted n₁ n₂ n₃) (d : List ℕ) where
-        file-is : joinFile s ≡ ok (take t B)
-        file-is = by-check ∙ accepted (readFile (take t B)) (take t B) (answer-is ∙ e)
-
-        file-length : length (take t B) ≡ t
-        file-length = length-take-le t B (made .1)
-
-        by-room : joinOf s (length d) ≡ cond (leb (length (take t B)) (length d)) (Joined (length (take t B))) (Refused 20 0)
-        unfolding joinOf
-        by-room = ap (λ (k : Res (List ℕ)). held k (length d)) file-is
-
-        short-is : length d < t → joinOf s (length d) ≡ Refused 20 0
-        short-is h = by-room ∙ rw (lt-leb (length (take t B)) (length d) (omega (arith, file-length)))
-
-        pub join-short-answer : length d < t → Refused 20 0 ≡ joinOf s (length d)
-        join-short-answer h = sym (short-is h)
-
-        pub join-short-buffer : length d < t → d ≡ joinBuffer s d
-        unfolding joinBuffer
-        join-short-buffer h = sym (ap (λ (j : Joining). bufferAfter j (bytesOf (joinFile s)) d) (short-is h))
-
-        module _ (h : t ≤ length d) where
-          long-is : joinOf s (length d) ≡ Joined t
-          long-is = by-room ∙ rw (le-leb (length (take t B)) (length d) (omega (arith, file-length))) (ap Joined file-length)
-
-          pub join-answer : Joined t ≡ joinOf s (length d)
-          join-answer = sym long-is
-
-          pub join-buffer : {d₁ : List ℕ} {r : ℕ} → Wrote d d₁ 0 r (take (t - 0) (drop 0 B)) → d₁ ≡ joinBuffer s d
-          unfolding joinBuffer
-          join-buffer {d₁} {r} w =
-              let a : bufferAfter (joinOf s (length d)) (bytesOf (joinFile s)) d ≡ take t B ++ drop (length (take t B)) d =
-              ap₂ (λ (j : Joining) (k : Res (List ℕ)). bufferAfter j (bytesOf k) d) long-is file-is in
-              w .list ∙ (sets-all (take (t - 0) (drop 0 B)) d (omega (arith, w .next, w .high)) ∙ (ap (λ (u : List ℕ). u ++ drop (length u) d) lent ∙ sym a))
-
-pub ruleset join-laws =
-    (join-no-answer, join-no-buffer, join-end, join-fits, join-refused-answer, join-refused-buffer, join-short-answer, join-short-buffer, join-answer, join-buffer)
+pub ruleset join-laws = (join-no, join-end, join-fits, join-refused, join-short, join-written)

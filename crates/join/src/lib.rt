@@ -11,9 +11,10 @@ ghost use Rattle.characters.specs.Rows.{rows};
 ghost use Rattle.notebook.specs.Canonical.{headRow};
 ghost use Rattle.buffers.specs.Buffers.{Wrote};
 ghost use Rattle.division.specs.Pieces.{brokenLine, startsWell, piecesIn};
-ghost use Rattle.division.specs.Join.{partsOf, joinParts, joinPieces, orSet, joinedFile, joinOf, joinBuffer};
+ghost use Rattle.division.specs.Join.{partsOf, joinParts, joinPieces, orSet, joinedFile, joinResult};
+ghost use Rattle.replies.specs.Results.{Gives};
 ghost use Rattle.join.specs.Spans.{NextIs, FirstIs, goesOn, LineAt, LastIs, LinesAre, Within, MemberIs, Sizes, Blank, Stored, CollectIs, taken, spans, FillIs, FillRoom, MadeIs, SoundIs, Given, GivenSet, First, Input};
-use replies::Joining;
+use replies::Answer;
 
 // The line of the first row that breaks the rule of line ends, 0 for none. A 1Ah is in place after a piece only.
 fn broken_line(s: &[u8]) -> u32
@@ -434,23 +435,22 @@ fn join_into(s: &[u8], buf: &mut [u8]) -> Made
 }
 
 // Pieces in any order to one file. The output is written where the joined file is accepted and fits, and is as it was otherwise.
-pub fn join(pieces: &[u8], out: &mut [u8]) -> Joining
-    ensures answer { λ r. ⌜ r ≡ joinOf (now (pieces .entry)) (length (now (out .entry))) ⌝ }
-    ensures buffer { λ _. ⌜ now (out .exit) ≡ joinBuffer (now (pieces .entry)) (now (out .entry)) ⌝ }
+pub fn join(pieces: &[u8], out: &mut [u8]) -> Answer
+    ensures { λ r. ⌜ Gives (joinResult (now (pieces .entry))) (now (out .entry)) (now (out .exit)) r ⌝ }
 {
     let mut buf = [0u8; 65536];
     match join_into(pieces, &mut buf) {
-        Made::No(n, line) => Joining::Refused(n, line),
+        Made::No(n, line) => Answer::Refused(n, line),
         Made::Bytes(t) => {
             let from = 0;
             match checking::check(&buf[from..t]) {
-                replies::Checked::Refused(n, line) => Joining::Refused(n, line),
-                replies::Checked::Accepted(_, _, _) => {
+                Answer::Refused(n, line) => Answer::Refused(n, line),
+                Answer::Done(_, _, _) => {
                     if out.len() < t {
-                        return Joining::Refused(20, 0);
+                        return Answer::Refused(20, 0);
                     }
                     buffers::put_all(out, 0, &buf[from..t]);
-                    Joining::Joined(t as u32)
+                    Answer::Done(t as u32, 0, 0)
                 }
             }
         }

@@ -1,30 +1,27 @@
--- A record line by the code's numbers is the definition's: one law for each way through `read_line`. Assumes nothing.
+-- A record line by the code's numbers is the definition's: one law for each way through `number_of`, and what the pairs leave. Assumes nothing.
 use Prim.Native.Nat.{ℕ, _+_, _-_, _%_, _≤_}
 use mathlib.Core.Path.{_≡_, refl, sym, ap, _∙_, subst}
-use mathlib.Core.Bool.{Bool, true, false, not, _||_, false≢true}
+use mathlib.Core.Bool.{Bool, true, not, _||_}
 use mathlib.Core.List.{List, [], _∷_}
 use native.Mathlib.Omega.{arith}
 use borrow.Author.Tests.{le-leb, lt-leb, eq-eqb, ne-eqb}
 use lib.Dec.{leb, eqb}
 use lib.ListN.{length, take, drop, getD}
 use Rattle.lists.specs.Lists.{same, findFrom, unless, _orElse_}
-use Rattle.lists.proofs.Tests.{or-stops, not-false′}
+use Rattle.lists.proofs.Tests.{or-stops}
 use Rattle.lists.proofs.Loops.{find-high}
 use Rattle.digits.specs.Digits.{spell}
 use Rattle.digits.specs.Short.{plainNumber}
 use Rattle.digits.proofs.Spelling.{same-spell}
+use Rattle.characters.specs.Text.{commaCount}
 use Rattle.scanning.specs.Scans.{Stops, Sixteen}
-use Rattle.order.specs.declared.Facts.{Facts}
 use Rattle.records.specs.Split.{itemsOf, itemsFrom}
 use Rattle.records.specs.Table.{Row, table}
-use Rattle.records.specs.Records.{t911, rowOf, recordFrom, recordOf, itemsValue, itemsFault, pairs, faultFrom, faultWhere}
+use Rattle.records.specs.Records.{t911, rowOf, recordFrom, recordOf, itemsValue, itemsFault, pairs, faultFrom}
 use Rattle.lines.specs.declared.Details.{Details}
-use Rattle.lines.specs.declared.LineRead.{LineRead}
-use Rattle.lines.specs.declared.LineRead.the-variants.{Fault, Fine}
 use Rattle.lines.specs.declared.Numbered.{Numbered}
 use Rattle.notebook.specs.Facts.{factsOf}
-use Rattle.lines.specs.Found.{lineRead}
-use Rattle.lines.specs.Found.{Sound, Told, NumberedAs}
+use Rattle.lines.specs.Found.{Sound, NumberedAs}
 use Rattle.codes.specs.Codes.{sliceOf, placeOf, placeIn, InCodes}
 use Rattle.lines.specs.Codes.{Commas, Spanned, pairsRaw, factsRaw, detailsRaw}
 use Rattle.lines.proofs.SplitLaws.{items-all, item-cut, items-count, items-some}
@@ -82,27 +79,13 @@ module _ {s h : List ℕ} {ss : List (List ℕ)} {n place : ℕ} (f : Cut s h ss
 
 -- ---- the ways through number_of
 
--- a fault is what is read
-read-fault : (g b : Bool) (s : List ℕ) (k : ℕ) → (k ≡ 0 → ⊥) → faultWhere g b s ≡ k → Fault k ≡ lineRead g b s
-unfolding lineRead
-read-fault g b s k z e = rw (e, ne-eqb k 0 z)
-
-faulty : (g b : Bool) (s : List ℕ) (k : ℕ) → (k ≡ 0 → ⊥) → faultWhere g b s ≡ k → NumberedAs b g s (record { fault = k; number = 0 })
-faulty g b s k z e = record { faulty = λ _. read-fault g b s k z e; sound = λ o. absurd (z o) }
+faulty : (b : Bool) (s : List ℕ) (k : ℕ) → (k ≡ 0 → ⊥) → faultFrom b (itemsOf s) ≡ k → NumberedAs b s (record { fault = k; number = 0 })
+faulty b s k z e = record { faulty = λ _. sym e; sound = λ o. absurd (z o) }
 
 pub first-inside : (s : List ℕ) {e : ℕ} → e ≡ findFrom 0x2c s 0 → e ≤ length s
 first-inside s q = omega (arith, q, find-high 0x2c s 0 (omega arith))
 
-pub numbered-chars : (s : List ℕ) (b g : Bool) → not g ≡ true → NumberedAs b g s (record { fault = 4; number = 0 })
-unfolding faultWhere
-numbered-chars s b true e = absurd (false≢true e)
-numbered-chars s b false e = faulty false b s 4 (λ z. omega arith) refl
-
-past : (s : List ℕ) (b g : Bool) → g ≡ true → (k : ℕ) → faultFrom b (itemsOf s) ≡ k → faultWhere g b s ≡ k
-unfolding faultWhere
-past s b g t k h = rw t h
-
-module _ (s : List ℕ) (b g : Bool) {e n : ℕ} (t : not g ≡ false) (q : e ≡ findFrom 0x2c s 0) (m : n ≡ plainNumber (take (e - 0) (drop 0 s))) where
+module _ (s : List ℕ) (b : Bool) {e n : ℕ} (q : e ≡ findFrom 0x2c s 0) (m : n ≡ plainNumber (take (e - 0) (drop 0 s))) where
   first-cut : itemsOf s ≡ take (e - 0) (drop 0 s) ∷ drop 1 (itemsOf s)
   first-cut =
       let c : itemsOf s ≡ take (e - 0) (drop 0 s) ∷ itemsFrom s (e + 1) = items-all s ∙ item-cut s 0 (omega arith) q in
@@ -111,18 +94,15 @@ module _ (s : List ℕ) (b g : Bool) {e n : ℕ} (t : not g ≡ false) (q : e �
   cut-at : {place : ℕ} → place ≡ placeOf n → InCodes place → Cut s (take (e - 0) (drop 0 s)) (drop 1 (itemsOf s)) n place
   cut-at p i = record { cut = first-cut; number = m; place-is = p; inside = i }
 
-  past-chars : (k : ℕ) → faultFrom b (itemsOf s) ≡ k → faultWhere g b s ≡ k
-  past-chars = past s b g (not-false′ g t)
-
-  pub numbered-mark : n ≡ 911 → NumberedAs b g s (record { fault = 6; number = 0 })
+  pub numbered-mark : n ≡ 911 → NumberedAs b s (record { fault = 6; number = 0 })
   unfolding placeOf placeIn
   numbered-mark h =
       let f = cut-at {place = 0} (ap placeOf (sym h)) (record { inside = omega arith }) in
-      faulty g b s 6 (λ z. omega arith) (past-chars 6 (fault-is f b ∙ rw (eq-eqb n 911 h)))
+      faulty b s 6 (λ z. omega arith) (fault-is f b ∙ rw (eq-eqb n 911 h))
 
   module _ {place : ℕ} (x : n ≡ 911 → ⊥) (p : place ≡ placeOf n) (i : InCodes place) where
-    pub numbered-unlisted : place ≡ 0 → NumberedAs b g s (record { fault = 5; number = 0 })
-    numbered-unlisted z = faulty g b s 5 (λ z. omega arith) (past-chars 5 (fault-is (cut-at p i) b ∙ rw (ne-eqb n 911 x, lt-leb 1 place (omega arith))))
+    pub numbered-unlisted : place ≡ 0 → NumberedAs b s (record { fault = 5; number = 0 })
+    numbered-unlisted z = faulty b s 5 (λ z. omega arith) (fault-is (cut-at p i) b ∙ rw (ne-eqb n 911 x, lt-leb 1 place (omega arith)))
 
     module _ {commas : ℕ} (z : place ≡ 0 → ⊥) (k : Commas s commas) where
       pub read-spanned : {stops : List ℕ} → Stops s stops → Sixteen stops → commas ≡ place % 16 → Spanned s stops commas
@@ -131,13 +111,13 @@ module _ (s : List ℕ) (b g : Bool) {e n : ℕ} (t : not g ≡ false) (q : e �
       counted : commas ≡ length (drop 1 (itemsOf s))
       counted = omega (arith, k .is, items-count s, ap length first-cut)
 
-      pub numbered-count : (commas ≡ place % 16 → ⊥) → NumberedAs b g s (record { fault = 7; number = 0 })
+      pub numbered-count : (commas ≡ place % 16 → ⊥) → NumberedAs b s (record { fault = 7; number = 0 })
       numbered-count w =
-          faulty g b s 7 (λ z. omega arith) (past-chars 7 (fault-is (cut-at p i) b ∙ rw (
+          faulty b s 7 (λ z. omega arith) (fault-is (cut-at p i) b ∙ rw (
             ne-eqb n 911 x,
             le-leb 1 place (omega arith),
             ne-eqb (length (drop 1 (itemsOf s))) (place % 16) (λ y. w (omega (arith, counted, y))),
-          )))
+          ))
 
       module _ {f : ℕ} (w : commas ≡ place % 16) (v : f ≡ itemsFault b (sliceOf place) (drop 1 (itemsOf s))) where
         items-left : faultFrom b (itemsOf s) ≡ f orElse unless (pairs (recordFrom (take (e - 0) (drop 0 s) ∷ drop 1 (itemsOf s)))) 12
@@ -149,11 +129,10 @@ module _ (s : List ℕ) (b g : Bool) {e n : ℕ} (t : not g ≡ false) (q : e �
               ← v,
             )
 
-        pub numbered-items : NumberedAs b g s (record { fault = f; number = n })
+        pub numbered-items : NumberedAs b s (record { fault = f; number = n })
         numbered-items = record {
-          faulty = λ y. read-fault g b s f y (past-chars f (items-left ∙ or-stops f _ y));
+          faulty = λ y. sym (items-left ∙ or-stops f _ y);
           sound = λ o. record {
-            chars = not-false′ g t;
             number = m ∙ ap (λ (x : List (List ℕ)). plainNumber (getD x 0 [])) (sym first-cut);
             inside = subst InCodes p i;
             listed = λ y. z (p ∙ y);
@@ -162,65 +141,39 @@ module _ (s : List ℕ) (b g : Bool) {e n : ℕ} (t : not g ≡ false) (q : e �
           };
         }
 
-pub ruleset numbered-laws = (numbered-chars, first-inside, numbered-mark, numbered-unlisted, numbered-count, read-spanned, numbered-items)
+pub ruleset numbered-laws = (first-inside, numbered-mark, numbered-unlisted, numbered-count, read-spanned, numbered-items)
 
--- where the number is known
-pub numbered-known : (s : List ℕ) (b g : Bool) {n : ℕ} → Told b g s n → (n ≡ 0 → ⊥) → NumberedAs b g s (record { fault = 0; number = n })
-numbered-known s b g t z = record { faulty = λ o. absurd (o refl); sound = λ _. t .sound z }
+-- ---- a line without a fault in number and items: its facts, and what its pairs leave
 
--- ---- the ways through read_line
+module _ {b : Bool} {s : List ℕ} {n : ℕ} (v : Sound b s n) where
+  pub sound-few : commaCount s ≤ 15
+  sound-few = omega (arith, v .count)
 
-module _ (s : List ℕ) (b g : Bool) {r : Numbered} (v : NumberedAs b g s r) where
-  pub read-faulty : (r .fault ≡ 0 → ⊥) → Fault (r .fault) ≡ lineRead g b s
-  read-faulty z = v .faulty z
+  cut : Cut s (getD (itemsOf s) 0 []) (drop 1 (itemsOf s)) n (placeOf n)
+  cut = record { cut = items-some s; number = v .number; place-is = refl; inside = v .inside }
 
-  module _ (o : r .fault ≡ 0) where
-    abbrev n : ℕ
-    n = r .number
+  length-is : length (drop 1 (itemsOf s)) ≡ placeOf n % 16
+  length-is = omega (arith, v .count, items-count s, ap length (items-some s))
 
-    known : Sound b g s n
-    known = v .sound o
+  no-mark : n ≡ 911 → ⊥
+  unfolding placeOf placeIn
+  no-mark e = v .listed (ap placeOf e)
 
-    pub read-known : {commas : ℕ} {stops : List ℕ} → Commas s commas → Stops s stops → Sixteen stops → Spanned s stops commas
-    read-known k p y = record { places = p; commas = k; few = omega (arith, k .is, known .count); size = y }
+  left : faultFrom b (itemsOf s) ≡ unless (pairsRaw n (drop 1 (itemsOf s))) 12
+  left =
+      fault-is cut b ∙ rw (
+        ne-eqb n 911 no-mark,
+        le-leb 1 (placeOf n) (omega (arith, v .listed)),
+        eq-eqb (length (drop 1 (itemsOf s))) (placeOf n % 16) length-is,
+        v .items,
+        pairs-of cut (v .listed) length-is,
+      )
 
-    cut : Cut s (getD (itemsOf s) 0 []) (drop 1 (itemsOf s)) n (placeOf n)
-    cut = record { cut = items-some s; number = known .number; place-is = refl; inside = known .inside }
+  module _ {d : Details} (h : d ≡ detailsRaw n (drop 1 (itemsOf s))) where
+    pub sound-fault : faultFrom b (itemsOf s) ≡ unless (d .paired) 12
+    unfolding detailsRaw
+    sound-fault = left ∙ ap (λ (y : Details). unless (y .paired) 12) (sym h)
 
-    length-is : length (drop 1 (itemsOf s)) ≡ placeOf n % 16
-    length-is = omega (arith, known .count, items-count s, ap length (items-some s))
-
-    no-mark : n ≡ 911 → ⊥
-    unfolding placeOf placeIn
-    no-mark e = known .listed (ap placeOf e)
-
-    left : faultFrom b (itemsOf s) ≡ unless (pairsRaw n (drop 1 (itemsOf s))) 12
-    left =
-        fault-is cut b ∙ rw (
-          ne-eqb n 911 no-mark,
-          le-leb 1 (placeOf n) (omega (arith, known .listed)),
-          eq-eqb (length (drop 1 (itemsOf s))) (placeOf n % 16) length-is,
-          known .items,
-          pairs-of cut (known .listed) length-is,
-        )
-
-    module _ {d : Details} (h : d ≡ detailsRaw n (drop 1 (itemsOf s))) where
-      paired-is : d .paired ≡ pairsRaw n (drop 1 (itemsOf s))
-      unfolding detailsRaw
-      paired-is = ap (λ (y : Details). y .paired) h
-
-      facts-found : d .facts ≡ factsOf (recordOf s)
-      unfolding detailsRaw
-      facts-found = ap (λ (y : Details). y .facts) h ∙ sym (facts-of cut (known .listed) length-is)
-
-      by-pairs : (y : Bool) → d .paired ≡ y → faultWhere g b s ≡ unless y 12
-      by-pairs y r = past s b g (known .chars) (unless y 12) (left ∙ ap (λ (c : Bool). unless c 12) (sym paired-is ∙ r))
-
-      pub read-fine : d .paired ≡ true → Fine (d .facts) ≡ lineRead g b s
-      unfolding lineRead
-      read-fine r = rw (by-pairs true r) (ap Fine facts-found)
-
-      pub read-pairs : d .paired ≡ false → Fault 12 ≡ lineRead g b s
-      read-pairs r = read-fault g b s 12 (λ z. omega arith) (by-pairs false r)
-
-pub ruleset read-laws = (read-faulty, read-known, read-fine, read-pairs)
+    pub sound-facts : d .facts ≡ factsOf (recordOf s)
+    unfolding detailsRaw
+    sound-facts = ap (λ (y : Details). y .facts) h ∙ sym (facts-of cut (v .listed) length-is)

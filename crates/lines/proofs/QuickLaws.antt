@@ -182,7 +182,7 @@ pub ruleset passing-laws = (passing-start, quick-none, passing-size, passing-low
 -- ---- the whole line
 
 pub line-none : (b : Bool) (s : List ℕ) (at : ℕ) {a : List ℕ} → Sixteen a → QuickOf b s at a (record { end = 0; commas = 0; number = 0 })
-line-none b s at z = record { line = λ o. absurd (o refl); told = λ o. absurd (o refl); size = z }
+line-none b s at z = record { holds = λ o. absurd (o refl); size = z }
 
 module _ {s : List ℕ} {at place : ℕ} {r : Spelled} (h : at < length s) (z : getD s at 0 ≡ 0x30 → ⊥) (v : SpelledAt s at r) (p : place ≡ placeOf (r .value)) (l : place ≡ 0 → ⊥) where
   -- where no digit stands the number is 0, which is not listed
@@ -203,10 +203,9 @@ module _ {s : List ℕ} {at place : ℕ} {r : Spelled} (h : at < length s) (z : 
 
   pub line-quick : {b : Bool} {a : List ℕ} {e : ℕ} → InCodes place → QuickItems b place s at (r .end) a e → QuickOf b s at a (record { end = e; commas = place % 16; number = r .value })
   line-quick {b} {a} {e} i q = record {
-    line = λ o. q .holds o .line;
-    told = λ o. record {
-      sound = λ _. record {
-        chars = refl;
+    holds = λ o. record {
+      line = q .holds o .line;
+      sound = record {
         number = number-is ∙ ap plainNumber (sym (q .holds o .first));
         inside = subst InCodes p i;
         listed = λ y. l (p ∙ y);

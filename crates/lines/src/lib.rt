@@ -9,8 +9,7 @@ ghost use Rattle.lists.specs.Lists.{same, findFrom};
 ghost use Rattle.records.specs.Split.{itemsOf};
 ghost use Rattle.scanning.specs.Scans.{Stops, Sixteen, RunOf};
 ghost use Rattle.records.specs.Records.{orEmpty, isNum, itemsFault};
-ghost use Rattle.lines.specs.Found.{lineRead};
-ghost use Rattle.lines.specs.Found.{Told, NumberedAs, LineEndsIf, QuickItems, QuickOf, FoundOf};
+ghost use Rattle.lines.specs.Found.{NumberedAs, LineEndsIf, QuickItems, QuickOf, FoundOf, ReadOf};
 ghost use Rattle.codes.specs.Codes.{Lent, InCodes, sliceOf};
 ghost use Rattle.lines.specs.Codes.{Commas, Spanned, SpanAt, quantity, codeRaw, formRaw, rpRaw, dayRaw, detailsRaw, bareDetails, otherDetails, usageRaw};
 
@@ -331,25 +330,18 @@ fn record_details(number: u32, stops: &[usize; 16], n: usize, s: &[u8]) -> Detai
     }
 }
 
-// ---- a line
+// ---- a line of items
 
-// What a record line is: its fault, or the facts of its record.
-pub enum LineRead {
-    Fault(u8),
-    Fine(order::Facts),
-}
-
-// The first fault of a line in its characters, its number and its items, 0 where it has none; and then its record's number.
+// A line's first fault in its number and its items, 0 where it has none; and then its record's number.
 pub struct Numbered {
     pub fault: u8,
     pub number: u32,
 }
 
-// In the order of document 01's table: 4, 6 or 5, 7, then the items from the left.
+// In the order of document 01's table: 6 or 5, 7, then the items from the left.
 fn number_of(
     codes: &[usize; 83],
     provider: bool,
-    good: bool,
     commas: usize,
     stops: &[usize; 16],
     s: &[u8],
@@ -358,14 +350,8 @@ fn number_of(
     requires { ⌜ Commas (now s) commas ⌝ }
     requires { ⌜ Stops (now s) (now stops) ⌝ }
     requires { ⌜ Sixteen (now stops) ⌝ }
-    ensures { λ r. ⌜ NumberedAs (provider) good (now (s .entry)) r ⌝ }
+    ensures { λ r. ⌜ NumberedAs (provider) (now (s .entry)) r ⌝ }
 {
-    if !good {
-        return Numbered {
-            fault: 4,
-            number: 0,
-        };
-    }
     let start = 0;
     let end = number_end(stops, commas, s);
     let n = digits::plain_number(&s[start..end]);
@@ -392,66 +378,6 @@ fn number_of(
     Numbered {
         fault: f,
         number: n,
-    }
-}
-
-// The same where it may be known already; known: the number of a record without such a fault, or 0.
-fn number_unless(
-    codes: &[usize; 83],
-    provider: bool,
-    good: bool,
-    commas: usize,
-    stops: &[usize; 16],
-    s: &[u8],
-    known: u32,
-) -> Numbered
-    requires { ⌜ Lent (now codes) ⌝ }
-    requires { ⌜ Commas (now s) commas ⌝ }
-    requires { ⌜ Stops (now s) (now stops) ⌝ }
-    requires { ⌜ Sixteen (now stops) ⌝ }
-    requires { ⌜ Told (provider) good (now s) known ⌝ }
-    ensures { λ r. ⌜ NumberedAs (provider) good (now (s .entry)) r ⌝ }
-{
-    if known != 0 {
-        return Numbered {
-            fault: 0,
-            number: known,
-        };
-    }
-    number_of(codes, provider, good, commas, stops, s)
-}
-
-// Reads a record line; good: it is characters; commas: how many it has; stops: their places; known: its number if its items are known to
-// have no fault, else 0. The pairs come last.
-pub fn read_line(
-    codes: &[usize; 83],
-    provider: bool,
-    good: bool,
-    commas: usize,
-    stops: &[usize; 16],
-    s: &[u8],
-    known: u32,
-) -> LineRead
-    requires { ⌜ Lent (now codes) ⌝ }
-    requires { ⌜ Commas (now s) commas ⌝ }
-    requires { ⌜ Stops (now s) (now stops) ⌝ }
-    requires { ⌜ Sixteen (now stops) ⌝ }
-    requires { ⌜ Told (provider) good (now s) known ⌝ }
-    ensures { λ r. ⌜ r ≡ lineRead good provider (now (s .entry)) ⌝ }
-{
-    let r = number_unless(codes, provider, good, commas, stops, s, known);
-    let f = r.fault;
-    let n = r.number;
-    if f != 0 {
-        return LineRead::Fault(f);
-    }
-    let d = record_details(n, stops, commas, s);
-    let paired = d.paired;
-    let facts = d.facts;
-    if paired {
-        LineRead::Fine(facts)
-    } else {
-        LineRead::Fault(12)
     }
 }
 
@@ -571,17 +497,46 @@ fn quick_line(
 
 // ---- lines at a position
 
-// What stands at a position where a row begins, as scanning::Line tells it; and with a whole line the number of its record, if its items are
-// known to have no fault, else 0.
+// What stands at a position where a row begins, without its pairs: a line without a fault in characters, number and items, as where its text
+// ends, how many commas it has and its record's number; the number of its fault, 2 where the rule of line ends is broken; or nothing more.
 pub enum Found {
-    Whole(usize, bool, usize, u32),
-    Mark,
-    End,
-    Broken,
+    Line(usize, usize, u32),
+    Fault(u32),
+    Over,
 }
 
-// The line that begins at a position; stops: the places of its commas, from its beginning.
-pub fn find_line(
+// The slow way: the line's end and its characters first.
+fn slow_line(
+    codes: &[usize; 83],
+    provider: bool,
+    stops: &mut [usize; 16],
+    s: &[u8],
+    at: usize,
+) -> Found
+    requires { ⌜ Lent (now codes) ⌝ }
+    requires { ⌜ Sixteen (now stops) ⌝ }
+    ensures { λ r. ⌜ FoundOf (provider) (now (s .entry)) at (now (stops .exit)) r ⌝ }
+{
+    match scanning::line_at(stops, s, at) {
+        scanning::Line::End => Found::Over,
+        scanning::Line::Mark => Found::Over,
+        scanning::Line::Broken => Found::Fault(2),
+        scanning::Line::Whole(end, good, commas) => {
+            if !good {
+                return Found::Fault(4);
+            }
+            let r = number_of(codes, provider, commas, stops, &s[at..end]);
+            let fault = r.fault;
+            let number = r.number;
+            if fault != 0 {
+                return Found::Fault(digits::wide(fault));
+            }
+            Found::Line(end, commas, number)
+        }
+    }
+}
+
+fn find_line(
     codes: &[usize; 83],
     provider: bool,
     stops: &mut [usize; 16],
@@ -597,12 +552,42 @@ pub fn find_line(
     let commas = quick.commas;
     let number = quick.number;
     if end != 0 {
-        return Found::Whole(end, true, commas, number);
+        return Found::Line(end, commas, number);
     }
-    match scanning::line_at(stops, s, at) {
-        scanning::Line::End => Found::End,
-        scanning::Line::Mark => Found::Mark,
-        scanning::Line::Broken => Found::Broken,
-        scanning::Line::Whole(end, good, commas) => Found::Whole(end, good, commas, 0),
+    slow_line(codes, provider, stops, s, at)
+}
+
+// What stands at a position where a row begins: a record line without a fault, as its record's facts, where its text ends and how many commas
+// it has; the number of its fault, 2 where the rule of line ends is broken; or nothing more.
+pub enum LineRead {
+    Record(order::Facts, usize, usize),
+    Fault(u32),
+    Over,
+}
+
+// Finds and reads the line at a position; stops: the places of its commas, from its beginning. The pairs come last.
+pub fn read_line(
+    codes: &[usize; 83],
+    provider: bool,
+    stops: &mut [usize; 16],
+    s: &[u8],
+    at: usize,
+) -> LineRead
+    requires { ⌜ Lent (now codes) ⌝ }
+    requires { ⌜ Sixteen (now stops) ⌝ }
+    ensures { λ r. ⌜ ReadOf (provider) (now (s .entry)) at (now (stops .exit)) r ⌝ }
+{
+    match find_line(codes, provider, stops, s, at) {
+        Found::Over => LineRead::Over,
+        Found::Fault(n) => LineRead::Fault(n),
+        Found::Line(end, commas, number) => {
+            let d = record_details(number, stops, commas, &s[at..end]);
+            let paired = d.paired;
+            let facts = d.facts;
+            if paired {
+                return LineRead::Record(facts, end, commas);
+            }
+            LineRead::Fault(12)
+        }
     }
 }

@@ -1,8 +1,7 @@
 use borrow.Author.Needs.{needs}
 use Prim.Native.Nat.{_-_}
 use lib.ListN.{length}
-use Rattle.join.proofs.JoinLaws.{join-end, join-fits, join-no-answer, join-no-buffer, join-refused-answer, join-refused-buffer}
-use Rattle.join.proofs.JoinLaws.{join-short-answer, join-short-buffer, join-answer, join-buffer}
+use Rattle.join.proofs.JoinLaws.{join-end, join-fits, join-no, join-refused, join-short, join-written}
 use Rattle.join.proofs.join.Statement.{statement}
 use Rattle.join.proofs.join.Tie as tie
 use Rattle.join.proofs.join.Reads as reads
@@ -42,7 +41,7 @@ enum-told : tie.Need-enum-told
 enum-told c = search needs
 
 returns : tie.Need-returns
-returns c = search (join-short-answer, join-short-buffer)
+returns c = search join-short
 
 sub-put-all : tie.Need-sub-put-all
 sub-put-all c = search needs
@@ -60,16 +59,16 @@ cast-t30 : tie.Need-cast-t30
 cast-t30 c = search join-fits
 
 returns-2 : tie.Need-returns-2
-returns-2 c = search (join-no-answer, join-no-buffer)
+returns-2 c = search join-no
 
 returns-3 : tie.Need-returns-3
-returns-3 c = search (join-refused-answer, join-refused-buffer)
+returns-3 c = search join-refused
 
 same-length : tie.Need-same-length
 same-length c = search needs
 
 returns-4 : tie.Need-returns-4
-returns-4 c = search (join-answer, join-buffer)
+returns-4 c = search join-written
 
 pub join-spec : {M : Type 1} → statement M
 join-spec =

@@ -1,17 +1,15 @@
 use borrow.Author.Needs.{needs}
 use Prim.Native.Nat.{_-_}
+use lib.ListN.{length}
 use Rattle.lines.proofs.LineLaws.{numbered-laws}
 use Rattle.lines.proofs.number_of.Statement.{statement}
 use Rattle.lines.proofs.number_of.Tie as tie
 use Rattle.lines.proofs.number_of.Reads as reads
 use Rattle.lines.proofs.number_of.Lts as lts
+use Rattle.codes.proofs.place_of.Reads as place-of-reads
 use Rattle.digits.proofs.plain_number.Reads as plain-number-reads
 use Rattle.lines.proofs.items_fault.Reads as items-fault-reads
 use Rattle.lines.proofs.number_end.Reads as number-end-reads
-use Rattle.codes.proofs.place_of.Reads as place-of-reads
-
-returns : tie.Need-returns
-returns c = search (needs, numbered-laws)
 
 number-end-requires : tie.Need-number-end-requires
 number-end-requires c κs = search needs
@@ -28,37 +26,36 @@ part-plain-number-end c = search (needs, numbered-laws)
 plain-number-requires : tie.Need-plain-number-requires
 plain-number-requires c κs = search needs
 
-returns-2 : tie.Need-returns-2
-returns-2 c = search (needs, numbered-laws)
+returns : tie.Need-returns
+returns c = search (needs, numbered-laws)
 
 place-of-requires : tie.Need-place-of-requires
 place-of-requires c κs = search needs
 
+returns-2 : tie.Need-returns-2
+returns-2 c = search (needs, numbered-laws)
+
 returns-3 : tie.Need-returns-3
 returns-3 c = search (needs, numbered-laws)
-
-returns-4 : tie.Need-returns-4
-returns-4 c = search (needs, numbered-laws)
 
 items-fault-requires : tie.Need-items-fault-requires
 items-fault-requires c κs = (search needs, (search needs, (search (needs, numbered-laws), search needs)))
 
-returns-5 : tie.Need-returns-5
-returns-5 c = search (needs, numbered-laws)
+returns-4 : tie.Need-returns-4
+returns-4 c = search (needs, numbered-laws)
 
 pub number-of-spec : {M : Type 1} → statement M
 number-of-spec =
     tie.close
     (tie.spec
-    returns
     number-end-requires
     sub-plain-number
     part-plain-number-start
     part-plain-number-end
     plain-number-requires
-    returns-2
+    returns
     place-of-requires
+    returns-2
     returns-3
-    returns-4
     items-fault-requires
-    returns-5)
+    returns-4)
