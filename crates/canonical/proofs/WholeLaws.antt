@@ -25,7 +25,8 @@ use Rattle.checking.proofs.LineFacts.{line-size}
 use Rattle.checking.proofs.CheckLaws.{zeros-size}
 use Rattle.replies.specs.declared.Answer.{Answer}
 use Rattle.replies.specs.declared.Answer.the-variants.{Done, Refused}
-use Rattle.notebook.specs.Canonical.{headRow, recordRows, canonicalBytes, canonicalFile, canonicalResult}
+use Rattle.notebook.specs.Canonical.{headRow, recordRows, writeFile, canonicalBytes, canonicalFile, canonicalResult}
+use Rattle.notebook.proofs.Arranging.{arrange-as-is}
 use Rattle.replies.specs.Results.{writes, Gives}
 use Rattle.replies.proofs.Results.{gives-refusal, front-20, front-room, front-written}
 use Rattle.canonical.specs.Writing.{Output, poured, Poured, MadeMeans, MadeOf, Holds}
@@ -35,7 +36,7 @@ use Rattle.canonical.specs.Writing.{Output, poured, Poured, MadeMeans, M
 -- line 1, and the records poured behind it
 made : (s d d₁ d₂ : List ℕ) (e r : ℕ) (provider : Bool) (x : Res (List Record)) (c : Answer) → Wrote d d₁ 0 r (headRow provider) → r ≡ e + 2
     → readFile s ≡ notebookOf provider x → Poured (length d) (poured d₁ (e + 2) x) d₂ c → MadeOf (length d) (canonicalFile s) d₂ c
-unfolding poured canonicalBytes canonicalFile
+unfolding poured writeFile canonicalBytes canonicalFile
 made s d d₁ d₂ e r provider (refused n line) (Refused m l) w g q v = record { means = ap (mapRes canonicalBytes) q ∙ (let y : _≡_ {A = Res (List ℕ)} (refused n line) (refused m l) = cc in y); size = v .size }
   where
     u : _≡_ {A = Res Output} (refused n line) (refused m l)
@@ -48,7 +49,7 @@ made s d d₁ d₂ e r provider (ok rs) (Refused m l) w g q v = absurd (no (v .m
   where
     no : _≡_ {A = Res Output} (ok (record { buffer = sets d₁ (e + 2) (flat (recordRows rs)); end = e + 2 + length (flat (recordRows rs)) })) (refused m l) → ⊥
     no f = let y : _≡_ {A = ℕ} 0 1 = cc in omega arith
-made s d d₁ d₂ e r provider (ok rs) (Done t b c) w g q v = record { means = (ap (mapRes canonicalBytes) q ∙ ap ok (sym all), v .means .2); size = v .size }
+made s d d₁ d₂ e r provider (ok rs) (Done t b c) w g q v = record { means = (ap (mapRes canonicalBytes) q ∙ ap ok (ap writeFile (arrange-as-is (record { provider = provider; records = rs })) ∙ sym all), v .means .2); size = v .size }
   where
     rest : List ℕ
     rest = flat (recordRows rs)

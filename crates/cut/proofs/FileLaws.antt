@@ -13,6 +13,7 @@ use Rattle.lists.proofs.Tests.{both}
 use Rattle.digits.specs.Digits.{isDigit}
 use Rattle.characters.specs.Rows.{flat}
 use Rattle.notebook.specs.Notebook.{Notebook, readFile}
+use Rattle.notebook.specs.Same.{arrange}
 use Rattle.replies.specs.declared.Answer.{Answer}
 use Rattle.replies.specs.declared.Answer.the-variants.{Done, Refused}
 use Rattle.replies.specs.Results.{Result, Gives}
@@ -35,17 +36,18 @@ numbered-as provider id n k (x ∷ xs) =
     ap (λ (ps : List (List ℕ)). (headRow provider ++ (flat x ++ markRow id n k)) ∷ ps) (numbered-as provider id n (suc k) xs)
 
 module _ (f : List ℕ) (b : Notebook) (e : readFile f ≡ ok b) (id : List ℕ) where
-  planned-as : (p : Plan (List ℕ)) → plannedAs id (canonicalBytes b) p ≡ planned id b p
+  planned-as : (p : Plan (List ℕ)) → plannedAs id (canonicalBytes b) p ≡ planned id (arrange b) p
+  unfolding canonicalBytes
   planned-as whole = refl
   planned-as (split xs) =
-      ap (λ (h : List ℕ). some (numberedAs h id (length xs) 1 xs)) (canonical-head f b e) ∙ ap some (numbered-as (b .provider) id (length xs) 1 xs)
+      ap (λ (h : List ℕ). some (numberedAs h id (length xs) 1 xs)) (canonical-head f b e) ∙ ap some (numbered-as (arrange b .provider) id (length xs) 1 xs)
   planned-as fails = refl
 
-  pub cutting-as : (c : ℕ) → cuttingOf id c (canonicalBytes b) ≡ cutting id c b
+  pub cutting-as : (c : ℕ) → cuttingOf id c (canonicalBytes b) ≡ cutting id c (arrange b)
   unfolding cuttingOf cutting
   cutting-as c =
       ap (λ (rs : List (List ℕ)). plannedAs id (canonicalBytes b) (plan length c rs)) (canonical-rows f b e)
-      ∙ planned-as (plan length c (recordRows (b .records)))
+      ∙ planned-as (plan length c (recordRows (arrange b .records)))
 
 -- ---- the ways through cut
 
@@ -85,7 +87,7 @@ module _ (f : List ℕ) (c : ℕ) (id d : List ℕ) {buf : List ℕ} {l : ℕ} {
     unfolding canonicalFile
     made = let z : t - 0 ≡ t = omega arith in made-of f (part buf 0 t) (readFile f) refl (rw z (means .0))
 
-    list-is : cutList f c id ≡ cond (validID id) (listed (cutting id c (made .book))) (refused 17 0)
+    list-is : cutList f c id ≡ cond (validID id) (listed (cutting id c (arrange (made .book)))) (refused 17 0)
     unfolding cutList
     list-is = ap (λ (r : Res Notebook). andThen r (found id c)) (made .read)
 

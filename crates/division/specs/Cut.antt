@@ -41,6 +41,7 @@ abbrev pub listed : Option (List (List ℕ)) → Res (List (List ℕ))
 listed none = refused 18 0
 listed (some ps) = ok ps
 
+-- "a run of canonical records": in the sequence of the canonical file
 abbrev pub found : List ℕ → ℕ → Notebook → Res (List (List ℕ))
 found id c b = cond (validID id) (listed (cutting id c (arrange b))) (refused 17 0)
 
