@@ -1,1 +1,2 @@
+pub mod AllExamples
 pub mod Results
