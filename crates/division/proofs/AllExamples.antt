@@ -7,7 +7,7 @@ use mathlib.Core.List.{List, [], _∷_, map}
 use lib.ListN.{length}
 use Rattle.lists.specs.Lists.{bytes, same, All, Res, ok}
 use Rattle.lists.proofs.Tests.{same-refl}
-use Rattle.digits.specs.Digits.{value, number, spell}
+use Rattle.digits.specs.Digits.{value, number, spell, digitCount}
 use Rattle.characters.specs.Rows.{flat, isLine}
 use Rattle.calendar.specs.Digits.{numberFrom}
 use Rattle.eras.specs.Day.{leap, monthLength, isReal, isDay}
@@ -27,7 +27,7 @@ use Rattle.notebook.specs.Notebook.{stepLine, closed, onward, recordsFrom, read
 use Rattle.notebook.proofs.Accepted.{no-refusal}
 use Rattle.notebook.specs.Canonical.{recordRows, canonicalBytes, bytesOf}
 use Rattle.packing.specs.Packing.{total, put, pack}
-use Rattle.packing.specs.Widths.{past, digitsOf, over, serves, tries, plan}
+use Rattle.packing.specs.Widths.{over, serves, tries, plan}
 use Rattle.division.specs.Marks.{validID, markLine, markRow, readMark}
 use Rattle.division.specs.Pieces.{Piece, kindOf, brokenFrom, brokenLine, bodyOf, piecesIn, splitRows, split, fileOf}
 use Rattle.division.specs.Join.{unmarked, partOf, partsOf, agree, find, gather, joinPieces, joinedFile, joinFile}
@@ -49,7 +49,7 @@ unfolding bytes value number spell isLine numberFrom leap monthLength isReal isD
 joins-hold = refl
 
 pub cuts-hold : map (λ (a : Asked). cutOf (a .file) (a .capacity) (a .id) (a .room)) asked ≡ theirAnswers
-unfolding bytes spell isLine numberFrom leap monthLength isReal isDay gregorian eraOf eraOn inEra fromEra readDay writeDay table edge oneWidth decimal sized fault valueOf itemFault itemValue itemsFault itemsValue rowIn rowOf pairs t911 recordFrom faultFrom faultWhere lineFault recordOf header inGroup mayFollow pairBroken misplaced closesRp lacking missing valueWrong newerGroup refusal unfinished none start hadAfter advance refusalOf stepOf finishOf factsOf stepLine closed onward recordsFrom readRows readFile joined write recordRows canonicalBytes total put pack past digitsOf over serves tries plan validID markLine markRow pieceBytes numbered cutting cutList cutOf
+unfolding bytes spell isLine numberFrom leap monthLength isReal isDay gregorian eraOf eraOn inEra fromEra readDay writeDay table edge oneWidth decimal sized fault valueOf itemFault itemValue itemsFault itemsValue rowIn rowOf pairs t911 recordFrom faultFrom faultWhere lineFault recordOf header inGroup mayFollow pairBroken misplaced closesRp lacking missing valueWrong newerGroup refusal unfinished none start hadAfter advance refusalOf stepOf finishOf factsOf stepLine closed onward recordsFrom readRows readFile joined write recordRows canonicalBytes total put pack digitCount over serves tries plan validID markLine markRow pieceBytes numbered cutting cutList cutOf
 cuts-hold = refl
 
 -- ---- sound lists

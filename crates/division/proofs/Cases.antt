@@ -6,7 +6,7 @@ use mathlib.Core.Bool.{false, cond}
 use mathlib.Core.List.{List, [], _∷_, map}
 use lib.ListN.{length}
 use Rattle.lists.specs.Lists.{bytes, Res, ok, refused}
-use Rattle.digits.specs.Digits.{spell}
+use Rattle.digits.specs.Digits.{spell, digitCount}
 use Rattle.characters.specs.Rows.{isLine}
 use Rattle.calendar.specs.Digits.{numberFrom}
 use Rattle.eras.specs.Day.{leap, monthLength, isReal, isDay}
@@ -26,7 +26,7 @@ use Rattle.notebook.specs.Check.{count, checkOf}
 use Rattle.notebook.specs.Canonical.{recordRows, canonicalBytes, canonicalOf}
 use Rattle.printing.specs.Printed.{digitsOf as decimalDigits, decimal as decimalOf, numbers, line, printed}
 use Rattle.packing.specs.Packing.{total, put}
-use Rattle.packing.specs.Widths.{Plan, past, digitsOf, over, serves}
+use Rattle.packing.specs.Widths.{Plan, over, serves}
 use Rattle.packing.proofs.Computed.{packed, tried, planned, plan-is}
 use Rattle.division.specs.Marks.{validID, markLine, markRow}
 use Rattle.replies.specs.declared.Cutting.{Cutting}
@@ -79,7 +79,7 @@ cut : (n c : ℕ) → Read n → Cut n c (computed c (book n))
 cut n c e = answered (withNotes n) (book n) c e
 
 cuts : Cut 20 69 (Pieces 6 404) × Cut 18 60 (Pieces 10 547) × Cut 18 59 (Refused 18 0) × Cut 2 51 (Pieces 1 51) × Cut 2 50 (Refused 18 0)
-unfolding notes book bytes spell eraOn inEra writeDay joined header write recordRows canonicalBytes total put packed past digitsOf over serves tried planned validID markLine markRow pieceBytes numbered t911
+unfolding notes book bytes spell eraOn inEra writeDay joined header write recordRows canonicalBytes total put packed digitCount over serves tried planned validID markLine markRow pieceBytes numbered t911
 cuts = (cut 20 69 (reads .0), cut 18 60 (reads .1), cut 18 59 (reads .1), cut 2 51 (reads .2), cut 2 50 (reads .2))
 
 -- ---- ALL CASES
