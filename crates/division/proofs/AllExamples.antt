@@ -9,7 +9,6 @@ use Rattle.lists.specs.Lists.{bytes, same, All, Res, ok}
 use Rattle.lists.proofs.Tests.{same-refl}
 use Rattle.digits.specs.Digits.{value, number, spell, digitCount}
 use Rattle.characters.specs.Rows.{flat, isLine}
-use Rattle.calendar.specs.Digits.{numberFrom}
 use Rattle.eras.specs.Day.{leap, monthLength, isReal, isDay}
 use Rattle.eras.specs.Era.{eraOf, eraOn, writeDay}
 use Rattle.calendar.specs.Day.{gregorian}
@@ -45,11 +44,11 @@ unfolding bytes value number t911 validID readMark
 marks-hold = refl
 
 pub joins-hold : map joinFile inputs ≡ theirFiles
-unfolding bytes value number spell isLine numberFrom leap monthLength isReal isDay gregorian eraOf inEra fromEra readDay table edge oneWidth decimal sized fault valueOf itemFault itemValue itemsFault itemsValue rowIn rowOf pairs t911 isMark recordFrom faultFrom faultWhere lineFault recordOf header inGroup mayFollow pairBroken misplaced closesRp lacking missing valueWrong newerGroup refusal unfinished none start hadAfter advance refusalOf stepOf finishOf factsOf stepLine closed onward recordsFrom readRows readFile validID readMark kindOf brokenFrom brokenLine bodyOf piecesIn splitRows split fileOf unmarked partOf partsOf agree find gather joinPieces joinedFile joinFile
+unfolding bytes value number spell isLine leap monthLength isReal isDay gregorian eraOf inEra fromEra readDay table edge oneWidth decimal sized fault valueOf itemFault itemValue itemsFault itemsValue rowIn rowOf pairs t911 isMark recordFrom faultFrom faultWhere lineFault recordOf header inGroup mayFollow pairBroken misplaced closesRp lacking missing valueWrong newerGroup refusal unfinished none start hadAfter advance refusalOf stepOf finishOf factsOf stepLine closed onward recordsFrom readRows readFile validID readMark kindOf brokenFrom brokenLine bodyOf piecesIn splitRows split fileOf unmarked partOf partsOf agree find gather joinPieces joinedFile joinFile
 joins-hold = refl
 
 pub cuts-hold : map (λ (a : Asked). cutOf (a .file) (a .capacity) (a .id) (a .room)) asked ≡ theirAnswers
-unfolding bytes spell isLine numberFrom leap monthLength isReal isDay gregorian eraOf eraOn inEra fromEra readDay writeDay table edge oneWidth decimal sized fault valueOf itemFault itemValue itemsFault itemsValue rowIn rowOf pairs t911 recordFrom faultFrom faultWhere lineFault recordOf header inGroup mayFollow pairBroken misplaced closesRp lacking missing valueWrong newerGroup refusal unfinished none start hadAfter advance refusalOf stepOf finishOf factsOf stepLine closed onward recordsFrom readRows readFile joined write recordRows canonicalBytes total put pack digitCount over serves tries plan validID markLine markRow pieceBytes numbered cutting cutList cutOf
+unfolding bytes spell isLine value leap monthLength isReal isDay gregorian eraOf eraOn inEra fromEra readDay writeDay table edge oneWidth decimal sized fault valueOf itemFault itemValue itemsFault itemsValue rowIn rowOf pairs t911 recordFrom faultFrom faultWhere lineFault recordOf header inGroup mayFollow pairBroken misplaced closesRp lacking missing valueWrong newerGroup refusal unfinished none start hadAfter advance refusalOf stepOf finishOf factsOf stepLine closed onward recordsFrom readRows readFile joined write recordRows canonicalBytes total put pack digitCount over serves tries plan validID markLine markRow pieceBytes numbered cutting cutList cutOf
 cuts-hold = refl
 
 -- ---- sound lists
@@ -59,7 +58,7 @@ _also_ : {A B : Type 0} → A → B → A × B
 x also y = (x, y)
 
 pub sound-hold : All (λ (x : Claim). Sound twoDates (x .capacity) (x .list)) sound
-unfolding bytes value number spell isLine numberFrom leap monthLength isReal isDay gregorian eraOf eraOn inEra fromEra readDay writeDay table edge oneWidth decimal sized fault valueOf itemFault itemValue itemsFault itemsValue rowIn rowOf pairs t911 isMark recordFrom faultFrom faultWhere lineFault recordOf header inGroup mayFollow pairBroken misplaced closesRp lacking missing valueWrong newerGroup refusal unfinished none start hadAfter advance refusalOf stepOf finishOf factsOf stepLine closed onward recordsFrom readRows readFile joined write recordRows canonicalBytes validID readMark kindOf brokenFrom brokenLine bodyOf piecesIn splitRows split fileOf unmarked partOf partsOf agree find gather joinPieces joinedFile joinFile
+unfolding bytes value number spell isLine leap monthLength isReal isDay gregorian eraOf eraOn inEra fromEra readDay writeDay table edge oneWidth decimal sized fault valueOf itemFault itemValue itemsFault itemsValue rowIn rowOf pairs t911 isMark recordFrom faultFrom faultWhere lineFault recordOf header inGroup mayFollow pairBroken misplaced closesRp lacking missing valueWrong newerGroup refusal unfinished none start hadAfter advance refusalOf stepOf finishOf factsOf stepLine closed onward recordsFrom readRows readFile joined write recordRows canonicalBytes validID readMark kindOf brokenFrom brokenLine bodyOf piecesIn splitRows split fileOf unmarked partOf partsOf agree find gather joinPieces joinedFile joinFile
 sound-hold =
     record {
       pieces = record { piece = _; is = refl } also record { piece = _; is = refl } also record { piece = _; is = refl } also tt;
@@ -92,7 +91,7 @@ other ps c w j d s =
     omega arith
 
 pub not-sound : All (λ (x : Claim). Sound twoDates (x .capacity) (x .list) → ⊥) notSound
-unfolding bytes value number spell isLine numberFrom leap monthLength isReal isDay gregorian eraOf eraOn inEra fromEra readDay writeDay table edge oneWidth decimal sized fault valueOf itemFault itemValue itemsFault itemsValue rowIn rowOf pairs t911 isMark recordFrom faultFrom faultWhere lineFault recordOf header inGroup mayFollow pairBroken misplaced closesRp lacking missing valueWrong newerGroup refusal unfinished none start hadAfter advance refusalOf stepOf finishOf factsOf stepLine closed onward recordsFrom readRows readFile joined write recordRows canonicalBytes validID readMark kindOf brokenFrom brokenLine bodyOf piecesIn splitRows split fileOf unmarked partOf partsOf agree find gather joinPieces joinedFile joinFile
+unfolding bytes value number spell isLine leap monthLength isReal isDay gregorian eraOf eraOn inEra fromEra readDay writeDay table edge oneWidth decimal sized fault valueOf itemFault itemValue itemsFault itemsValue rowIn rowOf pairs t911 isMark recordFrom faultFrom faultWhere lineFault recordOf header inGroup mayFollow pairBroken misplaced closesRp lacking missing valueWrong newerGroup refusal unfinished none start hadAfter advance refusalOf stepOf finishOf factsOf stepLine closed onward recordsFrom readRows readFile joined write recordRows canonicalBytes validID readMark kindOf brokenFrom brokenLine bodyOf piecesIn splitRows split fileOf unmarked partOf partsOf agree find gather joinPieces joinedFile joinFile
 not-sound =
     (λ s. omega (arith, s .fits .1 .1 .0 .fits))
     also (λ s. two-one (s .pieces .0 .is))

@@ -6,9 +6,8 @@ use mathlib.Core.Bool.{false, cond}
 use mathlib.Core.List.{List, [], _∷_, map}
 use lib.ListN.{length}
 use Rattle.lists.specs.Lists.{bytes, Res, ok, refused}
-use Rattle.digits.specs.Digits.{spell, digitCount}
+use Rattle.digits.specs.Digits.{value as digitsValue, spell, digitCount}
 use Rattle.characters.specs.Rows.{isLine}
-use Rattle.calendar.specs.Digits.{numberFrom}
 use Rattle.eras.specs.Day.{leap, monthLength, isReal, isDay}
 use Rattle.calendar.specs.Day.{gregorian}
 use Rattle.eras.specs.Era.{eraOf, eraOn, writeDay}
@@ -54,7 +53,7 @@ abbrev Read : ℕ → Type 0
 Read n = readFile (withNotes n) ≡ ok (book n)
 
 reads : Read 20 × Read 18 × Read 2
-unfolding notes book bytes spell isLine numberFrom leap monthLength isReal isDay gregorian eraOf eraOn inEra fromEra readDay writeDay table edge oneWidth decimal sized fault value itemFault itemValue itemsFault itemsValue rowIn rowOf pairs t911 recordFrom faultFrom faultWhere lineFault recordOf header inGroup mayFollow pairBroken misplaced closesRp lacking missing valueWrong newerGroup refusal unfinished none start hadAfter advance refusalOf stepOf finishOf factsOf stepLine closed onward recordsFrom readRows readFile
+unfolding notes book bytes spell isLine digitsValue leap monthLength isReal isDay gregorian eraOf eraOn inEra fromEra readDay writeDay table edge oneWidth decimal sized fault value itemFault itemValue itemsFault itemsValue rowIn rowOf pairs t911 recordFrom faultFrom faultWhere lineFault recordOf header inGroup mayFollow pairBroken misplaced closesRp lacking missing valueWrong newerGroup refusal unfinished none start hadAfter advance refusalOf stepOf finishOf factsOf stepLine closed onward recordsFrom readRows readFile
 reads = (refl, refl, refl)
 
 -- ---- cut
@@ -85,5 +84,5 @@ cuts = (cut 20 69 (reads .0), cut 18 60 (reads .1), cut 18 59 (reads .1), cut 2 
 -- ---- ALL CASES
 
 pub cases-hold : map (λ (c : Case). answer (c .asked)) cases ≡ map (λ (c : Case). c .said) cases
-unfolding bytes spell isLine numberFrom leap monthLength isReal isDay gregorian eraOf eraOn inEra fromEra readDay writeDay table edge oneWidth decimal sized fault value itemFault itemValue itemsFault itemsValue rowIn rowOf pairs t911 recordFrom faultFrom faultWhere lineFault recordOf header inGroup mayFollow pairBroken misplaced closesRp lacking missing valueWrong newerGroup refusal unfinished none start hadAfter advance refusalOf stepOf finishOf factsOf stepLine closed onward recordsFrom readRows readFile count checkOf joined write recordRows canonicalBytes canonicalOf decimalDigits decimalOf numbers line printed
+unfolding bytes spell isLine digitsValue leap monthLength isReal isDay gregorian eraOf eraOn inEra fromEra readDay writeDay table edge oneWidth decimal sized fault value itemFault itemValue itemsFault itemsValue rowIn rowOf pairs t911 recordFrom faultFrom faultWhere lineFault recordOf header inGroup mayFollow pairBroken misplaced closesRp lacking missing valueWrong newerGroup refusal unfinished none start hadAfter advance refusalOf stepOf finishOf factsOf stepLine closed onward recordsFrom readRows readFile count checkOf joined write recordRows canonicalBytes canonicalOf decimalDigits decimalOf numbers line printed
 cases-hold = rw (cuts .4, cuts .3, cuts .2, cuts .1, cuts .0) refl
