@@ -8,65 +8,52 @@ use mathlib.Core.List.{List, [], _∷_}
 use borrow.Author.Tests.{le-leb, lt-leb, leb-true, eqb-true, ne-eqb}
 use lib.Dec.{leb, eqb}
 use lib.ListN.{length, getD, drop}
-use Rattle.digits.specs.Digits.{isDigit}
+use Rattle.lists.specs.Lists.{all}
+use Rattle.lists.proofs.Tests.{both}
+use Rattle.digits.specs.Digits.{isDigit, value}
 use Rattle.digits.proofs.Numbers.{digit-is}
 use Rattle.eras.specs.declared.Era.{Era}
 use Rattle.calendar.specs.declared.Day.{Day}
-use Rattle.calendar.specs.declared.Number.{Number}
-use Rattle.calendar.specs.declared.Number.the-variants.{Is, NoNumber}
 use Rattle.calendar.specs.declared.DateRead.{DateRead}
 use Rattle.calendar.specs.declared.DateRead.the-variants.{Date, NotADate}
-use Rattle.calendar.specs.Digits.{numberFrom}
 use Rattle.eras.specs.Era.{sixDigits}
 use Rattle.eras.specs.Day.{isDay}
 use Rattle.calendar.specs.Day.{gregorian}
 use Rattle.eras.specs.Era.{era, noEra, eraOf, eraOn, writeDay}
-use Rattle.calendar.specs.Era.{inEra, fromEra, eraNumber, readDay}
+use Rattle.calendar.specs.Era.{inEra, fromEra, readDay}
 
 not-date : {d : Day} → _≡_ {A = DateRead} NotADate (Date d) → ⊥
 not-date e = let z : _≡_ {A = ℕ} 0 1 = cc in omega arith
 
 -- ---- the digits
 
-record Digit (n b : ℕ) (s : List ℕ) (k : ℕ) : Type 0 where
-  low : 48 ≤ b
-  high : b ≤ 57
-  next : numberFrom (n * 10 + (b - 48)) s ≡ Is k
-
-digit : (n b : ℕ) (s : List ℕ) (k : ℕ) → numberFrom n (b ∷ s) ≡ Is k → Digit n b s k
-unfolding numberFrom
-digit n b s k e = go (isDigit b) refl e
-  where
-    go : (x : Bool) → isDigit b ≡ x → cond x (numberFrom (n * 10 + (b - 48)) s) NoNumber ≡ Is k → Digit n b s k
-    go true q f = record { low = digit-is b q .0; high = digit-is b q .1; next = f }
-    go false q f = let z : _≡_ {A = ℕ} 0 1 = cc in absurd (omega arith)
-
 -- the last digit, b, of what stands at m in k
-split : (m n b k : ℕ) → 48 ≤ b → b ≤ 57 → k / m ≡ n * 10 + (b - 48) → (k / (m * 10) ≡ n) × (k / m % 10 + 48 ≡ b)
-split m n b k l h e = (sym (div-div-eq-div-mul k m 10) ∙ rw e (omega arith), rw e (omega arith))
+split : (m n b k : ℕ) → isDigit b ≡ true → k / m ≡ 10 * n + (b - 48) → (k / (m * 10) ≡ n) × (k / m % 10 + 48 ≡ b)
+split m n b k d e =
+    let l : (48 ≤ b) × (b ≤ 57) = digit-is b d in
+    (sym (div-div-eq-div-mul k m 10) ∙ rw e (omega arith), rw e (omega arith))
 
-six : (a b c d e f k : ℕ) → numberFrom 0 (a ∷ b ∷ c ∷ d ∷ e ∷ f ∷ []) ≡ Is k → sixDigits k ≡ a ∷ b ∷ c ∷ d ∷ e ∷ f ∷ []
-unfolding numberFrom
-six a b c d e f k h =
-    let p : Digit 0 a (b ∷ c ∷ d ∷ e ∷ f ∷ []) k = digit 0 a (b ∷ c ∷ d ∷ e ∷ f ∷ []) k h in
-    let n₁ : ℕ = 0 * 10 + (a - 48) in
-    let q : Digit n₁ b (c ∷ d ∷ e ∷ f ∷ []) k = digit n₁ b (c ∷ d ∷ e ∷ f ∷ []) k (p .next) in
-    let n₂ : ℕ = n₁ * 10 + (b - 48) in
-    let r : Digit n₂ c (d ∷ e ∷ f ∷ []) k = digit n₂ c (d ∷ e ∷ f ∷ []) k (q .next) in
-    let n₃ : ℕ = n₂ * 10 + (c - 48) in
-    let t : Digit n₃ d (e ∷ f ∷ []) k = digit n₃ d (e ∷ f ∷ []) k (r .next) in
-    let n₄ : ℕ = n₃ * 10 + (d - 48) in
-    let u : Digit n₄ e (f ∷ []) k = digit n₄ e (f ∷ []) k (t .next) in
-    let n₅ : ℕ = n₄ * 10 + (e - 48) in
-    let v : Digit n₅ f [] k = digit n₅ f [] k (u .next) in
-    let w : _≡_ {A = Number} (Is (n₅ * 10 + (f - 48))) (Is k) = v .next in
-    let m : n₅ * 10 + (f - 48) ≡ k = cc in
-    let s₁ = split 1 n₅ f k (v .low) (v .high) (div-one k ∙ sym m) in
-    let s₂ = split 10 n₄ e k (u .low) (u .high) (s₁ .0) in
-    let s₃ = split 100 n₃ d k (t .low) (t .high) (s₂ .0) in
-    let s₄ = split 1000 n₂ c k (r .low) (r .high) (s₃ .0) in
-    let s₅ = split 10000 n₁ b k (q .low) (q .high) (s₄ .0) in
-    rw (split 100000 0 a k (p .low) (p .high) (s₅ .0) .1, s₅ .1, s₄ .1, s₃ .1, s₂ .1, rw div-one at (s₁ .1))
+six : (a b c d e f : ℕ) → all isDigit (a ∷ b ∷ c ∷ d ∷ e ∷ f ∷ []) ≡ true → sixDigits (value 0 (a ∷ b ∷ c ∷ d ∷ e ∷ f ∷ [])) ≡ a ∷ b ∷ c ∷ d ∷ e ∷ f ∷ []
+unfolding value
+six a b c d e f h =
+    let p = both (isDigit a) _ h in
+    let q = both (isDigit b) _ (p .1) in
+    let r = both (isDigit c) _ (q .1) in
+    let t = both (isDigit d) _ (r .1) in
+    let u = both (isDigit e) _ (t .1) in
+    let v = both (isDigit f) true (u .1) in
+    let n₁ : ℕ = 10 * 0 + (a - 48) in
+    let n₂ : ℕ = 10 * n₁ + (b - 48) in
+    let n₃ : ℕ = 10 * n₂ + (c - 48) in
+    let n₄ : ℕ = 10 * n₃ + (d - 48) in
+    let n₅ : ℕ = 10 * n₄ + (e - 48) in
+    let k : ℕ = 10 * n₅ + (f - 48) in
+    let s₁ = split 1 n₅ f k (v .0) (div-one k) in
+    let s₂ = split 10 n₄ e k (u .0) (s₁ .0) in
+    let s₃ = split 100 n₃ d k (t .0) (s₂ .0) in
+    let s₄ = split 1000 n₂ c k (r .0) (s₃ .0) in
+    let s₅ = split 10000 n₁ b k (q .0) (s₄ .0) in
+    rw (split 100000 0 a k (p .0) (s₅ .0) .1, s₅ .1, s₄ .1, s₃ .1, s₂ .1, rw div-one at (s₁ .1))
 
 -- ---- the era
 
@@ -124,37 +111,35 @@ from-era c k n h = go (leb k 999999) h
     go true f = named c k n f
     go false f = absurd (not-date f)
 
-era-own : (a : ℕ) (l : List ℕ) (n : ℕ) → length l ≡ 6 → eraNumber a (numberFrom 0 l) ≡ Date (record { ymd = n }) → writeDay n ≡ a ∷ l
+era-own : (a : ℕ) (l : List ℕ) (n : ℕ) → length l ≡ 6 → all isDigit l ≡ true → fromEra a (value 0 l) ≡ Date (record { ymd = n }) → writeDay n ≡ a ∷ l
 unfolding writeDay
-era-own a l n z h = go (numberFrom 0 l) refl h
+era-own a l n z h e =
+    let w : Named a (value 0 l) n = from-era a (value 0 l) n e in
+    let b : (eraOn n) .letter ≡ a = w .letter in
+    let c : sixDigits (n - (eraOn n) .before) ≡ l = ap sixDigits (w .number) ∙ digits l z h in
+    cc
   where
-    digits : (l : List ℕ) (k : ℕ) → length l ≡ 6 → numberFrom 0 l ≡ Is k → sixDigits k ≡ l
-    digits [] k z e = absurd (omega arith)
-    digits (a ∷ []) k z e = absurd (omega arith)
-    digits (a ∷ b ∷ []) k z e = absurd (omega arith)
-    digits (a ∷ b ∷ c ∷ []) k z e = absurd (omega arith)
-    digits (a ∷ b ∷ c ∷ d ∷ []) k z e = absurd (omega arith)
-    digits (a ∷ b ∷ c ∷ d ∷ f ∷ []) k z e = absurd (omega arith)
-    digits (a ∷ b ∷ c ∷ d ∷ f ∷ g ∷ []) k z e = six a b c d f g k e
-    digits (a ∷ b ∷ c ∷ d ∷ f ∷ g ∷ h ∷ l) k z e = absurd (omega arith)
-
-    go : (x : Number) → numberFrom 0 l ≡ x → eraNumber a x ≡ Date (record { ymd = n }) → writeDay n ≡ a ∷ l
-    go NoNumber e f = absurd (not-date f)
-    go (Is k) e f =
-        let w : Named a k n = from-era a k n f in
-        let b : (eraOn n) .letter ≡ a = w .letter in
-        let c : sixDigits (n - (eraOn n) .before) ≡ l = ap sixDigits (w .number) ∙ digits l k z e in
-        cc
+    digits : (l : List ℕ) → length l ≡ 6 → all isDigit l ≡ true → sixDigits (value 0 l) ≡ l
+    digits [] z h = absurd (omega arith)
+    digits (a ∷ []) z h = absurd (omega arith)
+    digits (a ∷ b ∷ []) z h = absurd (omega arith)
+    digits (a ∷ b ∷ c ∷ []) z h = absurd (omega arith)
+    digits (a ∷ b ∷ c ∷ d ∷ []) z h = absurd (omega arith)
+    digits (a ∷ b ∷ c ∷ d ∷ f ∷ []) z h = absurd (omega arith)
+    digits (a ∷ b ∷ c ∷ d ∷ f ∷ g ∷ []) z h = six a b c d f g h
+    digits (a ∷ b ∷ c ∷ d ∷ f ∷ g ∷ x ∷ l) z h = absurd (omega arith)
 
 -- a date that is not eight bytes long is what is written for its day
 pub own-day : (s : List ℕ) (n : ℕ) → (length s ≡ 8 → ⊥) → readDay s ≡ Date (record { ymd = n }) → writeDay n ≡ s
 unfolding readDay
-own-day s n h e = go (eqb (length s) 7) refl (rw (ne-eqb (length s) 8 h) at e)
+own-day s n h e = go (eqb (length s) 7) refl (all isDigit (drop 1 s)) refl (rw (ne-eqb (length s) 8 h) at e)
   where
-    by : (s : List ℕ) → length s ≡ 7 → eraNumber (getD s 0 0) (numberFrom 0 (drop 1 s)) ≡ Date (record { ymd = n }) → writeDay n ≡ s
-    by [] z f = absurd (omega arith)
-    by (a ∷ l) z f = era-own a l n (omega arith) f
+    by : (s : List ℕ) → length s ≡ 7 → all isDigit (drop 1 s) ≡ true → fromEra (getD s 0 0) (value 0 (drop 1 s)) ≡ Date (record { ymd = n }) → writeDay n ≡ s
+    by [] z d f = absurd (omega arith)
+    by (a ∷ l) z d f = era-own a l n (omega arith) d f
 
-    go : (x : Bool) → eqb (length s) 7 ≡ x → cond x (eraNumber (getD s 0 0) (numberFrom 0 (drop 1 s))) NotADate ≡ Date (record { ymd = n }) → writeDay n ≡ s
-    go true q f = by s (eqb-true (length s) 7 q) f
-    go false q f = absurd (not-date f)
+    go : (x : Bool) → eqb (length s) 7 ≡ x → (y : Bool) → all isDigit (drop 1 s) ≡ y
+        → cond (x && y) (fromEra (getD s 0 0) (value 0 (drop 1 s))) NotADate ≡ Date (record { ymd = n }) → writeDay n ≡ s
+    go true q true d f = by s (eqb-true (length s) 7 q) d f
+    go true q false d f = absurd (not-date f)
+    go false q y d f = absurd (not-date f)

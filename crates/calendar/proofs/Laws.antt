@@ -3,44 +3,50 @@ use Prim.Native.Nat.{ℕ, _+_, _-_, _*_, _/_, _%_, _<_, _≤_, suc}
 use mathlib.Core.Path.{_≡_, refl, ap, _∙_, sym, subst}
 use mathlib.Core.Bool.{Bool, true, false, cond, _&&_}
 use mathlib.Core.List.{List, [], _∷_}
-use native.Mathlib.Nat.{div-div-eq-div-mul, div-add-mod'}
+use native.Mathlib.Nat.{div-div-eq-div-mul}
 use native.Mathlib.Omega.{arith}
 use borrow.Author.Tests.{le-leb, lt-leb, leb-true, leb-false, eqb-true}
 use lib.Dec.{T, leb, leb→le, eqb}
 use lib.ListN.{length, getD, drop}
-use Rattle.lists.proofs.Tests.{cond-case}
+use Rattle.lists.specs.Lists.{all}
+use Rattle.lists.proofs.Tests.{cond-case, both}
+use Rattle.digits.specs.Digits.{isDigit, value}
 use Rattle.eras.specs.declared.Era.{Era}
 use Rattle.calendar.specs.declared.Day.{Day}
-use Rattle.calendar.specs.declared.Number.{Number}
-use Rattle.calendar.specs.declared.Number.the-variants.{Is, NoNumber}
 use Rattle.calendar.specs.declared.DateRead.{DateRead}
 use Rattle.calendar.specs.declared.DateRead.the-variants.{Date, NotADate}
-use Rattle.calendar.specs.Digits.{numberFrom}
 use Rattle.eras.specs.Era.{sixDigits}
 use Rattle.eras.specs.Day.{firstDay, lastDay, isDay}
 use Rattle.calendar.specs.Day.{gregorian}
 use Rattle.eras.specs.Era.{eraOf, eraOn, writeDay}
-use Rattle.calendar.specs.Era.{inEra, fromEra, readDay, gregorianNumber, eraNumber}
+use Rattle.calendar.specs.Era.{inEra, fromEra, readDay}
 use Rattle.eras.proofs.Eras.{Good, good-day, before-le, Named, day-named, and-l, and-r}
 
-digit-step : (n x : ℕ) (s : List ℕ) → numberFrom n ((x % 10 + 48) ∷ s) ≡ numberFrom (n * 10 + x % 10) s
-unfolding numberFrom
+digit-step : (n x : ℕ) (s : List ℕ) → value n ((x % 10 + 48) ∷ s) ≡ value (10 * n + x % 10) s
+unfolding value
 digit-step n x s =
     let e : x % 10 + 48 - 48 ≡ x % 10 = omega arith in
-    rw (le-leb 48 (x % 10 + 48) (omega arith), le-leb (x % 10 + 48) 57 (omega arith), e)
+    rw e
 
-number-end : (n : ℕ) → numberFrom n [] ≡ Is n
-unfolding numberFrom
-number-end n = refl
+value-end : (n : ℕ) → value n [] ≡ n
+unfolding value
+value-end n = refl
 
-next-digit : (k p : ℕ) → k / (p * 10) * 10 + k / p % 10 ≡ k / p
-next-digit k p = rw (← (div-div-eq-div-mul k p 10)) (div-add-mod' (k / p) 10)
+next-digit : (k p : ℕ) → 10 * (k / (p * 10)) + k / p % 10 ≡ k / p
+next-digit k p = rw (← (div-div-eq-div-mul k p 10)) (omega arith)
 
 -- six digits are read to the number that they are the digits of
-six-read : (k : ℕ) → k ≤ 999999 → numberFrom 0 (sixDigits k) ≡ Is k
-six-read k h =
-    let e : 0 * 10 + k / 100000 % 10 ≡ k / 100000 = omega arith in
-    simp (digit-step, e, next-digit k 10000, next-digit k 1000, next-digit k 100, next-digit k 10, div-add-mod' k 10, number-end)
+six-value : (k : ℕ) → k ≤ 999999 → value 0 (sixDigits k) ≡ k
+six-value k h =
+    let e : 10 * 0 + k / 100000 % 10 ≡ k / 100000 = omega arith in
+    let z : 10 * (k / 10) + k % 10 ≡ k = omega arith in
+    simp (digit-step, e, next-digit k 10000, next-digit k 1000, next-digit k 100, next-digit k 10, z, value-end)
+
+is-digit : (x : ℕ) → isDigit (x % 10 + 48) ≡ true
+is-digit x = simp (le-leb 48 (x % 10 + 48) (omega arith), le-leb (x % 10 + 48) 57 (omega arith))
+
+six-digits : (k : ℕ) → all isDigit (sixDigits k) ≡ true
+six-digits k = simp (is-digit (k / 100000), is-digit (k / 10000), is-digit (k / 1000), is-digit (k / 100), is-digit (k / 10), is-digit k)
 
 -- what holds where a number is a day
 pub record InRange (n : ℕ) : Type 0 where
@@ -64,7 +70,7 @@ read-write n d =
     let w = day-named n (r .low) (r .high) in
     let k : n - e .before ≤ 999999 = omega arith in
     let s : e .before + (n - e .before) ≡ n = omega (arith, before-le n) in
-    simp (six-read _ k, le-leb _ _ k, w .letter, s, le-leb _ _ (w .low), le-leb _ _ (w .high), d)
+    simp (six-value _ k, six-digits (n - e .before), le-leb _ _ k, w .letter, s, le-leb _ _ (w .low), le-leb _ _ (w .high), d)
 
 date-injective : (m n : ℕ) → Date (record { ymd = m }) ≡ Date (record { ymd = n }) → m ≡ n
 date-injective m n e = let d : _≡_ {A = Day} (record { ymd = m }) (record { ymd = n }) = cc in ap (λ (x : Day). x .ymd) d
@@ -90,20 +96,13 @@ era-found : (s : List ℕ) (c k : ℕ) → 7 ≤ length s → Found s (fromEra c
 unfolding fromEra
 era-found s c k h = cond-case (Found s) (leb k 999999) _ NotADate (λ _. in-era-found s _ _ h) (λ _. tt)
 
-gregorian-number-found : (s : List ℕ) (x : Number) → 7 ≤ length s → Found s (gregorianNumber x)
-gregorian-number-found s (Is n) h = gregorian-found s n h
-gregorian-number-found s NoNumber h = tt
-
-era-number-found : (s : List ℕ) (c : ℕ) (x : Number) → 7 ≤ length s → Found s (eraNumber c x)
-era-number-found s c (Is n) h = era-found s c n h
-era-number-found s c NoNumber h = tt
-
 found : (s : List ℕ) → Found s (readDay s)
 unfolding readDay
 found s =
-    cond-case (Found s) (eqb (length s) 8) _ _
-    (λ h. gregorian-number-found s (numberFrom 0 s) (omega (arith, eqb-true (length s) 8 h)))
-    (λ _. cond-case (Found s) (eqb (length s) 7) _ NotADate (λ h. era-number-found s (getD s 0 0) (numberFrom 0 (drop 1 s)) (omega (arith, eqb-true (length s) 7 h))) (λ _. tt))
+    cond-case (Found s) (eqb (length s) 8 && all isDigit s) _ _
+    (λ h. gregorian-found s (value 0 s) (omega (arith, eqb-true (length s) 8 (both _ _ h .0))))
+    (λ _. cond-case (Found s) (eqb (length s) 7 && all isDigit (drop 1 s)) _ NotADate
+    (λ h. era-found s (getD s 0 0) (value 0 (drop 1 s)) (omega (arith, eqb-true (length s) 7 (both _ _ h .0)))) (λ _. tt))
 
 -- what is read is a day
 pub read-is-day : (s : List ℕ) (n : ℕ) → readDay s ≡ Date (record { ymd = n }) → isDay n ≡ true

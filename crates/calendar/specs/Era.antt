@@ -4,13 +4,12 @@ use mathlib.Core.List.{List}
 use mathlib.Core.Bool.{cond, _&&_}
 use lib.Dec.{eqb, leb}
 use lib.ListN.{length, getD, drop}
+use Rattle.lists.specs.Lists.{all}
+use Rattle.digits.specs.Digits.{isDigit, value}
 use Rattle.eras.specs.declared.Era.{Era}
-use Rattle.calendar.specs.declared.Number.{Number}
-use Rattle.calendar.specs.declared.Number.the-variants.{Is, NoNumber}
 use Rattle.calendar.specs.declared.DateRead.{DateRead}
 use Rattle.calendar.specs.declared.DateRead.the-variants.{Date, NotADate}
 use Rattle.eras.specs.Era.{eraOf}
-use Rattle.calendar.specs.Digits.{numberFrom}
 use Rattle.calendar.specs.Day.{gregorian}
 
 -- the day n, if it is read under the era's letter
@@ -21,17 +20,9 @@ inEra e n = cond (leb (e .first) n && leb n (e .last)) (gregorian n) NotADate
 unfoldable pub fromEra : ℕ → ℕ → DateRead
 fromEra c k = cond (leb k 999999) (inEra (eraOf c) ((eraOf c) .before + k)) NotADate
 
-abbrev pub gregorianNumber : Number → DateRead
-gregorianNumber (Is n) = gregorian n
-gregorianNumber NoNumber = NotADate
-
-abbrev pub eraNumber : ℕ → Number → DateRead
-eraNumber c (Is n) = fromEra c n
-eraNumber c NoNumber = NotADate
-
 -- "YYYYMMDD, or era letter and YYMMDD". 15-106 3.2.9, dates of records 1, 3, 4, 5, 601 and 701: eight places YYYYMMDD, or seven GYYMMDD with the
 -- letter G of appended table 1.
 unfoldable pub readDay : List ℕ → DateRead
 readDay s =
-    cond (eqb (length s) 8) (gregorianNumber (numberFrom 0 s))
-    (cond (eqb (length s) 7) (eraNumber (getD s 0 0) (numberFrom 0 (drop 1 s))) NotADate)
+    cond (eqb (length s) 8 && all isDigit s) (gregorian (value 0 s))
+    (cond (eqb (length s) 7 && all isDigit (drop 1 s)) (fromEra (getD s 0 0) (value 0 (drop 1 s))) NotADate)

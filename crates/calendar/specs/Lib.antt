@@ -1,3 +1,3 @@
-pub mod Digits
 pub mod Day
 pub mod Era
+pub mod Digits

@@ -82,7 +82,7 @@ fn digits_value(s: &[u8]) -> Number
         if 57 < b {
             return Number::NoNumber;
         }
-        n = n * 10 + (b - 48) as u32;
+        n = 10 * n + (b - 48) as u32;
         i += 1;
     }
     Number::Is(n)

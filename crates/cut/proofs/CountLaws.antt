@@ -15,20 +15,22 @@ use Rattle.lists.proofs.Cuts.{drop-step}
 use Rattle.characters.specs.Rows.{rows}
 use Rattle.characters.proofs.RowLaws.{First, first-row}
 use Rattle.packing.specs.Packing.{total, pack}
-use Rattle.packing.specs.Widths.{Plan, digitsOf, over, serves, orNext, tries}
+use Rattle.digits.specs.Digits.{digitCount}
+use Rattle.digits.proofs.Numbers.{count-most, count-up}
+use Rattle.packing.specs.Widths.{Plan, over, serves, orNext, tries}
 use Rattle.packing.proofs.Packing.{Holds, pack-last, pack-stuck, pack-run, pack-more}
-use Rattle.packing.proofs.Widths.{digits-most, digits-up, over-up, serves-digits}
+use Rattle.packing.proofs.Widths.{over-up, serves-digits}
 use Rattle.cut.specs.declared.Chosen.the-variants.{Count, NoWidth}
 use Rattle.cut.specs.Loops.{OverOf, firstLength, RunAt, runsAt, pastLast, ends, overheads, chosenBy, chosenFrom, chosen, Small}
 use Rattle.cut.proofs.RowLaws.{rows-done, part-length, rows-total}
 
 -- ---- the small functions
 
-pub over-is : (w k : ℕ) {x : ℕ} → w ≤ 3 → x ≡ digitsOf k → OverOf w k (35 + w + x)
+pub over-is : (w k : ℕ) {x : ℕ} → w ≤ 3 → x ≡ digitCount k → OverOf w k (35 + w + x)
 unfolding over
-over-is w k h p = record { is = omega (arith, p); most = omega (arith, p, digits-most k) }
+over-is w k h p = record { is = omega (arith, p); most = omega (arith, p, count-most k) }
 
-pub serves-is : (w n : ℕ) {x : ℕ} → x ≡ digitsOf n → (eqb x w && leb 2 n) ≡ serves w n
+pub serves-is : (w n : ℕ) {x : ℕ} → x ≡ digitCount n → (eqb x w && leb 2 n) ≡ serves w n
 unfolding serves
 serves-is w n p = rw p
 
@@ -101,7 +103,7 @@ ends-from s c w k i n e = go (runsAt s c w k i) (pack-more length (over w) c k (
     go (some xs) h e = let q : k + length xs ≡ n = cc in omega arith
 
 -- a count of more digits does not serve
-never : (w n : ℕ) → w < digitsOf n → serves w n ≡ false
+never : (w n : ℕ) → w < digitCount n → serves w n ≡ false
 never w n h = go (serves w n) refl
   where
     go : (b : Bool) → serves w n ≡ b → serves w n ≡ false
@@ -221,7 +223,7 @@ module _ (s : List ℕ) (c w₀ w t k u i : ℕ) (v : Packing s c w₀ w t k u i
         onward = sym (ends-next s c w k i e run h g) ∙ v .same
 
         -- a piece more than the width can count: no count serves
-        pub try-many : {d : ℕ} → d ≡ digitsOf (k + 1) → w < d → Trying s c (w + 1)
+        pub try-many : {d : ℕ} → d ≡ digitCount (k + 1) → w < d → Trying s c (w + 1)
         try-many {d} y l = go (ends s c w 1 13) refl
           where
             go : (m : Option ℕ) → ends s c w 1 13 ≡ m → Trying s c (w + 1)
@@ -229,7 +231,7 @@ module _ (s : List ℕ) (c w₀ w t k u i : ℕ) (v : Packing s c w₀ w t k u i
             go (some n) q =
                 let a : k + 1 < n = ends-from s c w (k + 1) e n (onward ∙ q) in
                 let b : n ≡ n - 1 + 1 = omega arith in
-                again (from-other s c w (v .wide) (n - 1) (q ∙ ap some b) (never w (n - 1) (omega (arith, y, digits-up (k + 1) (n - 1) (omega arith)))))
+                again (from-other s c w (v .wide) (n - 1) (q ∙ ap some b) (never w (n - 1) (omega (arith, y, count-up (k + 1) (n - 1) (omega arith)))))
 
         pub piece-opens : {o : ℕ} → OverOf w (k + 1) o → Packing s c w₀ w (t + o) (k + 1) o e
         unfolding overheads

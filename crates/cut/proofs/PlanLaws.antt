@@ -10,8 +10,10 @@ use lib.ListN.{length, drop, length-append, length-drop}
 use Rattle.lists.specs.Lists.{part}
 use Rattle.characters.specs.Rows.{rows, flat}
 use Rattle.packing.specs.Packing.{total, concat, pack}
-use Rattle.packing.specs.Widths.{Plan, whole, split, fails, digitsOf, over, serves, tries, plan}
-use Rattle.packing.proofs.Widths.{Divides, Planned, plan-good, plan-whole, digits-le, over-counts, over-most, serves-digits}
+use Rattle.digits.specs.Digits.{digitCount}
+use Rattle.digits.proofs.Numbers.{to-999}
+use Rattle.packing.specs.Widths.{Plan, whole, split, fails, over, serves, tries, plan}
+use Rattle.packing.proofs.Widths.{Divides, Planned, plan-good, plan-whole, over-counts, over-most, serves-digits}
 use Rattle.division.specs.Marks.{markRow}
 use Rattle.cut.specs.declared.Chosen.the-variants.{Count, NoWidth}
 use Rattle.cut.specs.Loops.{runsAt, pastLast, ends, overheads, chosenBy, chosenFrom, chosen, numberedAs, piecesAs, poured}
@@ -28,7 +30,7 @@ total-append (x ∷ xs) ys = omega (arith, total-append xs ys)
 pub file-total : (s : List ℕ) → 13 ≤ length s → 13 + total length (rows (drop 13 s)) ≡ length s
 file-total s h = omega (arith, rows-total (drop 13 s), length-drop 13 s)
 
-module _ (w : ℕ) (head id : List ℕ) (n : ℕ) (hd : length head ≡ 13) (hi : length id ≡ 14) (hn : n < 1000) (hw : digitsOf n ≡ w) where
+module _ (w : ℕ) (head id : List ℕ) (n : ℕ) (hd : length head ≡ 13) (hi : length id ≡ 14) (hn : n < 1000) (hw : digitCount n ≡ w) where
   mark-over : (k : ℕ) → k < 1000 → 13 + length (markRow id n k) ≡ over w k
   mark-over k h =
       omega (arith, hi, mark-length id n k, over-counts n k (omega arith) (omega arith), ap (λ (v : ℕ). over v k) hw)
@@ -61,24 +63,24 @@ overheads-most w (suc n) h = omega (arith, overheads-most w n h, over-most w (su
 
 -- the runs of a plan are the packing for the width of their count
 tried : (c : ℕ) (rs : List (List ℕ)) (xs : List (List (List ℕ))) (f w : ℕ) → tries length c f w rs ≡ split xs
-    → pack length (over (digitsOf (length xs))) c 1 (over (digitsOf (length xs)) 1) rs ≡ some xs
+    → pack length (over (digitCount (length xs))) c 1 (over (digitCount (length xs)) 1) rs ≡ some xs
 unfolding tries
 tried c rs xs zero w e = let z : _≡_ {A = ℕ} 0 1 = cc in absurd (omega arith)
 tried c rs xs (suc f) w e = go (pack length (over w) c 1 (over w 1) rs) refl (tried c rs xs f (suc w))
   where
     at : (ys : List (List (List ℕ))) → pack length (over w) c 1 (over w 1) rs ≡ some ys → (b : Bool) → serves w (length ys) ≡ b
-        → (tries length c f (suc w) rs ≡ split xs → pack length (over (digitsOf (length xs))) c 1 (over (digitsOf (length xs)) 1) rs ≡ some xs)
-        → pack length (over (digitsOf (length xs))) c 1 (over (digitsOf (length xs)) 1) rs ≡ some xs
+        → (tries length c f (suc w) rs ≡ split xs → pack length (over (digitCount (length xs))) c 1 (over (digitCount (length xs)) 1) rs ≡ some xs)
+        → pack length (over (digitCount (length xs))) c 1 (over (digitCount (length xs)) 1) rs ≡ some xs
     at ys p true q ih =
         let r : split ys ≡ split xs = rw (tries, p, q) at e in
         let z : ys ≡ xs = cc in
-        let d : digitsOf (length xs) ≡ w = rw z at (serves-digits w (length ys) q .0) in
+        let d : digitCount (length xs) ≡ w = rw z at (serves-digits w (length ys) q .0) in
         rw d (rw z at p)
     at ys p false q ih = ih (rw (tries, p, q) at e)
 
     go : (m : Option (List (List (List ℕ)))) → pack length (over w) c 1 (over w 1) rs ≡ m
-        → (tries length c f (suc w) rs ≡ split xs → pack length (over (digitsOf (length xs))) c 1 (over (digitsOf (length xs)) 1) rs ≡ some xs)
-        → pack length (over (digitsOf (length xs))) c 1 (over (digitsOf (length xs)) 1) rs ≡ some xs
+        → (tries length c f (suc w) rs ≡ split xs → pack length (over (digitCount (length xs))) c 1 (over (digitCount (length xs)) 1) rs ≡ some xs)
+        → pack length (over (digitCount (length xs))) c 1 (over (digitCount (length xs)) 1) rs ≡ some xs
     go none p ih = ih (rw (tries, p) at e)
     go (some ys) p ih = at ys p (serves w (length ys)) refl ih
 
@@ -89,7 +91,7 @@ pub record Found (s : List ℕ) (c w n t : ℕ) : Type 0 where
   pub packs : runsAt s c w 1 13 ≡ some runs
   pub divides : Divides length c (rows (drop 13 s)) runs
   pub count : length runs ≡ n
-  pub width : digitsOf n ≡ w
+  pub width : digitCount n ≡ w
   pub sum : t ≡ overheads w n
 
 module _ (s : List ℕ) (c : ℕ) (h : 13 ≤ length s) where
@@ -122,9 +124,9 @@ module _ (s : List ℕ) (c : ℕ) (h : 13 ≤ length s) where
             → Found s c w n t
         go whole q f z = let y : _≡_ {A = ℕ} 0 1 = cc in absurd (omega arith)
         go (split xs) q f z =
-            let a : digitsOf (length xs) ≡ w = cc in
+            let a : digitCount (length xs) ≡ w = cc in
             let b : length xs ≡ n = cc in
-            let d : overheads (digitsOf (length xs)) (length xs) ≡ t = cc in
+            let d : overheads (digitCount (length xs)) (length xs) ≡ t = cc in
             record {
               runs = xs;
               is = q;
@@ -143,7 +145,7 @@ module _ {s : List ℕ} {c w n t : ℕ} (f : Found s c w n t) where
   found-few = omega (arith, f .divides .most, f .count)
 
   pub found-wide : w ≤ 3
-  found-wide = omega (arith, f .width, digits-le n (omega (arith, found-few)))
+  found-wide = omega (arith, f .width, to-999 n (omega (arith, found-few)))
 
   pub found-ends : ends s c w 1 13 ≡ some (n + 1)
   unfolding ends

@@ -7,10 +7,10 @@ use mathlib.Core.Option.{Option, none, some}
 use mathlib.Core.List.{List, [], _∷_, _++_}
 use lib.ListN.{length, drop}
 use Rattle.lists.specs.Lists.{part, Res, mapRes}
-use Rattle.digits.specs.Digits.{spell}
+use Rattle.digits.specs.Digits.{spell, digitCount}
 use Rattle.characters.specs.Rows.{rows, flat}
 use Rattle.packing.specs.Packing.{pack}
-use Rattle.packing.specs.Widths.{Plan, whole, split, fails, digitsOf, over, tries, plan}
+use Rattle.packing.specs.Widths.{Plan, whole, split, fails, over, tries, plan}
 use Rattle.division.specs.Marks.{markRow}
 use Rattle.division.specs.Cut.{listed, writesPieces}
 use Rattle.replies.specs.Results.{Result}
@@ -57,7 +57,7 @@ overheads w (suc k) = overheads w k + over w (suc k)
 -- the width, the count, and what the pieces hold besides their records
 abbrev pub chosenBy : Plan (List ℕ) → Chosen
 chosenBy whole = NoWidth
-chosenBy (split xs) = Count (digitsOf (length xs)) (length xs) (overheads (digitsOf (length xs)) (length xs))
+chosenBy (split xs) = Count (digitCount (length xs)) (length xs) (overheads (digitCount (length xs)) (length xs))
 chosenBy fails = NoWidth
 
 -- the widths from w on

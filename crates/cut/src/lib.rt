@@ -7,7 +7,8 @@ ghost use mathlib.Core.Path.{_≡_};
 ghost use Prim.Native.Nat.{_≤_};
 ghost use lib.ListN.{length};
 ghost use Rattle.buffers.specs.Buffers.{Wrote};
-ghost use Rattle.packing.specs.Widths.{digitsOf, serves};
+ghost use Rattle.digits.specs.Digits.{digitCount};
+ghost use Rattle.packing.specs.Widths.{serves};
 ghost use Rattle.canonical.specs.Writing.{Holds};
 ghost use Rattle.division.specs.Marks.{markRow};
 ghost use Rattle.division.specs.Cut.{cutResult};
@@ -23,7 +24,7 @@ pub enum Chosen {
 
 // The digits of a number below 1,000; 4 for any above.
 fn digits_of(n: u32) -> usize
-    ensures { λ r. ⌜ r ≡ digitsOf n ⌝ }
+    ensures { λ r. ⌜ r ≡ digitCount n ⌝ }
 {
     if n <= 9 {
         return 1;

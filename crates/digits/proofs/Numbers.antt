@@ -45,25 +45,57 @@ module _ (n : ℕ) (h : n ≤ 999) where
 pub digit-is : (b : ℕ) → isDigit b ≡ true → (48 ≤ b) × (b ≤ 57)
 digit-is b e = let p : (leb 48 b ≡ true) × (leb b 57 ≡ true) = both (leb 48 b) (leb b 57) e in (leb-true 48 b (p .0), leb-true b 57 (p .1))
 
--- at least one digit, and no more than three
-pub some-digit : (n : ℕ) → 1 ≤ digitCount n
-unfolding digitCount
-some-digit n =
-    cond-case (λ (x : ℕ). 1 ≤ x) (leb n 9) 1 (cond (leb n 99) 2 3) (λ _. omega arith) (λ _. cond-case (λ (x : ℕ). 1 ≤ x) (leb n 99) 2 3 (λ _. omega arith) (λ _. omega arith))
+-- ---- how many digits
 
-count-1 : (n : ℕ) → n ≤ 9 → digitCount n ≡ 1
+pub count-1 : (n : ℕ) → n ≤ 9 → digitCount n ≡ 1
 unfolding digitCount
 count-1 n h = simp (le-leb n 9 h)
 
-count-2 : (n : ℕ) → n ≤ 99 → digitCount n ≤ 2
+pub count-2 : (n : ℕ) → 9 < n → n ≤ 99 → digitCount n ≡ 2
 unfolding digitCount
-count-2 n h =
-    cond-case (λ (x : ℕ). x ≤ 2) (leb n 9) 1 (cond (leb n 99) 2 3) (λ _. omega arith) (λ _. rw (le-leb n 99 h) (omega arith))
+count-2 n g h = simp (lt-leb n 9 g, le-leb n 99 h)
 
-count-3 : (n : ℕ) → digitCount n ≤ 3
+pub count-3 : (n : ℕ) → 99 < n → n ≤ 999 → digitCount n ≡ 3
 unfolding digitCount
-count-3 n =
-    cond-case (λ (x : ℕ). x ≤ 3) (leb n 9) 1 (cond (leb n 99) 2 3) (λ _. omega arith) (λ _. cond-case (λ (x : ℕ). x ≤ 3) (leb n 99) 2 3 (λ _. omega arith) (λ _. omega arith))
+count-3 n g h = simp (lt-leb n 9 (omega arith), lt-leb n 99 g, le-leb n 999 h)
+
+pub count-4 : (n : ℕ) → 999 < n → digitCount n ≡ 4
+unfolding digitCount
+count-4 n g = simp (lt-leb n 9 (omega arith), lt-leb n 99 (omega arith), lt-leb n 999 g)
+
+-- what holds of the digits of a number, by the bound that it is under
+by-count : (P : ℕ → Type 0) (n : ℕ) → (n ≤ 9 → P 1) → (n ≤ 99 → P 2) → (n ≤ 999 → P 3) → P 4 → P (digitCount n)
+unfolding digitCount
+by-count P n a b c d =
+    cond-case P (leb n 9) 1 _ (λ e. a (leb-true n 9 e)) (λ _.
+    cond-case P (leb n 99) 2 _ (λ e. b (leb-true n 99 e)) (λ _.
+    cond-case P (leb n 999) 3 4 (λ e. c (leb-true n 999 e)) (λ _. d)))
+
+pub some-digit : (n : ℕ) → 1 ≤ digitCount n
+some-digit n = by-count (λ (x : ℕ). 1 ≤ x) n (λ _. omega arith) (λ _. omega arith) (λ _. omega arith) (omega arith)
+
+pub count-most : (n : ℕ) → digitCount n ≤ 4
+count-most n = by-count (λ (x : ℕ). x ≤ 4) n (λ _. omega arith) (λ _. omega arith) (λ _. omega arith) (omega arith)
+
+to-99 : (n : ℕ) → n ≤ 99 → digitCount n ≤ 2
+to-99 n h = go (leb n 9) refl
+  where
+    go : (b : Bool) → leb n 9 ≡ b → digitCount n ≤ 2
+    go true e = omega (arith, count-1 n (leb-true n 9 e))
+    go false e = omega (arith, count-2 n (leb-false n 9 e) h)
+
+pub to-999 : (n : ℕ) → n ≤ 999 → digitCount n ≤ 3
+to-999 n h = go (leb n 99) refl
+  where
+    go : (b : Bool) → leb n 99 ≡ b → digitCount n ≤ 3
+    go true e = omega (arith, to-99 n (leb-true n 99 e))
+    go false e = omega (arith, count-3 n (leb-false n 99 e) h)
+
+-- a larger number has no fewer digits
+pub count-up : (m n : ℕ) → m ≤ n → digitCount m ≤ digitCount n
+count-up m n h =
+    by-count (λ (x : ℕ). digitCount m ≤ x) n (λ e. omega (arith, count-1 m (omega arith))) (λ e. to-99 m (omega arith)) (λ e. to-999 m (omega arith))
+    (count-most m)
 
 -- a number that is read has at least the digits of its value
 digits-value : (s : List ℕ) → length s ≤ 3 → 1 ≤ length s → all isDigit s ≡ true → (digitCount (value 0 s) ≤ length s) × (value 0 s ≤ 999)
@@ -76,14 +108,14 @@ digits-value (a ∷ b ∷ []) h g e =
     let q : (isDigit a ≡ true) × (isDigit b && true ≡ true) = both (isDigit a) (isDigit b && true) e in
     let p : (48 ≤ a) × (a ≤ 57) = digit-is a (q .0) in
     let r : (48 ≤ b) × (b ≤ 57) = digit-is b (both (isDigit b) true (q .1) .0) in
-    (count-2 (value 0 (a ∷ b ∷ [])) (omega arith), omega arith)
+    (to-99 (value 0 (a ∷ b ∷ [])) (omega arith), omega arith)
 digits-value (a ∷ b ∷ c ∷ []) h g e =
     let q : (isDigit a ≡ true) × (isDigit b && (isDigit c && true) ≡ true) = both (isDigit a) (isDigit b && (isDigit c && true)) e in
     let q′ : (isDigit b ≡ true) × (isDigit c && true ≡ true) = both (isDigit b) (isDigit c && true) (q .1) in
     let p : (48 ≤ a) × (a ≤ 57) = digit-is a (q .0) in
     let r : (48 ≤ b) × (b ≤ 57) = digit-is b (q′ .0) in
     let t : (48 ≤ c) × (c ≤ 57) = digit-is c (both (isDigit c) true (q′ .1) .0) in
-    (count-3 (value 0 (a ∷ b ∷ c ∷ [])), omega arith)
+    (to-999 (value 0 (a ∷ b ∷ c ∷ [])) (omega arith), omega arith)
 digits-value (a ∷ b ∷ c ∷ d ∷ s) h g e = absurd (omega arith)
 
 -- what is known of a list that is read to n

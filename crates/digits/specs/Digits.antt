@@ -27,6 +27,6 @@ spell n =
     (cond (leb n 99) ((48 + n / 10) ∷ (48 + n % 10) ∷ [])
     ((48 + n / 100) ∷ (48 + n / 10 % 10) ∷ (48 + n % 10) ∷ []))
 
--- how many digits spell a number below 1,000
+-- how many digits spell a number below 1,000; 4 for any above
 unfoldable pub digitCount : ℕ → ℕ
-digitCount n = cond (leb n 9) 1 (cond (leb n 99) 2 3)
+digitCount n = cond (leb n 9) 1 (cond (leb n 99) 2 (cond (leb n 999) 3 4))

@@ -6,9 +6,8 @@ use mathlib.Core.Bool.{false, cond}
 use mathlib.Core.List.{List, [], _∷_, map}
 use lib.ListN.{length}
 use Rattle.lists.specs.Lists.{bytes, Res, ok, refused, mapRes, andThen}
-use Rattle.digits.specs.Digits.{spell}
+use Rattle.digits.specs.Digits.{value as digitsValue, spell, digitCount}
 use Rattle.characters.specs.Rows.{isLine}
-use Rattle.calendar.specs.Digits.{numberFrom}
 use Rattle.eras.specs.Day.{leap, monthLength, isReal, isDay}
 use Rattle.calendar.specs.Day.{gregorian}
 use Rattle.eras.specs.Era.{eraOf, eraOn, writeDay}
@@ -27,7 +26,7 @@ use Rattle.notebook.specs.Same.{arrange}
 use Rattle.notebook.specs.Canonical.{recordRows, writeFile, canonicalBytes, canonicalFile, canonicalResult}
 use Rattle.printing.specs.Printed.{digitsOf as decimalDigits, decimal as decimalOf, numbers, line, printed}
 use Rattle.packing.specs.Packing.{total, put}
-use Rattle.packing.specs.Widths.{Plan, past, digitsOf, over, serves}
+use Rattle.packing.specs.Widths.{Plan, over, serves}
 use Rattle.packing.proofs.Computed.{packed, tried, planned, plan-is}
 use Rattle.division.specs.Marks.{validID, markLine, markRow}
 use Rattle.replies.specs.declared.Answer.{Answer}
@@ -56,7 +55,7 @@ abbrev Read : ℕ → Type 0
 Read n = readFile (withNotes n) ≡ ok (book n)
 
 reads : Read 20 × Read 18 × Read 2
-unfolding notes book bytes spell isLine numberFrom leap monthLength isReal isDay gregorian eraOf eraOn inEra fromEra readDay writeDay table edge oneWidth decimal sized fault value itemFault itemValue itemsFault itemsValue rowIn rowOf pairs t911 recordFrom faultFrom faultWhere lineFault recordOf header inGroup mayFollow pairBroken misplaced closesRp lacking missing valueWrong newerGroup refusal unfinished none start hadAfter advance refusalOf stepOf finishOf factsOf stepLine closed onward recordsFrom readRows readFile
+unfolding notes book bytes spell isLine digitsValue leap monthLength isReal isDay gregorian eraOf eraOn inEra fromEra readDay writeDay table edge oneWidth decimal sized fault value itemFault itemValue itemsFault itemsValue rowIn rowOf pairs t911 recordFrom faultFrom faultWhere lineFault recordOf header inGroup mayFollow pairBroken misplaced closesRp lacking missing valueWrong newerGroup refusal unfinished none start hadAfter advance refusalOf stepOf finishOf factsOf stepLine closed onward recordsFrom readRows readFile
 reads = (refl, refl, refl)
 
 -- ---- cut
@@ -87,11 +86,11 @@ cut : (n c : ℕ) → Read n → Cut n c (computed c (book n))
 cut n c e = answered (withNotes n) (book n) c e
 
 cuts : Cut 20 69 (Done 6 404 0) × Cut 18 60 (Done 10 547 0) × Cut 18 59 (Refused 18 0) × Cut 2 51 (Done 1 51 0) × Cut 2 50 (Refused 18 0)
-unfolding notes book bytes spell eraOn inEra writeDay joined header write recordRows arrange writeFile canonicalBytes total put packed past digitsOf over serves tried planned validID markLine markRow pieceBytes numbered t911
+unfolding notes book bytes spell eraOn inEra writeDay joined header write recordRows arrange writeFile canonicalBytes total put packed digitCount over serves tried planned validID markLine markRow pieceBytes numbered t911
 cuts = (cut 20 69 (reads .0), cut 18 60 (reads .1), cut 18 59 (reads .1), cut 2 51 (reads .2), cut 2 50 (reads .2))
 
 -- ---- ALL CASES
 
 pub cases-hold : map (λ (c : Case). answer (c .asked)) cases ≡ map (λ (c : Case). c .said) cases
-unfolding bytes spell isLine numberFrom leap monthLength isReal isDay gregorian eraOf eraOn inEra fromEra readDay writeDay table edge oneWidth decimal sized fault value itemFault itemValue itemsFault itemsValue rowIn rowOf pairs t911 recordFrom faultFrom faultWhere lineFault recordOf header inGroup mayFollow pairBroken misplaced closesRp lacking missing valueWrong newerGroup refusal unfinished none start hadAfter advance refusalOf stepOf finishOf factsOf stepLine closed onward recordsFrom readRows readFile count checkResult joined write recordRows arrange writeFile canonicalBytes canonicalFile canonicalResult answerIn decimalDigits decimalOf numbers line printed
+unfolding bytes spell isLine digitsValue leap monthLength isReal isDay gregorian eraOf eraOn inEra fromEra readDay writeDay table edge oneWidth decimal sized fault value itemFault itemValue itemsFault itemsValue rowIn rowOf pairs t911 recordFrom faultFrom faultWhere lineFault recordOf header inGroup mayFollow pairBroken misplaced closesRp lacking missing valueWrong newerGroup refusal unfinished none start hadAfter advance refusalOf stepOf finishOf factsOf stepLine closed onward recordsFrom readRows readFile count checkResult joined write recordRows arrange writeFile canonicalBytes canonicalFile canonicalResult answerIn decimalDigits decimalOf numbers line printed
 cases-hold = rw (cuts .4, cuts .3, cuts .2, cuts .1, cuts .0) refl

@@ -19,9 +19,10 @@ use Rattle.notebook.specs.Canonical.{recordRows, writeFile}
 use Rattle.notebook.proofs.Accepted.{no-refusal, line-bytes, Lines, none as noLines, more, LinesRead, lines-read}
 use Rattle.notebook.proofs.WrittenLaws.{row-short, lines-short}
 use Rattle.packing.specs.Packing.{total, concat, Fits}
-use Rattle.packing.specs.Widths.{digitsOf, over, Plan, whole, split as divided, fails, plan}
+use Rattle.digits.specs.Digits.{digitCount}
+use Rattle.packing.specs.Widths.{over, Plan, whole, split as divided, fails, plan}
 use Rattle.packing.proofs.Packing.{Pairs, nil, cons, Way, way-of, lighter}
-use Rattle.packing.proofs.Widths.{digits-count, AtMost, plan-whole, way-fewest}
+use Rattle.packing.proofs.Widths.{AtMost, plan-whole, way-fewest}
 use Rattle.division.specs.Pieces.{Piece, split, splitRows, brokenLine, fileOf}
 use Rattle.division.proofs.Chunks.{Chunk, chunkBytes, chunk-length, pieceOf, Body, Good, flat-append, body-line, bodies-lines, split-bytes, ChunkOf, one-is}
 use Rattle.division.proofs.MarkLaws.{read-length, read-count, read-place}
@@ -52,7 +53,7 @@ chunked (p ∷ ps) (h, t) =
 
 record Small (c : ℕ) (p : Part) : Type 0 where
   rows : All Body (p .rows)
-  fits : over (digitsOf (p .mark .count)) (p .mark .place) + total length (p .rows) ≤ c
+  fits : over (digitCount (p .mark .count)) (p .mark .place) + total length (p .rows) ≤ c
   count : p .mark .count ≤ 999
 
 small-part : (c : ℕ) (x : Chunk) (p : Part) → Good x → length (chunkBytes x) ≤ c → IsPart (x .provider) (x .rows) p → Small c p
@@ -74,8 +75,6 @@ small-part c x p g h r =
         s,
         total-flat (p .rows),
         read-length (text (r .last)) (p .mark) (r .marked),
-        digits-count (p .mark .count) (read-count (text (r .last)) (p .mark) (r .marked)),
-        digits-count (p .mark .place) (read-place (text (r .last)) (p .mark) (r .marked)),
       );
       count = read-count (text (r .last)) (p .mark) (r .marked);
     }
@@ -92,17 +91,17 @@ small-parts c (z ∷ zs) ps (g, u) (h, t) (morePart {p = p} {ps = qs} i is) =
 abbrev Of : ℕ → ℕ → Part → Type 0
 Of c n p = Small c p × (p .mark .count ≡ n)
 
-runs-fit : (c n k : ℕ) (xs : List (List (List ℕ))) → Runs (Of c n) k xs → Fits length (over (digitsOf n)) c k xs × All Body (concat xs)
+runs-fit : (c n k : ℕ) (xs : List (List (List ℕ))) → Runs (Of c n) k xs → Fits length (over (digitCount n)) c k xs × All Body (concat xs)
 unfolding Fits concat
 runs-fit c n k [] r = (tt, tt)
 runs-fit c n k (x ∷ xs) (r, t) =
-    let i : Fits length (over (digitsOf n)) c (suc k) xs × All Body (concat xs) = runs-fit c n (suc k) xs t in
+    let i : Fits length (over (digitCount n)) c (suc k) xs × All Body (concat xs) = runs-fit c n (suc k) xs t in
     let p : Part = r .part in
-    let f : over (digitsOf (p .mark .count)) (p .mark .place) + total length (p .rows) ≤ c = r .holds .0 .fits in
-    let a : over (digitsOf n) (p .mark .place) + total length (p .rows) ≤ c =
-    subst (λ (m : ℕ). over (digitsOf m) (p .mark .place) + total length (p .rows) ≤ c) (r .holds .1) f in
-    let b : over (digitsOf n) k + total length (p .rows) ≤ c = subst (λ (m : ℕ). over (digitsOf n) m + total length (p .rows) ≤ c) (r .place) a in
-    let d : over (digitsOf n) k + total length x ≤ c = subst (λ (m : List (List ℕ)). over (digitsOf n) k + total length m ≤ c) (r .rows) b in
+    let f : over (digitCount (p .mark .count)) (p .mark .place) + total length (p .rows) ≤ c = r .holds .0 .fits in
+    let a : over (digitCount n) (p .mark .place) + total length (p .rows) ≤ c =
+    subst (λ (m : ℕ). over (digitCount m) (p .mark .place) + total length (p .rows) ≤ c) (r .holds .1) f in
+    let b : over (digitCount n) k + total length (p .rows) ≤ c = subst (λ (m : ℕ). over (digitCount n) m + total length (p .rows) ≤ c) (r .place) a in
+    let d : over (digitCount n) k + total length x ≤ c = subst (λ (m : List (List ℕ)). over (digitCount n) k + total length m ≤ c) (r .rows) b in
     ((d, i .0), all-append Body x (concat xs) (subst (All Body) (r .rows) (r .holds .0 .rows)) (i .1))
 
 -- a division of the joined rows into n runs
@@ -110,8 +109,8 @@ record Divided (c n : ℕ) (ls : List (List ℕ)) : Type 0 where
   two : 2 ≤ n
   most : n ≤ 999
   rows : All Body ls
-  opens : over (digitsOf n) 1 ≤ c
-  way : Way length (over (digitsOf n)) c 1 (over (digitsOf n) 1) ls n
+  opens : over (digitCount n) 1 ≤ c
+  way : Way length (over (digitCount n)) c 1 (over (digitCount n) 1) ls n
 
 first-count : (c n : ℕ) (ps : List Part) → 1 ≤ length ps → All (Of c n) ps → n ≤ 999
 first-count c n [] h a = absurd (omega arith)
@@ -122,11 +121,11 @@ unfolding Fits
 divided-by c ps w a j =
     let o : All (Of c (j .count)) ps = all-both (Small c) (λ p. p .mark .count ≡ j .count) ps a (j .alike) in
     let g : Gathered (Of c (j .count)) (j .count) 1 (w .rows) = gather-runs (Of c (j .count)) ps o (j .count) 1 (w .rows) (j .gathered) in
-    let f : Fits length (over (digitsOf (j .count))) c 1 (g .runs) × All Body (concat (g .runs)) = runs-fit c (j .count) 1 (g .runs) (g .each) in
+    let f : Fits length (over (digitCount (j .count))) c 1 (g .runs) × All Body (concat (g .runs)) = runs-fit c (j .count) 1 (g .runs) (g .each) in
     subst (λ (n : ℕ). Divided c n (w .rows)) (sym (j .many))
     (go (j .count) (g .runs) (g .all) (g .many) (j .two) (first-count c (j .count) ps (omega (arith, j .two, j .many)) o) (f .0) (f .1))
   where
-    go : (n : ℕ) (xs : List (List (List ℕ))) → concat xs ≡ w .rows → length xs ≡ n → 2 ≤ n → n ≤ 999 → Fits length (over (digitsOf n)) c 1 xs → All Body (concat xs)
+    go : (n : ℕ) (xs : List (List (List ℕ))) → concat xs ≡ w .rows → length xs ≡ n → 2 ≤ n → n ≤ 999 → Fits length (over (digitCount n)) c 1 xs → All Body (concat xs)
         → Divided c n (w .rows)
     go n [] e m t h f b = absurd (omega arith)
     go n (x ∷ xs) e m t h f b = record {
@@ -134,8 +133,8 @@ divided-by c ps w a j =
       most = h;
       rows = subst (All Body) e b;
       opens = omega (arith, f .0);
-      way = subst (λ (z : List (List ℕ)). Way length (over (digitsOf n)) c 1 (over (digitsOf n) 1) z n) e
-          (subst (λ (z : ℕ). Way length (over (digitsOf n)) c 1 (over (digitsOf n) 1) (concat (x ∷ xs)) z) (omega arith) (way-of length (over (digitsOf n)) c 1 x xs f));
+      way = subst (λ (z : List (List ℕ)). Way length (over (digitCount n)) c 1 (over (digitCount n) 1) z n) e
+          (subst (λ (z : ℕ). Way length (over (digitCount n)) c 1 (over (digitCount n) 1) (concat (x ∷ xs)) z) (omega arith) (way-of length (over (digitCount n)) c 1 x xs f));
     }
 
 -- ---- the canonical rows beside the rows that were read
@@ -218,8 +217,8 @@ module _ (i : List ℕ) (b : Notebook) (c : ℕ) where
       let s : All (Small c) ps × (length ps ≡ length zs) = small-parts c zs ps g h (parts-are (map pieceOf zs) ps p) in
       let d : Divided c (length ps) (w .rows) = divided-by c ps w (s .0) (parts-joined ps w j) in
       let r : Lines (b .provider) (b .records) (w .rows) = rows-read w (d .rows) e in
-      let y : Way length (over (digitsOf (length ps))) c 1 (over (digitsOf (length ps)) 1) ls (length ps) =
-      lighter length length (over (digitsOf (length ps))) (over (digitsOf (length ps))) c c (λ k. le-refl _) (le-refl c) (over (digitsOf (length ps)) 1)
+      let y : Way length (over (digitCount (length ps))) c 1 (over (digitCount (length ps)) 1) ls (length ps) =
+      lighter length length (over (digitCount (length ps))) (over (digitCount (length ps))) c c (λ k. le-refl _) (le-refl c) (over (digitCount (length ps)) 1)
       (rows-pairs r) (le-refl _) (d .way) in
       subst (λ (n : ℕ). AtMost n (plan length c ls)) (s .1) (way-fewest length c ls (length ps) (d .two) (d .most) (d .opens) y)
 

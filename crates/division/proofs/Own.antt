@@ -18,8 +18,10 @@ use Rattle.notebook.specs.Canonical.{headRow, recordRows, writeFile}
 use Rattle.notebook.proofs.Accepted.{head-length, Lines, none as noLines, more, accepted}
 use Rattle.notebook.proofs.WrittenLaws.{lines-written, written-small, written-carries}
 use Rattle.packing.specs.Packing.{total, concat, Fits}
-use Rattle.packing.specs.Widths.{digitsOf, over, Plan, whole, split as divided, fails, plan}
-use Rattle.packing.proofs.Widths.{digits-count, digits-le, Divides, Planned, plan-good}
+use Rattle.digits.specs.Digits.{digitCount}
+use Rattle.digits.proofs.Numbers.{to-999}
+use Rattle.packing.specs.Widths.{over, Plan, whole, split as divided, fails, plan}
+use Rattle.packing.proofs.Widths.{Divides, Planned, plan-good}
 use Rattle.division.specs.Marks.{validID, markRow, markLine, readMark}
 use Rattle.division.specs.Pieces.{Piece, split, fileOf}
 use Rattle.division.proofs.Chunks.{Chunk, chunkBytes, pieceOf, Body, Good, flat-append, split-bytes, split-one}
@@ -88,7 +90,7 @@ own-part p o =
     (ap isMark t ∙ written-is (p .mark .ident) (p .mark .count) (p .mark .place) (o .valid) (o .count) (o .place))
     (ap readMark t ∙ read-written (p .mark .ident) (p .mark .count) (p .mark .place) (o .valid) (o .count) (o .place))
 
-piece-length : (p : Part) → Own p → length (bytesOf p) ≡ over (digitsOf (p .mark .count)) (p .mark .place) + total length (p .rows)
+piece-length : (p : Part) → Own p → length (bytesOf p) ≡ over (digitCount (p .mark .count)) (p .mark .place) + total length (p .rows)
 unfolding pieceBytes over
 piece-length p o =
     omega (
@@ -97,8 +99,6 @@ piece-length p o =
       length-append (flat (p .rows)) (rowOf p),
       head-length (p .provider),
       mark-length (p .mark .ident) (p .mark .count) (p .mark .place) (o .valid) (o .count) (o .place),
-      digits-count (p .mark .count) (o .count),
-      digits-count (p .mark .place) (o .place),
       total-flat (p .rows),
     )
 
@@ -136,9 +136,9 @@ parts-own d i n k [] v h l a = tt
 parts-own d i n k (y ∷ ys) v h l (a, t) =
     (record { rows = a; valid = v; count = h; place = omega arith }, parts-own d i n (suc k) ys v h (omega arith) t)
 
-over-small : (n k : ℕ) → n ≤ 999 → k ≤ 999 → over (digitsOf n) k ≤ 41
+over-small : (n k : ℕ) → n ≤ 999 → k ≤ 999 → over (digitCount n) k ≤ 41
 unfolding over
-over-small n k h g = omega (arith, digits-le n h, digits-le k g)
+over-small n k h g = omega (arith, to-999 n h, to-999 k g)
 
 parts-total : (d : Bool) (i : List ℕ) (n k : ℕ) (ys : List (List (List ℕ))) → validID i ≡ true → n ≤ 999 → k + length ys ≤ 1000 → All AllFree ys
     → length (flat (map bytesOf (parts d i n k ys))) ≤ 41 * length ys + length (flat (concat ys))
@@ -158,7 +158,7 @@ parts-total d i n k (y ∷ ys) v h l (a, t) =
     )
 
 parts-fit : (d : Bool) (i : List ℕ) (n k c : ℕ) (ys : List (List (List ℕ))) → validID i ≡ true → n ≤ 999 → k + length ys ≤ 1000 → All AllFree ys
-    → Fits length (over (digitsOf n)) c k ys → All (Within c) (map bytesOf (parts d i n k ys))
+    → Fits length (over (digitCount n)) c k ys → All (Within c) (map bytesOf (parts d i n k ys))
 unfolding Fits
 parts-fit d i n k c [] v h l a f = tt
 parts-fit d i n k c (y ∷ ys) v h l (a, t) (f, g) =

@@ -1,18 +1,20 @@
--- The kinds of digits: postal codes and decimals by their parts. Assumes nothing.
+-- The kinds of digits: postal codes and decimals by their parts, prefectures by their number. Assumes nothing.
 use Prim.Native.Nat.{ℕ, zero, suc, _+_, _-_, _≤_, _<_, min}
 use mathlib.Core.Path.{_≡_, refl, sym, ap, _∙_}
-use mathlib.Core.Bool.{Bool, true, false, _&&_}
+use mathlib.Core.Bool.{Bool, true, false, cond, _&&_}
+use mathlib.Core.Option.{none, some}
 use mathlib.Core.List.{List, [], _∷_, _++_}
 use native.Mathlib.Omega.{arith}
-use borrow.Author.Tests.{eq-eqb, ne-eqb}
-use lib.Dec.{eqb}
+use borrow.Author.Tests.{eqb-true, eq-eqb, ne-eqb}
+use lib.Dec.{leb, eqb}
 use lib.ListN.{length, take, drop, length-append, length-take, length-drop}
-use Rattle.lists.specs.Lists.{all, upTo, findFrom}
+use Rattle.lists.specs.Lists.{within, all, upTo, findFrom}
 use Rattle.lists.proofs.Tests.{all-append}
 use Rattle.lists.proofs.Cuts.{rest-all, take-upTo}
 use Rattle.lists.proofs.Loops.{find-high}
-use Rattle.digits.specs.Digits.{isDigit}
-use Rattle.records.specs.Items.{isPeriod, seven, unhyphened, whole, places, fraction, decimal}
+use Rattle.digits.specs.Digits.{isDigit, value, number}
+use Rattle.digits.specs.Short.{orThousand, shortValue}
+use Rattle.records.specs.Items.{isPeriod, seven, unhyphened, prefecture, whole, places, fraction, decimal}
 
 pub unhyphened-length : (s : List ℕ) → length (unhyphened s) ≡ min 3 (length s) + (length s - 4)
 unhyphened-length s = length-append (take 3 s) (drop 4 s) ∙ ap (λ (x : ℕ). x + length (drop 4 s)) (length-take 3 s) ∙ ap (λ (x : ℕ). min 3 (length s) + x) (length-drop 4 s)
@@ -24,6 +26,17 @@ no-seven s h = simp (ne-eqb (length (unhyphened s)) 7 (λ e. h (omega (arith, un
 pub is-seven : (s : List ℕ) (x y : Bool) → length s ≡ 8 → x ≡ all isDigit (take 3 s) → y ≡ all isDigit (take (length s - 4) (drop 4 s)) → (x && y) ≡ seven (unhyphened s)
 unfolding seven
 is-seven s x y h p q = simp (p, q ∙ ap (all isDigit) (rest-all 4 s), eq-eqb (length (unhyphened s)) 7 (omega (arith, unhyphened-length s)), all-append isDigit (take 3 s) (drop 4 s))
+
+-- two digits are read to their value; else 1000 is no prefecture
+pub prefecture-is : (s : List ℕ) {v : ℕ} → v ≡ shortValue s → (eqb (length s) 2 && within 1 47 v) ≡ prefecture s
+unfolding shortValue number prefecture
+prefecture-is s e = rw e (go (eqb (length s) 2) refl (all isDigit s))
+  where
+    go : (x : Bool) → eqb (length s) 2 ≡ x → (y : Bool)
+        → (x && within 1 47 (orThousand (cond (leb 1 (length s) && (leb (length s) 3 && y)) (some (value 0 s)) none))) ≡ (x && (y && within 1 47 (value 0 s)))
+    go false p y = refl
+    go true p true = rw (eqb-true (length s) 2 p)
+    go true p false = rw (eqb-true (length s) 2 p)
 
 pub fraction-none : (f : ℕ) (s : List ℕ) → length s ≡ 0 → true ≡ fraction f s
 fraction-none f [] h = refl

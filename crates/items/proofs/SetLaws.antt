@@ -1,13 +1,13 @@
 -- Values in braces: spelled as one of a set exactly where the plain number is in it. Assumes nothing.
 use Prim.Native.Nat.{ℕ, zero, suc, _≤_, zero-le}
 use mathlib.Core.Path.{_≡_, refl, sym, ap, _∙_}
-use mathlib.Core.Bool.{Bool, true, false, _&&_, _||_, or-false}
+use mathlib.Core.Bool.{Bool, true, false, _&&_, _||_}
 use mathlib.Core.List.{List, [], _∷_}
 use native.Mathlib.Omega.{arith}
 use lib.Dec.{leb, eqb}
 use lib.ListN.{getD, List·getD-eq-default}
 use borrow.Author.Tests.{leb-true}
-use Rattle.lists.specs.Lists.{all, orMember, member}
+use Rattle.lists.specs.Lists.{all, member}
 use Rattle.lists.proofs.Tests.{both}
 use Rattle.digits.specs.Short.{plainNumber}
 use Rattle.digits.proofs.Spelling.{same-spell}
@@ -21,19 +21,12 @@ small n = leb 1 n && leb n 999
 pub small-is : (n : ℕ) → small n ≡ true → (1 ≤ n) × (n ≤ 999)
 small-is n e = let p : (leb 1 n ≡ true) × (leb n 999 ≡ true) = both (leb 1 n) (leb n 999) e in (leb-true 1 n (p .0), leb-true n 999 (p .1))
 
-or-member : (b : Bool) (ns : List ℕ) (s : List ℕ) → all small ns ≡ true → (b || oneOf ns s) ≡ orMember b ns (plainNumber s)
-or-member b [] s h = or-false b
-or-member b (n ∷ ns) s h =
+pub one-of-member : (ns : List ℕ) (s : List ℕ) → all small ns ≡ true → oneOf ns s ≡ member ns (plainNumber s)
+one-of-member [] s h = refl
+one-of-member (n ∷ ns) s h =
     let p : (small n ≡ true) × (all small ns ≡ true) = both (small n) (all small ns) h in
     let q : (1 ≤ n) × (n ≤ 999) = small-is n (p .0) in
-    rw (same-spell s n (q .0) (q .1)) (assoc b (eqb (plainNumber s) n) (oneOf ns s) ∙ or-member (b || eqb (plainNumber s) n) ns s (p .1))
-  where
-    assoc : (x y z : Bool) → (x || (y || z)) ≡ ((x || y) || z)
-    assoc true y z = refl
-    assoc false y z = refl
-
-pub one-of-member : (ns : List ℕ) (s : List ℕ) → all small ns ≡ true → oneOf ns s ≡ member ns (plainNumber s)
-one-of-member ns s h = or-member false ns s h
+    rw (same-spell s n (q .0) (q .1), one-of-member ns s (p .1))
 
 -- the whole list of sets, by one computed test
 allSmall : List (List ℕ) → Bool

@@ -154,10 +154,8 @@ fn postal(s: &[u8]) -> bool
 fn prefecture(s: &[u8]) -> bool
     ensures { λ r. ⌜ r ≡ prefectureOf (now (s .entry)) ⌝ }
 {
-    let a = digits::wide(lists::byte_at(s, 0));
-    let b = digits::wide(lists::byte_at(s, 1));
-    let v = a * 10 + b;
-    (s.len() == 2) & (digits::all_digits(s) & ((529 <= v) & (v <= 575)))
+    let v = digits::short_value(s);
+    (s.len() == 2) & ((1 <= v) & (v <= 47))
 }
 
 fn whole(w: usize, a: &[u8]) -> bool

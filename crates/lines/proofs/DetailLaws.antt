@@ -9,7 +9,7 @@ use borrow.Author.Tests.{eq-eqb, ne-eqb, eqb-true, eqb-false}
 use lib.Dec.{leb, eqb}
 use lib.ListN.{length, getD, take, drop, length-take, length-drop}
 use Rattle.lists.specs.Lists.{empty, member, part}
-use Rattle.lists.proofs.Tests.{empty-is}
+use Rattle.lists.proofs.Tests.{orMember, member-left, empty-is}
 use Rattle.digits.specs.Digits.{number}
 use Rattle.digits.specs.Short.{orThousand, shortValue, plainNumber}
 use Rattle.digits.proofs.Numbers.{number-length}
@@ -126,13 +126,13 @@ module _ {s : List ℕ} where
 -- ---- the records without pairs
 
 module _ (n : ℕ) (ss : List (List ℕ)) where
-  pub other-rp : {v : ℕ} {r : Details} → member (281 ∷ 291 ∷ 311 ∷ 391 ∷ []) n ≡ true → v ≡ rpRaw (getD ss 0 []) → r ≡ bareDetails n v 0 0 → r ≡ otherDetails n ss
+  pub other-rp : {v : ℕ} {r : Details} → orMember false (281 ∷ 291 ∷ 311 ∷ 391 ∷ []) n ≡ true → v ≡ rpRaw (getD ss 0 []) → r ≡ bareDetails n v 0 0 → r ≡ otherDetails n ss
   unfolding otherDetails
-  other-rp h p q = q ∙ ap (λ (x : ℕ). bareDetails n x 0 0) p ∙ sym (rw h)
+  other-rp h p q = q ∙ ap (λ (x : ℕ). bareDetails n x 0 0) p ∙ sym (rw (sym (member-left (281 ∷ 291 ∷ 311 ∷ 391 ∷ []) n) ∙ h))
 
-  pub other-bare : {r : Details} → member (281 ∷ 291 ∷ 311 ∷ 391 ∷ []) n ≡ false → r ≡ bareDetails n 0 0 0 → r ≡ otherDetails n ss
+  pub other-bare : {r : Details} → orMember false (281 ∷ 291 ∷ 311 ∷ 391 ∷ []) n ≡ false → r ≡ bareDetails n 0 0 0 → r ≡ otherDetails n ss
   unfolding otherDetails
-  other-bare h q = q ∙ sym (rw h)
+  other-bare h q = q ∙ sym (rw (sym (member-left (281 ∷ 291 ∷ 311 ∷ 391 ∷ []) n) ∙ h))
 
 -- ---- the dispatch on the number
 
@@ -140,16 +140,13 @@ module _ (n : ℕ) (ss : List (List ℕ)) where
 others : (n : ℕ) (ss : List (List ℕ)) → (n ≡ 5 → ⊥) → (n ≡ 11 → ⊥) → (n ≡ 201 → ⊥) → (n ≡ 301 → ⊥) → otherDetails n ss ≡ detailsRaw n ss
 unfolding otherDetails detailsRaw pairsRaw factsRaw
 others n ss a b c d =
-    rw (ne-eqb n 5 a, ne-eqb n 11 b, ne-eqb n 201 c, ne-eqb n 301 d) (go (eqb n 281) (eqb n 291) (eqb n 311) (eqb n 391))
+    rw (ne-eqb n 5 a, ne-eqb n 11 b, ne-eqb n 201 c, ne-eqb n 301 d) (go (member (281 ∷ 291 ∷ 311 ∷ 391 ∷ []) n))
   where
-    go : (w x y z : Bool)
-        → cond (w || x || y || z) (bareDetails n (rpRaw (getD ss 0 [])) 0 0) (bareDetails n 0 0 0)
-        ≡ record { paired = true; facts = record { number = n; rp = cond (w || x || false || y || z) (rpRaw (getD ss 0 [])) 0; day = 0; schedule = 0; form = 0; named = false } }
-    go true x y z = refl
-    go false true y z = refl
-    go false false true z = refl
-    go false false false true = refl
-    go false false false false = refl
+    go : (b : Bool)
+        → cond b (bareDetails n (rpRaw (getD ss 0 [])) 0 0) (bareDetails n 0 0 0)
+        ≡ record { paired = true; facts = record { number = n; rp = cond b (rpRaw (getD ss 0 [])) 0; day = 0; schedule = 0; form = 0; named = false } }
+    go true = refl
+    go false = refl
 
 module _ (n : ℕ) (ss : List (List ℕ)) {r : Details} where
   by-number : (k : ℕ) → n ≡ k → r ≡ detailsRaw k ss → r ≡ detailsRaw n ss

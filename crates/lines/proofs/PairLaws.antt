@@ -8,15 +8,15 @@ use native.Mathlib.Omega.{arith}
 use borrow.Author.Tests.{eq-eqb, ne-eqb}
 use lib.Dec.{leb, eqb}
 use lib.ListN.{length, getD}
-use Rattle.lists.specs.Lists.{same, member}
-use Rattle.lists.proofs.Tests.{and-same, empty-is}
+use Rattle.lists.specs.Lists.{all, same}
+use Rattle.lists.proofs.Tests.{orMember, member-left, and-same, empty-is}
 use Rattle.digits.specs.Digits.{number, spell}
 use Rattle.digits.specs.Short.{orThousand, shortValue, plainNumber}
 use Rattle.digits.proofs.Numbers.{number-length}
 use Rattle.digits.proofs.Spelling.{same-spell}
-use Rattle.records.specs.Items.{value, numberValue}
+use Rattle.records.specs.Items.{oneOf, value, numberValue}
 use Rattle.records.specs.Records.{itemValue, isEmpty, isNum, orEmpty, codePair, formPair, 調剤, 日分, 回分}
-use Rattle.items.proofs.SetLaws.{one-of-member}
+use Rattle.items.proofs.SetLaws.{small, one-of-member}
 use Rattle.lines.specs.Codes.{quantity, codeRaw, formRaw}
 
 -- ---- a unit of four bytes
@@ -66,28 +66,32 @@ quantity-is (b ∷ q) {v} e =
 
 -- ---- form
 
+-- spelled as one of the numbers, joined as the code joins
+one-of : (ns : List ℕ) (s : List ℕ) → all small ns ≡ true → oneOf ns s ≡ orMember false ns (plainNumber s)
+one-of ns s h = one-of-member ns s h ∙ sym (member-left ns (plainNumber s))
+
 module _ (f q u : List ℕ) {n : ℕ} (e : n ≡ plainNumber f) where
   form-is : formRaw f q u ≡
-      cond (member (2 ∷ 4 ∷ 5 ∷ 9 ∷ 10 ∷ []) n) (orEmpty (quantity q) (isNum (quantity q) 1) && (eqb (length u) 0 || same u 調剤))
+      cond (orMember false (2 ∷ 4 ∷ 5 ∷ 9 ∷ 10 ∷ []) n) (orEmpty (quantity q) (isNum (quantity q) 1) && (eqb (length u) 0 || same u 調剤))
       (cond (eqb n 1) (eqb (length u) 0 || same u 日分)
       (cond (eqb n 3) (eqb (length u) 0 || same u 回分)
       (cond (eqb n 6 || eqb n 7) (eqb (length u) 0 || (same u 日分 || same u 回分)) true)))
   unfolding formRaw formPair
   form-is =
       rw (
-        one-of-member (2 ∷ 4 ∷ 5 ∷ 9 ∷ 10 ∷ []) f refl,
-        one-of-member (1 ∷ []) f refl,
-        one-of-member (3 ∷ []) f refl,
-        one-of-member (6 ∷ 7 ∷ []) f refl,
+        one-of (2 ∷ 4 ∷ 5 ∷ 9 ∷ 10 ∷ []) f refl,
+        one-of (1 ∷ []) f refl,
+        one-of (3 ∷ []) f refl,
+        one-of (6 ∷ 7 ∷ []) f refl,
         empty-is u,
         e,
       )
 
   module _ {x y z : Bool} (p : x ≡ same u 調剤) (r : y ≡ same u 日分) (t : z ≡ same u 回分) where
-    pub form-once : {w : Bool} → member (2 ∷ 4 ∷ 5 ∷ 9 ∷ 10 ∷ []) n ≡ true → w ≡ orEmpty (quantity q) (isNum (quantity q) 1) → (w && (eqb (length u) 0 || x)) ≡ formRaw f q u
+    pub form-once : {w : Bool} → orMember false (2 ∷ 4 ∷ 5 ∷ 9 ∷ 10 ∷ []) n ≡ true → w ≡ orEmpty (quantity q) (isNum (quantity q) 1) → (w && (eqb (length u) 0 || x)) ≡ formRaw f q u
     form-once h k = sym (form-is ∙ rw (h, ← k, ← p))
 
-    module _ (no-a : member (2 ∷ 4 ∷ 5 ∷ 9 ∷ 10 ∷ []) n ≡ false) where
+    module _ (no-a : orMember false (2 ∷ 4 ∷ 5 ∷ 9 ∷ 10 ∷ []) n ≡ false) where
       pub form-days : n ≡ 1 → (eqb (length u) 0 || y) ≡ formRaw f q u
       form-days h = sym (form-is ∙ rw (no-a, eq-eqb n 1 h, ← r))
 

@@ -1,14 +1,14 @@
 -- Laws of Booleans, of tests of lists, and of faults in their order. Assumes nothing.
 use Prim.Native.Nat.{ℕ, zero, suc, _≤_, _<_}
 use mathlib.Core.Path.{_≡_, refl, sym, ap, _∙_}
-use mathlib.Core.Bool.{Bool, true, false, cond, not, _&&_, _||_, and-false, false≢true, true≢false}
+use mathlib.Core.Bool.{Bool, true, false, cond, not, _&&_, _||_, and-false, or-false, false≢true, true≢false}
 use mathlib.Core.Logic.{_⊎_, inl, inr}
 use mathlib.Core.List.{List, [], _∷_, _++_}
 use native.Mathlib.Omega.{arith}
 use borrow.Author.Tests.{le-leb, lt-leb, eqb-true, eqb-false, eq-eqb, ne-eqb}
 use lib.Dec.{leb, eqb}
 use lib.ListN.{length}
-use Rattle.lists.specs.Lists.{within, empty, all, same, All, _orElse_, unless}
+use Rattle.lists.specs.Lists.{within, empty, all, same, member, All, _orElse_, unless}
 
 -- ---- Booleans
 
@@ -47,6 +47,33 @@ not-true′ false e = refl
 pub not-false′ : (a : Bool) → not a ≡ false → a ≡ true
 not-false′ true e = refl
 not-false′ false e = absurd (true≢false e)
+
+pub or-assoc : (a b c : Bool) → ((a || b) || c) ≡ (a || (b || c))
+or-assoc true b c = refl
+or-assoc false b c = refl
+
+-- ---- one of a list
+
+-- it is one of a longer list
+pub member-more : (xs ys : List ℕ) (n : ℕ) → member xs n ≡ true → member (xs ++ ys) n ≡ true
+member-more [] ys n h = absurd (false≢true h)
+member-more (x ∷ xs) ys n h = go (eqb n x) h (member-more xs ys n)
+  where
+    go : (b : Bool) → (b || member xs n) ≡ true → (member xs n ≡ true → member (xs ++ ys) n ≡ true) → (b || member (xs ++ ys) n) ≡ true
+    go true h f = refl
+    go false h f = f h
+
+-- the same from the left, as code joins tests by `|`: b holds, or n is one of the list
+abbrev pub orMember : Bool → List ℕ → ℕ → Bool
+orMember b [] n = b
+orMember b (m ∷ ms) n = orMember (b || eqb n m) ms n
+
+pub or-member : (b : Bool) (ms : List ℕ) (n : ℕ) → orMember b ms n ≡ (b || member ms n)
+or-member b [] n = sym (or-false b)
+or-member b (m ∷ ms) n = or-member (b || eqb n m) ms n ∙ or-assoc b (eqb n m) (member ms n)
+
+pub member-left : (ms : List ℕ) (n : ℕ) → orMember false ms n ≡ member ms n
+member-left ms n = or-member false ms n
 
 -- ---- ranges
 

@@ -35,13 +35,10 @@ same [] (y ∷ ys) = false
 same (x ∷ xs) [] = false
 same (x ∷ xs) (y ∷ ys) = eqb x y && same xs ys
 
--- n is one of the list, or b holds: from the left, as code joins tests by `|`
-abbrev pub orMember : Bool → List ℕ → ℕ → Bool
-orMember b [] n = b
-orMember b (m ∷ ms) n = orMember (b || eqb n m) ms n
-
+-- n is one of the list
 abbrev pub member : List ℕ → ℕ → Bool
-member ms n = orMember false ms n
+member [] n = false
+member (m ∷ ms) n = eqb n m || member ms n
 
 -- a property of every element
 abbrev pub All : {A : Type 0} → (A → Type 0) → List A → Type 0

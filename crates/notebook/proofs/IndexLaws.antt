@@ -10,14 +10,14 @@ use mathlib.Core.List.{List, [], _∷_, _++_, head-eq-of-cons-eq, tail-eq-of-con
 use borrow.Author.Tests.{eq-eqb, ne-eqb, eqb-true, eqb-false}
 use lib.Dec.{eqb}
 use lib.ListN.{length, drop, length-append}
-use Rattle.lists.specs.Lists.{Res, ok, refused, mapRes}
-use Rattle.lists.proofs.Tests.{either}
+use Rattle.lists.specs.Lists.{member, Res, ok, refused, mapRes}
+use Rattle.lists.proofs.Tests.{member-left, either}
 use Rattle.characters.specs.Text.{text}
 use Rattle.characters.specs.Rows.{rows}
 use Rattle.records.specs.Records.{Record, recordOf}
 use Rattle.order.specs.declared.State.{State}
 use Rattle.order.specs.declared.Facts.{Facts}
-use Rattle.rules.specs.Places.{oneOf, inFront, inRp, inRest, inGroup}
+use Rattle.rules.specs.Places.{inFront, inRp, inRest, inGroup}
 use Rattle.order.specs.State.{none, start, hadAfter, advance, doctorOf, groupOf, drugOf}
 use Rattle.order.proofs.Laws.{provider-start, line-start, taken}
 use Rattle.notebook.specs.Facts.{factsOf}
@@ -136,21 +136,21 @@ rp-grouped n h = go (inFront n) (eqb n 55) (inRp n) (inRest n) h
 rp-no-5 : (n : ℕ) → inRp n ≡ true → n ≡ 5 → ⊥
 rp-no-5 n h e = false≢true (rw e at h)
 
-detail-rp : (n : ℕ) → oneOf n (281 ∷ 291 ∷ []) ≡ true → inRp n ≡ true
-detail-rp n h = go (either (eqb n 281) (eqb n 291) h)
+detail-rp : (n : ℕ) → member (281 ∷ 291 ∷ []) n ≡ true → inRp n ≡ true
+detail-rp n h = go (either (eqb n 281) (eqb n 291) (member-left (281 ∷ 291 ∷ []) n ∙ h))
   where
     go : (eqb n 281 ≡ true) ⊎ (eqb n 291 ≡ true) → inRp n ≡ true
     go (inl e) = rw (eqb-true n 281 e)
     go (inr e) = rw (eqb-true n 291 e)
 
-detail-no-drug : (n : ℕ) → oneOf n (281 ∷ 291 ∷ []) ≡ true → n ≡ 201 → ⊥
+detail-no-drug : (n : ℕ) → member (281 ∷ 291 ∷ []) n ≡ true → n ≡ 201 → ⊥
 detail-no-drug n h e = false≢true (rw e at h)
 
-drug-of : (st : State) (f : Facts) → oneOf (f .number) (281 ∷ 291 ∷ []) ≡ true → drugOf (advance st f) ≡ drug (advance st f)
+drug-of : (st : State) (f : Facts) → member (281 ∷ 291 ∷ []) (f .number) ≡ true → drugOf (advance st f) ≡ drug (advance st f)
 unfolding drugOf advance drug
 drug-of st f h = rw h
 
-drug-none : (st : State) (f : Facts) → oneOf (f .number) (281 ∷ 291 ∷ []) ≡ false → drugOf (advance st f) ≡ 0
+drug-none : (st : State) (f : Facts) → member (281 ∷ 291 ∷ []) (f .number) ≡ false → drugOf (advance st f) ≡ 0
 unfolding drugOf advance
 drug-none st f h = rw h
 
@@ -186,7 +186,7 @@ module _ (s : List ℕ) (b : Notebook) (r : readFile s ≡ ok b) (before : List 
       rw d (last-stands 55 (e .group) 2 0 before)
 
   -- "line of the last preceding 201 for 281 and 291 (else 0)"
-  pub index-drug : e .drug ≡ cond (oneOf (e .number) (281 ∷ 291 ∷ [])) (lastLine 201 (e .group) 2 0 before) 0
+  pub index-drug : e .drug ≡ cond (member (281 ∷ 291 ∷ []) (e .number)) (lastLine 201 (e .group) 2 0 before) 0
   unfolding entryOf factsOf drug drugOf
   index-drug =
       let x : Before 201 drug keeps-drug e (lastLine 201 (e .group) 2 0 before) =
@@ -194,11 +194,11 @@ module _ (s : List ℕ) (b : Notebook) (r : readFile s ≡ ok b) (before : List 
       (walk-last 201 drug keeps-drug (accepted s b r .walked) before e behind 0 q (at-start (b .provider) (e .group) .1)) in
       let n : (recordOf (x .l)) .number ≡ e .number = ap (λ (y : Entry). y .number) (x .is) in
       let g : groupOf (advance (x .st) (factsOf (recordOf (x .l)))) ≡ e .group = ap groupOf (sym (x .placed .state)) ∙ ap (λ (y : Entry). y .group) (x .is) in
-      sym (ap (λ (y : Entry). y .drug) (x .is)) ∙ ap drugOf (x .placed .state) ∙ go x n g (oneOf ((recordOf (x .l)) .number) (281 ∷ 291 ∷ [])) refl
+      sym (ap (λ (y : Entry). y .drug) (x .is)) ∙ ap drugOf (x .placed .state) ∙ go x n g (member (281 ∷ 291 ∷ []) ((recordOf (x .l)) .number)) refl
     where
       go : (x : Before 201 drug keeps-drug e (lastLine 201 (e .group) 2 0 before)) → (recordOf (x .l)) .number ≡ e .number
-          → groupOf (advance (x .st) (factsOf (recordOf (x .l)))) ≡ e .group → (i : Bool) → oneOf ((recordOf (x .l)) .number) (281 ∷ 291 ∷ []) ≡ i
-          → drugOf (advance (x .st) (factsOf (recordOf (x .l)))) ≡ cond (oneOf (e .number) (281 ∷ 291 ∷ [])) (lastLine 201 (e .group) 2 0 before) 0
+          → groupOf (advance (x .st) (factsOf (recordOf (x .l)))) ≡ e .group → (i : Bool) → member (281 ∷ 291 ∷ []) ((recordOf (x .l)) .number) ≡ i
+          → drugOf (advance (x .st) (factsOf (recordOf (x .l)))) ≡ cond (member (281 ∷ 291 ∷ []) (e .number)) (lastLine 201 (e .group) 2 0 before) 0
       go x n g true i =
           let m = (recordOf (x .l)) .number in
           let f = factsOf (recordOf (x .l)) in

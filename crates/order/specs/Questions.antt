@@ -2,9 +2,9 @@
 use Prim.Native.Nat.{ℕ, _+_}
 use mathlib.Core.List.{[], _∷_}
 use lib.Dec.{eqb, ltb}
+use Rattle.lists.specs.Lists.{member}
 use Rattle.order.specs.declared.State.{State}
 use Rattle.order.specs.declared.Facts.{Facts}
-use Rattle.rules.specs.Places.{oneOf}
 use Rattle.rules.specs.Questions.{Before, Asked}
 
 abbrev pub beforeOf : State → Before
@@ -14,7 +14,7 @@ beforeOf s = record {
   noGroup = eqb (s .groups) 0;
   had11 = s .had .had11;
   dispensing = eqb (s .had .schedule) 4;
-  treating = oneOf (s .had .schedule) (1 ∷ 3 ∷ []);
+  treating = member (1 ∷ 3 ∷ []) (s .had .schedule);
   had51 = s .had .had51;
   had411 = s .had .had411;
   noRp = eqb (s .had .rp) 0;
@@ -30,5 +30,5 @@ askedOf s r = record {
   next = eqb (r .rp) (s .had .rp + 1);
   newer = ltb (s .day) (r .day);
   named = r .named;
-  material = oneOf (r .form) (9 ∷ 10 ∷ []);
+  material = member (9 ∷ 10 ∷ []) (r .form);
 }

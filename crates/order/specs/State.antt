@@ -4,12 +4,13 @@ use Prim.Native.Nat.{ℕ, _+_, _≤_, _<_}
 use mathlib.Core.Bool.{Bool, true, false, cond}
 use mathlib.Core.List.{[], _∷_}
 use lib.Dec.{eqb}
+use Rattle.lists.specs.Lists.{member}
 use Rattle.order.specs.declared.Had.{Had}
 use Rattle.order.specs.declared.State.{State}
 use Rattle.order.specs.declared.Facts.{Facts}
 use Rattle.order.specs.declared.Moved.{Moved}
 use Rattle.order.specs.declared.Moved.the-variants.{Refused, On}
-use Rattle.rules.specs.Places.{oneOf, inRp, inGroup}
+use Rattle.rules.specs.Places.{inRp, inGroup}
 use Rattle.order.specs.Questions.{beforeOf, askedOf}
 use Rattle.rules.specs.Rules.{refusal, unfinished}
 
@@ -75,7 +76,7 @@ groupOf s = cond (inGroup (s .place)) (s .groups) 0
 
 -- "line of the last preceding 201 for 281 and 291 (else 0)"
 unfoldable pub drugOf : State → ℕ
-drugOf s = cond (oneOf (s .place) (281 ∷ 291 ∷ [])) (s .had .drug) 0
+drugOf s = cond (member (281 ∷ 291 ∷ []) (s .place)) (s .had .drug) 0
 
 -- one more group, drug and line can be counted in 32 bits
 pub record Room (s : State) : Type 0 where

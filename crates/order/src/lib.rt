@@ -8,8 +8,9 @@ ghost use mathlib.Core.Path.{_≡_};
 ghost use mathlib.Core.Bool.{false, not, cond, _&&_};
 ghost use mathlib.Core.List.{[], _∷_};
 ghost use lib.Dec.{eqb};
+ghost use Rattle.lists.specs.Lists.{member};
 ghost use Rattle.order.specs.declared.Moved.the-variants.{On};
-ghost use Rattle.rules.specs.Places.{oneOf, inHead, inFront, inDrugs, inRp, inRest, inGroup};
+ghost use Rattle.rules.specs.Places.{inHead, inFront, inDrugs, inRp, inRest, inGroup};
 ghost use Rattle.order.specs.Questions.{beforeOf};
 ghost use Rattle.rules.specs.Rules.{lacking};
 ghost use Rattle.order.specs.State.{none, hadAfter, start, advance, rpOf, doctorOf, refusalOf, stepOf, finishOf, groupOf, drugOf, Room};
@@ -204,7 +205,7 @@ impl State {
 
     // Direction 1: "after an 11 with 1 or 3, no 51 or 55".
     fn barred(self) -> bool
-        ensures { λ b. ⌜ b ≡ (self .provider && oneOf (self .had .schedule) (1 ∷ 3 ∷ [])) ⌝ }
+        ensures { λ b. ⌜ b ≡ (self .provider && member (1 ∷ 3 ∷ []) (self .had .schedule)) ⌝ }
     {
         self.provider & ((self.had.schedule == 1) | (self.had.schedule == 3))
     }

@@ -13,9 +13,9 @@ use lib.Dec.{leb, eqb}
 use lib.ListN.{length}
 use Rattle.lists.proofs.Tests.{both}
 use Rattle.digits.specs.Digits.{spell, digitCount}
-use Rattle.digits.proofs.Numbers.{length-spell}
+use Rattle.digits.proofs.Numbers.{length-spell, count-4, count-most, count-up, some-digit, to-999}
 use Rattle.packing.specs.Packing.{total, concat, pack, Fits}
-use Rattle.packing.specs.Widths.{past, digitsOf, over, Plan, whole, split, fails, serves, tries, plan}
+use Rattle.packing.specs.Widths.{over, Plan, whole, split, fails, serves, tries, plan}
 use Rattle.packing.proofs.Packing.{Way, Found, lighter, ahead, pack-good, Taken, Good, way-of, pairs-same, pack-none}
 
 -- a division into two or more pieces for the capacity
@@ -23,7 +23,7 @@ pub record Divides {A : Type 0} (len : A → ℕ) (c : ℕ) (rs : List A) (xs : 
   pub all : concat xs ≡ rs
   pub two : 2 ≤ length xs
   pub most : length xs ≤ 999
-  pub fits : Fits len (over (digitsOf (length xs))) c 1 xs
+  pub fits : Fits len (over (digitCount (length xs))) c 1 xs
 
 -- a division into n pieces for the capacity
 pub data Division {A : Type 0} (len : A → ℕ) (c : ℕ) (rs : List A) : ℕ → Type 0 where
@@ -36,96 +36,20 @@ AtMost n whole = 1 ≤ n
 AtMost n (split xs) = length xs ≤ n
 AtMost n fails = ⊥
 
--- ---- digits
-
-past-to : (t n : ℕ) → n ≤ t → past t n ≡ 0
-unfolding past
-past-to t n h = rw (le-leb n t h, past)
-
-past-from : (t n : ℕ) → t < n → past t n ≡ 1
-unfolding past
-past-from t n h = rw (lt-leb n t h, past)
-
-past-up : (t m n : ℕ) → m ≤ n → past t m ≤ past t n
-past-up t m n h = go (leb m t) refl (leb n t) refl
-  where
-    go : (a : Bool) → leb m t ≡ a → (b : Bool) → leb n t ≡ b → past t m ≤ past t n
-    go true p b q = omega (arith, past-to t m (leb-true _ _ p))
-    go false p true q = absurd (omega (arith, leb-true, leb-false))
-    go false p false q = omega (arith, past-from t m (leb-false _ _ p), past-from t n (leb-false _ _ q))
-
-pub digits-up : (m n : ℕ) → m ≤ n → digitsOf m ≤ digitsOf n
-unfolding digitsOf
-digits-up m n h = omega (arith, past-up 9 m n h, past-up 99 m n h, past-up 999 m n h)
-
--- the digits, read off a number's bounds
-pub digits-1 : (n : ℕ) → n ≤ 9 → digitsOf n ≡ 1
-unfolding digitsOf
-digits-1 n h = omega (arith, past-to 9 n h, past-to 99 n (omega arith), past-to 999 n (omega arith))
-
-pub digits-2 : (n : ℕ) → 9 < n → n ≤ 99 → digitsOf n ≡ 2
-unfolding digitsOf
-digits-2 n g h = omega (arith, past-from 9 n g, past-to 99 n h, past-to 999 n (omega arith))
-
-pub digits-3 : (n : ℕ) → 99 < n → n ≤ 999 → digitsOf n ≡ 3
-unfolding digitsOf
-digits-3 n g h = omega (arith, past-from 9 n (omega arith), past-from 99 n g, past-to 999 n h)
-
-pub digits-4 : (n : ℕ) → 999 < n → digitsOf n ≡ 4
-unfolding digitsOf
-digits-4 n g = omega (arith, past-from 9 n (omega arith), past-from 99 n (omega arith), past-from 999 n g)
-
--- as many as spell it
-pub digits-count : (n : ℕ) → n ≤ 999 → digitsOf n ≡ digitCount n
-unfolding digitCount
-digits-count n h = go (leb n 9) refl (leb n 99) refl
-  where
-    go : (a : Bool) → leb n 9 ≡ a → (b : Bool) → leb n 99 ≡ b → digitsOf n ≡ cond a 1 (cond b 2 3)
-    go true p b q = digits-1 n (leb-true _ _ p)
-    go false p true q = digits-2 n (leb-false _ _ p) (leb-true _ _ q)
-    go false p false q = digits-3 n (leb-false _ _ q) h
-
-pub digits-1000 : (n : ℕ) → digitsOf n ≤ 3 → n ≤ 999
-unfolding digitsOf
-digits-1000 n h = go (leb n 999) refl
-  where
-    go : (a : Bool) → leb n 999 ≡ a → n ≤ 999
-    go true p = leb-true _ _ p
-    go false p =
-        let l : 999 < n = leb-false _ _ p in
-        absurd (omega (arith, past-from 999 n l, past-from 99 n (omega arith), past-from 9 n (omega arith)))
-
-past-one : (t n : ℕ) → past t n ≤ 1
-past-one t n = go (leb n t) refl
-  where
-    go : (a : Bool) → leb n t ≡ a → past t n ≤ 1
-    go true p = omega (arith, past-to t n (leb-true _ _ p))
-    go false p = omega (arith, past-from t n (leb-false _ _ p))
-
-pub digits-le : (n : ℕ) → n ≤ 999 → digitsOf n ≤ 3
-unfolding digitsOf
-digits-le n h = omega (arith, past-to 999 n h, past-one 99 n, past-one 9 n)
-
-pub digits-most : (n : ℕ) → digitsOf n ≤ 4
-unfolding digitsOf
-digits-most n = omega (arith, past-one 999 n, past-one 99 n, past-one 9 n)
+-- ---- what a piece holds besides its records
 
 -- line 1 with its end, the record 911 as it is spelled, and a line end
-pub over-counts : (n k : ℕ) → n ≤ 999 → k ≤ 999 → over (digitsOf n) k ≡ 13 + (3 + 1 + 14 + 1 + length (spell n) + 1 + length (spell k)) + 2
+pub over-counts : (n k : ℕ) → n ≤ 999 → k ≤ 999 → over (digitCount n) k ≡ 13 + (3 + 1 + 14 + 1 + length (spell n) + 1 + length (spell k)) + 2
 unfolding over
-over-counts n k h g = omega (arith, digits-count n h, digits-count k g, length-spell n h, length-spell k g)
+over-counts n k h g = omega (arith, length-spell n h, length-spell k g)
 
 pub over-most : (w k : ℕ) → over w k ≤ 39 + w
 unfolding over
-over-most w k = omega (arith, digits-most k)
-
-digits-pos : (n : ℕ) → 1 ≤ digitsOf n
-unfolding digitsOf
-digits-pos n = omega arith
+over-most w k = omega (arith, count-most k)
 
 pub over-up : (w i j : ℕ) → i ≤ j → over w i ≤ over w j
 unfolding over
-over-up w i j h = omega (arith, digits-up i j h)
+over-up w i j h = omega (arith, count-up i j h)
 
 pub over-wide : (w w′ k : ℕ) → w ≤ w′ → over w k ≤ over w′ k
 unfolding over
@@ -133,17 +57,24 @@ over-wide w w′ k h = omega arith
 
 -- ---- a width that serves
 
-serves-yes : (w n : ℕ) → digitsOf n ≡ w → 2 ≤ n → serves w n ≡ true
-unfolding serves
-serves-yes w n e h = rw (eq-eqb (digitsOf n) w e) (le-leb _ n (omega arith))
+few-digits : (n : ℕ) → digitCount n ≤ 3 → n ≤ 999
+few-digits n h = go (leb n 999) refl
+  where
+    go : (b : Bool) → leb n 999 ≡ b → n ≤ 999
+    go true e = leb-true n 999 e
+    go false e = absurd (omega (arith, count-4 n (leb-false n 999 e)))
 
-serves-no : (w n : ℕ) → (digitsOf n ≡ w → ⊥) → serves w n ≡ false
+serves-yes : (w n : ℕ) → digitCount n ≡ w → 2 ≤ n → serves w n ≡ true
 unfolding serves
-serves-no w n h = rw (ne-eqb (digitsOf n) w h)
+serves-yes w n e h = rw (eq-eqb (digitCount n) w e) (le-leb _ n (omega arith))
 
-pub serves-digits : (w n : ℕ) → serves w n ≡ true → (digitsOf n ≡ w) × (2 ≤ n)
+serves-no : (w n : ℕ) → (digitCount n ≡ w → ⊥) → serves w n ≡ false
 unfolding serves
-serves-digits w n e = let p = both (eqb (digitsOf n) w) _ e in (eqb-true _ _ (p .0), omega (arith, leb-true _ n (p .1)))
+serves-no w n h = rw (ne-eqb (digitCount n) w h)
+
+pub serves-digits : (w n : ℕ) → serves w n ≡ true → (digitCount n ≡ w) × (2 ≤ n)
+unfolding serves
+serves-digits w n e = let p = both (eqb (digitCount n) w) _ e in (eqb-true _ _ (p .0), omega (arith, leb-true _ n (p .1)))
 
 -- ---- the clauses of `tries` and `plan`
 
@@ -216,27 +147,27 @@ module _ {A : Type 0} (len : A → ℕ) (c : ℕ) (rs : List A) where
   -- ---- no division has fewer pieces
 
   abbrev Low : ℕ → Type 0
-  Low w = (xs : List (List A)) → pack len (over w) c 1 (over w 1) rs ≡ some xs → w ≤ digitsOf (length xs)
+  Low w = (xs : List (List A)) → pack len (over w) c 1 (over w 1) rs ≡ some xs → w ≤ digitCount (length xs)
 
-  fewest-step : (f w n : ℕ) → c < 13 + total len rs → over (digitsOf n) 1 ≤ c → w ≤ digitsOf n → Low w → (x : Found len (over w) c 1 (over w 1) rs n)
-      → (b : Bool) → eqb (digitsOf (length (x .runs))) w ≡ b → (suc w ≤ digitsOf n → Low (suc w) → AtMost n (tries len c f (suc w) rs))
+  fewest-step : (f w n : ℕ) → c < 13 + total len rs → over (digitCount n) 1 ≤ c → w ≤ digitCount n → Low w → (x : Found len (over w) c 1 (over w 1) rs n)
+      → (b : Bool) → eqb (digitCount (length (x .runs))) w ≡ b → (suc w ≤ digitCount n → Low (suc w) → AtMost n (tries len c f (suc w) rs))
       → AtMost n (tries len c (suc f) w rs)
   fewest-step f w n big fit a low x true e ih =
-      let t : 2 ≤ length (x .runs) = two w (x .runs) big (omega (arith, over-wide w (digitsOf n) 1 a)) (x .found) in
+      let t : 2 ≤ length (x .runs) = two w (x .runs) big (omega (arith, over-wide w (digitCount n) 1 a)) (x .found) in
       rw (tries-serve f w (x .runs) (x .found) (serves-yes w (length (x .runs)) (eqb-true _ _ e) t)) (omega (arith, x .few))
   fewest-step f w n big fit a low x false e ih =
-      let d : w ≤ digitsOf (length (x .runs)) = low (x .runs) (x .found) in
-      let ne : digitsOf (length (x .runs)) ≡ w → ⊥ = eqb-false _ _ e in
-      let l : suc w ≤ digitsOf (length (x .runs)) = omega arith in
-      let m : suc w ≤ digitsOf n = omega (arith, digits-up (length (x .runs)) n (omega (arith, x .few))) in
+      let d : w ≤ digitCount (length (x .runs)) = low (x .runs) (x .found) in
+      let ne : digitCount (length (x .runs)) ≡ w → ⊥ = eqb-false _ _ e in
+      let l : suc w ≤ digitCount (length (x .runs)) = omega arith in
+      let m : suc w ≤ digitCount n = omega (arith, count-up (length (x .runs)) n (omega (arith, x .few))) in
       rw (tries-skip f w (x .runs) (x .found) (serves-no w (length (x .runs)) ne))
-      (ih m (λ ys q. omega (arith, digits-up _ _ (wider w (suc w) (x .runs) ys (omega arith) (omega (arith, over-wide (suc w) (digitsOf n) 1 m)) (x .found) q))))
+      (ih m (λ ys q. omega (arith, count-up _ _ (wider w (suc w) (x .runs) ys (omega arith) (omega (arith, over-wide (suc w) (digitCount n) 1 m)) (x .found) q))))
 
-  fewest : (f w n : ℕ) → c < 13 + total len rs → over (digitsOf n) 1 ≤ c → Way len (over (digitsOf n)) c 1 (over (digitsOf n) 1) rs n
-      → w ≤ digitsOf n → digitsOf n < w + f → Low w → AtMost n (tries len c f w rs)
+  fewest : (f w n : ℕ) → c < 13 + total len rs → over (digitCount n) 1 ≤ c → Way len (over (digitCount n)) c 1 (over (digitCount n) 1) rs n
+      → w ≤ digitCount n → digitCount n < w + f → Low w → AtMost n (tries len c f w rs)
   fewest zero w n big fit y a b low = absurd (omega arith)
   fewest (suc f) w n big fit y a b low =
-      fewest-step f w n big fit a low (narrow w (digitsOf n) n a y) _ refl (λ m l. fewest f (suc w) n big fit y m (omega arith) l)
+      fewest-step f w n big fit a low (narrow w (digitCount n) n a y) _ refl (λ m l. fewest f (suc w) n big fit y m (omega arith) l)
 
   pub plan-whole : 13 + total len rs ≤ c → plan len c rs ≡ whole
   unfolding plan
@@ -250,9 +181,9 @@ module _ {A : Type 0} (len : A → ℕ) (c : ℕ) (rs : List A) where
   unfolding Taken Fits
   many-least [] h d = absurd (omega (arith, d .two))
   many-least (x ∷ xs) h d =
-      let f : Fits len (over (digitsOf (length (x ∷ xs)))) c 1 (x ∷ xs) = d .fits in
-      fewest 3 1 (length (x ∷ xs)) h (omega (arith, f .0)) (way-packed (digitsOf (length (x ∷ xs))) (x ∷ xs) (f, d .all))
-      (digits-pos (length (x ∷ xs))) (omega (arith, digits-le (length (x ∷ xs)) (d .most))) (λ ys q. digits-pos (length ys))
+      let f : Fits len (over (digitCount (length (x ∷ xs)))) c 1 (x ∷ xs) = d .fits in
+      fewest 3 1 (length (x ∷ xs)) h (omega (arith, f .0)) (way-packed (digitCount (length (x ∷ xs))) (x ∷ xs) (f, d .all))
+      (some-digit (length (x ∷ xs))) (omega (arith, to-999 (length (x ∷ xs)) (d .most))) (λ ys q. some-digit (length ys))
 
   -- THE FEWEST PIECES: the plan has at most as many pieces as any division, and fails only where there is none
   pub plan-fewest : (n : ℕ) → Division len c rs n → AtMost n (plan len c rs)
@@ -264,14 +195,14 @@ module _ {A : Type 0} (len : A → ℕ) (c : ℕ) (rs : List A) where
       go false q = rw (plan-cut (leb-false _ _ q)) (many-least xs (leb-false _ _ q) d)
 
   -- the same of a way through the records
-  pub way-fewest : (n : ℕ) → 2 ≤ n → n ≤ 999 → over (digitsOf n) 1 ≤ c → Way len (over (digitsOf n)) c 1 (over (digitsOf n) 1) rs n → AtMost n (plan len c rs)
+  pub way-fewest : (n : ℕ) → 2 ≤ n → n ≤ 999 → over (digitCount n) 1 ≤ c → Way len (over (digitCount n)) c 1 (over (digitCount n) 1) rs n → AtMost n (plan len c rs)
   way-fewest n a b f y = go (leb (13 + total len rs) c) refl
     where
       go : (b : Bool) → leb (13 + total len rs) c ≡ b → AtMost n (plan len c rs)
       go true q = rw (plan-whole (leb-true _ _ q)) (omega arith)
       go false q =
           rw (plan-cut (leb-false _ _ q))
-          (fewest 3 1 n (leb-false _ _ q) f y (digits-pos n) (omega (arith, digits-le n b)) (λ ys q. digits-pos (length ys)))
+          (fewest 3 1 n (leb-false _ _ q) f y (some-digit n) (omega (arith, to-999 n b)) (λ ys q. some-digit (length ys)))
 
   -- what the plan finds is a division
   abbrev pub Planned : Plan A → Type 0
@@ -286,16 +217,16 @@ module _ {A : Type 0} (len : A → ℕ) (c : ℕ) (rs : List A) where
 
   served : (w : ℕ) (xs : List (List A)) → w ≤ 3 → pack len (over w) c 1 (over w 1) rs ≡ some xs → serves w (length xs) ≡ true → Planned (split xs)
   served w xs h e s =
-      let d : (digitsOf (length xs) ≡ w) × (2 ≤ length xs) = serves-digits w (length xs) s in
+      let d : (digitCount (length xs) ≡ w) × (2 ≤ length xs) = serves-digits w (length xs) s in
       go d (leb (over w 1) c) refl
     where
-      go : (digitsOf (length xs) ≡ w) × (2 ≤ length xs) → (b : Bool) → leb (over w 1) c ≡ b → Planned (split xs)
+      go : (digitCount (length xs) ≡ w) × (2 ≤ length xs) → (b : Bool) → leb (over w 1) c ≡ b → Planned (split xs)
       go (d, t) true q =
           let g : Good len (over w) c 1 (over w 1) rs xs = packed w xs (leb-true _ _ q) e in
           record {
             all = g .1;
             two = t;
-            most = digits-1000 (length xs) (omega arith);
+            most = few-digits (length xs) (omega arith);
             fits = subst (λ (v : ℕ). Fits len (over v) c 1 xs) (sym d) (taken-fits w xs (g .0));
           }
       go (d, t) false q = absurd (omega (arith, pack-start len c w rs xs (leb-false _ _ q) e))

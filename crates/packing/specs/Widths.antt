@@ -7,19 +7,12 @@ use mathlib.Core.Option.{Option, none, some}
 use mathlib.Core.List.{List, [], _∷_}
 use lib.Dec.{leb, eqb}
 use lib.ListN.{length}
+use Rattle.digits.specs.Digits.{digitCount}
 use Rattle.packing.specs.Packing.{total, pack}
-
--- 1 past t, else 0
-unfoldable pub past : ℕ → ℕ → ℕ
-past t n = cond (leb n t) 0 1
-
--- the digits of a number below 1,000; 4 for any above
-unfoldable pub digitsOf : ℕ → ℕ
-digitsOf n = 1 + past 9 n + past 99 n + past 999 n
 
 -- what piece k holds besides its records, where the count has w digits: line 1 with its end, `911,ID,n,k`, and a line end
 unfoldable pub over : ℕ → ℕ → ℕ
-over w k = 13 + (3 + 1 + 14 + 1 + w + 1 + digitsOf k) + 2
+over w k = 13 + (3 + 1 + 14 + 1 + w + 1 + digitCount k) + 2
 
 pub data Plan (A : Type 0) : Type 0 where
   whole : Plan A
@@ -29,7 +22,7 @@ pub data Plan (A : Type 0) : Type 0 where
 
 -- "the count of pieces has that many digits"; "the pieces number n, 2 to 999"
 unfoldable pub serves : ℕ → ℕ → Bool
-serves w n = eqb (digitsOf n) w && leb 2 n
+serves w n = eqb (digitCount n) w && leb 2 n
 
 -- a packing that serves is the plan; else another is sought
 abbrev pub orNext : {A : Type 0} → ℕ → Plan A → Option (List (List A)) → Plan A

@@ -9,13 +9,13 @@ use mathlib.Core.List.{List, [], _∷_, _++_}
 use lib.Dec.{eqb}
 use lib.ListN.{length}
 use borrow.Author.Tests.{eq-eqb, ne-eqb, eqb-true}
-use Rattle.lists.specs.Lists.{All}
-use Rattle.lists.proofs.Tests.{both, neither, either, not-true′}
+use Rattle.lists.specs.Lists.{member, All}
+use Rattle.lists.proofs.Tests.{member-more, both, neither, either, not-true′}
 use Rattle.order.specs.declared.State.{State}
 use Rattle.order.specs.declared.Facts.{Facts}
 use Rattle.order.specs.declared.Moved.{Moved}
 use Rattle.order.specs.declared.Moved.the-variants.{Refused, On}
-use Rattle.rules.specs.Places.{oneOf, inHead, inFront, inRp, inDrugs, inGroup, mayFollow}
+use Rattle.rules.specs.Places.{inHead, inFront, inRp, inDrugs, inGroup, mayFollow}
 use Rattle.rules.specs.Questions.{Before, Asked}
 use Rattle.rules.specs.Rules.{closesRp, lacking, missing, valueWrong, continues}
 use Rattle.order.specs.State.{none, start, advance, refusalOf, stepOf}
@@ -23,7 +23,7 @@ use Rattle.order.specs.Run.{refusedAt, onward, runOf, after}
 use Rattle.order.proofs.Laws.{taken as takenLaw}
 use Rattle.grammar.specs.Grammar.{Details, rec, _⇒_}
 use Rattle.prefixes.specs.Prefixes.{late}
-use Rattle.verdict.proofs.Computed.{Fn, taut, In, every, every-at, at-each, agree, member, member-in, among}
+use Rattle.verdict.proofs.Computed.{Fn, taut, In, every, every-at, at-each, agree, member-in, among}
 use Rattle.verdict.proofs.Machine.{accepts, Core, before, asked, next, taken, runs, step, finish, coreOf, next-core}
 use Rattle.verdict.proofs.Steps.{st, frontPlaces, bf, drugPlaces, to401, to501, toEnd, rpOver, mayClose}
 use Rattle.verdict.proofs.Steps.{at-end, at-11, at-201, at-301, at-411}
@@ -96,7 +96,7 @@ module _ (d : ℕ) (e : Bool) (k : ℕ) (f i : Bool) (c : Bool) where
 
 -- nothing is too late, and the place has had what leads to it
 abbrev pub fine : ℕ → Bool → Bool → Bool → Bool → Bool → Bool → Bool
-fine p e q f i z u = not (late (bf true p e q false f i z u false)) && ((eqb p 51 ⇒ f) && (member p (301 ∷ 311 ∷ []) ⇒ u))
+fine p e q f i z u = not (late (bf true p e q false f i z u false)) && ((eqb p 51 ⇒ f) && (member (301 ∷ 311 ∷ []) p ⇒ u))
 
 module _ (p : ℕ) (d : ℕ) (e : Bool) (k : ℕ) (f i : Bool) (v : ℕ) (u c : Bool) (h : fine p e (eqb k 4) f i (eqb v 0) u ≡ true) where
   -- what is computed to follow at each place of a list
@@ -180,7 +180,7 @@ keptBy m a b c d h t r o f u g z =
 
 -- o: direction 1; f, u: a 51, a 301 was had; g: no group; z: no RP
 abbrev pub keptAt : ℕ → Fn 5
-keptAt p = keptBy (member p places) (eqb p 51) (member p (301 ∷ 311 ∷ [])) (inGroup p) (eqb p 701) (inHead p) (inFront p) (inRp p)
+keptAt p = keptBy (member places p) (eqb p 51) (member (301 ∷ 311 ∷ []) p) (inGroup p) (eqb p 701) (inHead p) (inFront p) (inRp p)
 
 abbrev pub Kept : Core → Type 0
 Kept c = keptAt (c .place) (c .provider) (c .had51) (c .had301) (c .noGroup) (eqb (c .rp) 0) ≡ true
@@ -214,7 +214,7 @@ groups-stand b a e =
     neither
     (not (b .provider) && eqb (b .place) 0 && not (eqb (a .number) 1)
     || b .provider && closesRp b a && not (b .had301)
-    || b .provider && oneOf (a .number) (5 ∷ 701 ∷ []) && inGroup (b .place) && lacking b)
+    || b .provider && member (5 ∷ 701 ∷ []) (a .number) && inGroup (b .place) && lacking b)
     (b .provider && eqb (a .number) 701 && b .noGroup) e .1
 
 three : (a b c : Bool) → a ≡ true → b ≡ false → c ≡ true → (a && (not b && c)) ≡ true
@@ -227,18 +227,13 @@ unfolding valueWrong continues
 new-value c b h k =
     ⊎-elim
     (λ e. let x = both (inDrugs (c .place)) (eqb (b .rp) (c .rp)) e in
-    ap (λ (n : ℕ). eqb n 0) (eqb-true (b .rp) (c .rp) (x .1)) ∙ not-true′ (eqb (c .rp) 0) (so (inRp (c .place)) (not (eqb (c .rp) 0)) k (in-rp (x .0))))
+    ap (λ (n : ℕ). eqb n 0) (eqb-true (b .rp) (c .rp) (x .1)) ∙ not-true′ (eqb (c .rp) 0) (so (inRp (c .place)) (not (eqb (c .rp) 0)) k
+    (member-more (201 ∷ 281 ∷ 291 ∷ []) (301 ∷ 311 ∷ 391 ∷ []) (c .place) (x .0))))
     (λ e. ne-eqb (b .rp) 0 (λ (z : b .rp ≡ 0). let w : b .rp ≡ c .rp + 1 = eqb-true (b .rp) (c .rp + 1) e in omega arith))
     (either (inDrugs (c .place) && eqb (b .rp) (c .rp)) (eqb (b .rp) (c .rp + 1))
     (sym (taut 3 (λ a s y. not (not (a && s) && not y || false)) (λ a s y. a && s || y) refl (inDrugs (c .place)) (eqb (b .rp) (c .rp))
     (eqb (b .rp) (c .rp + 1)))
     ∙ ap not h))
-  where
-    in-rp : inDrugs (c .place) ≡ true → inRp (c .place) ≡ true
-    in-rp e =
-        so (inDrugs (c .place)) (inRp (c .place))
-        (taut 6 (λ a b c d e f. a || b || c ⇒ a || b || c || d || e || f) (λ a b c d e f. true) refl
-        (eqb (c .place) 201) (eqb (c .place) 281) (eqb (c .place) 291) (eqb (c .place) 301) (eqb (c .place) 311) (eqb (c .place) 391)) e
 
 value-told : (c : Core) (r : Facts) → valueWrong (before c) (asked c r) ≡ false → (inRp (c .place) ⇒ not (eqb (c .rp) 0)) ≡ true
     → (eqb (r .number) 201 ⇒ not (eqb (r .rp) 0)) ≡ true
@@ -253,7 +248,7 @@ pub last-kept : (c : Core) → Kept c → (inRp (c .place) ⇒ not (eqb (c .rp) 
 last-kept c k =
     so (keptAt (c .place) (c .provider) (c .had51) (c .had301) (c .noGroup) (eqb (c .rp) 0)) (inRp (c .place) ⇒ not (eqb (c .rp) 0))
     (taut 8 (λ a b d e f g h i. a && (b && (d && (e && (f && (g && (h && i)))))) ⇒ i) (λ a b d e f g h i. true) refl
-    (member (c .place) places) (eqb (c .place) 51 ⇒ c .had51) (member (c .place) (301 ∷ 311 ∷ []) ⇒ c .had301) (inGroup (c .place) ⇒ not (c .noGroup))
+    (member places (c .place)) (eqb (c .place) 51 ⇒ c .had51) (member (301 ∷ 311 ∷ []) (c .place) ⇒ c .had301) (inGroup (c .place) ⇒ not (c .noGroup))
     (eqb (c .place) 701 && c .provider ⇒ not (c .noGroup)) (inHead (c .place) ⇒ c .noGroup) (inFront (c .place) ⇒ eqb (c .rp) 0)
     (inRp (c .place) ⇒ not (eqb (c .rp) 0))) k
 
@@ -262,7 +257,7 @@ unfolding mayFollow inGroup
 kept-next c r h k =
     let t = told c r h in
     let w = eqb (r .rp) 0 in
-    let m : In (c .place) places = member-in (c .place) places (both (member (c .place) places) _ k .0) in
+    let m : In (c .place) places = member-in (c .place) places (both (member places (c .place)) _ k .0) in
     let tested = every-at (keeps (r .number)) (every-at (λ n. every (keeps n) places) refl (known (c .place) (r .number) (t .follows))) m in
     let e = taut 6 (keepsOn (keptAt (c .place)) (keptAt (r .number)) (r .number)) (λ w o f u g z. true) (so (mayFollow (c .place) (r .number)) _ tested (t .follows))
     w (c .provider) (c .had51) (c .had301) (c .noGroup) (eqb (c .rp) 0) in

@@ -14,7 +14,7 @@ use Rattle.order.specs.declared.State.{State}
 use Rattle.order.specs.declared.Facts.{Facts}
 use Rattle.order.specs.declared.Moved.{Moved}
 use Rattle.order.specs.declared.Moved.the-variants.{Refused, On}
-use Rattle.lists.specs.Lists.{same, Res, refused}
+use Rattle.lists.specs.Lists.{member, same, Res, refused}
 use Rattle.lists.proofs.Tests.{same-true}
 use Rattle.characters.specs.Text.{text}
 use Rattle.characters.specs.Rows.{rows, flat, isLine, lineEnd, endMark}
@@ -35,7 +35,7 @@ use Rattle.grammar.specs.Grammar.{rec, _⇒_, Grammatical}
 use Rattle.verdict.specs.Acceptance.{linesThen, Reads, File}
 use Rattle.prefixes.proofs.Spelled.{Spelling, spell-all}
 use Rattle.prefixes.specs.Prefixes.{Followed, LinesBefore, LinesGoOn, late, tooLate, GoesOn, PrefixGoesOn}
-use Rattle.verdict.proofs.Computed.{Fn, In, here, each, every-at, at-each, member, member-in}
+use Rattle.verdict.proofs.Computed.{Fn, In, here, each, every-at, at-each, member-in}
 use Rattle.verdict.proofs.Machine.{sound, accepts, Core, before, next, taken, runs, step, finish, coreOf, machine-core}
 use Rattle.verdict.proofs.Steps.{st, bf, ask, to501, toEnd, headPlaces}
 use Rattle.verdict.proofs.Steps.{at-11}
@@ -181,7 +181,7 @@ provider p false c m k h =
 
 -- a state that taken records lead to
 goes : (c : Core) → Kept c → tooLate (before c) ≡ false → Completed c
-goes c k h = by (c .provider) refl (member-in (c .place) places (both (member (c .place) places) _ k .0))
+goes c k h = by (c .provider) refl (member-in (c .place) places (both (member places (c .place)) _ k .0))
   where
     by : (o : Bool) → c .provider ≡ o → In (c .place) places → Completed c
     by true q m =
@@ -203,11 +203,11 @@ too-late true p true c m k h rs e =
     ∙ rw (k, h))
 too-late true p false c m k h rs e =
     let x = at-each 6 (λ p e q f i z u. keptAt p true f u false z && (inGroup p && late (bf true p e q false f i z u false))
-    ⇒ member p groupPlaces && lostAt p e q f i z u)
+    ⇒ member groupPlaces p && lostAt p e q f i z u)
     (λ p e q f i z u. true) refl m (c .had11) (eqb (c .schedule) 4) (c .had51) (c .had411) (eqb (c .rp) 0) (c .had301) in
     let lostNow : Bool = lostAt p (c .had11) (eqb (c .schedule) 4) (c .had51) (c .had411) (eqb (c .rp) 0) (c .had301) in
-    let y = both (member p groupPlaces) lostNow
-    (so (keptAt p true (c .had51) (c .had301) false (eqb (c .rp) 0) && tooLate (before (seen true p false c))) (member p groupPlaces && lostNow) x
+    let y = both (member groupPlaces p) lostNow
+    (so (keptAt p true (c .had51) (c .had301) false (eqb (c .rp) 0) && tooLate (before (seen true p false c))) (member groupPlaces p && lostNow) x
     (rw (k, h))) in
     lost rs p (member-in p groupPlaces (y .0)) (c .day) (c .had11) (c .schedule) (c .had51) (c .had411) (c .rp) (c .had301) (not (c .noDoctor)) (y .1)
     (ap (λ (s : Core). runs s rs) (inside-is p c) ∙ e)
@@ -236,7 +236,7 @@ taken-goes o rs t = (to, from)
         by : (b : Bool) → tooLate (beforeOf (after (start o) rs)) ≡ b → b ≡ false
         by true q =
             let c : Core = coreOf (after (start o) rs) in
-            let m = member-in (c .place) places (both (member (c .place) places) _ kept .0) in
+            let m = member-in (c .place) places (both (member places (c .place)) _ kept .0) in
             absurd (too-late (c .provider) (c .place) (c .noGroup) c m kept q (a .more) (sym (behind (a .more)) ∙ grammar-machine o (rs ++ a .more) (a .has)))
         by false q = refl
 

@@ -9,12 +9,11 @@ use lib.Dec.{leb}
 use lib.ListN.{length, length-append}
 use borrow.Author.Tests.{le-leb}
 use Rattle.lists.specs.Lists.{bytes, empty, all, All}
-use Rattle.digits.specs.Digits.{isDigit, number, spell, digitCount}
+use Rattle.digits.specs.Digits.{isDigit, value as digitsValue, number, spell, digitCount}
 use Rattle.digits.specs.Short.{plainNumber}
 use Rattle.digits.proofs.Numbers.{number-spell, digits-spell, length-spell, some-digit}
 use Rattle.characters.specs.Cells.{fullRow, partRow, allowed, isPair}
 use Rattle.characters.specs.Text.{allChars}
-use Rattle.calendar.specs.Digits.{numberFrom}
 use Rattle.eras.specs.Day.{leap, monthLength, isReal, isDay}
 use Rattle.calendar.specs.Day.{gregorian}
 use Rattle.eras.specs.Era.{eraOf, eraOn}
@@ -57,7 +56,7 @@ plain-one = plain-of-spell 1 (omega arith) (omega arith)
 
 -- records without an RP value
 fixed : (o : Bool) → Line o (rec 1 plain) × Line o (rec 5 dated) × Line o (rec 11 medical) × Line o (rec 411 plain)
-unfolding bytes spell numberFrom leap monthLength isReal isDay gregorian eraOf eraOn inEra fromEra readDay table edge oneWidth prefecture decimal sized fault value itemFault itemValue itemsFault itemsValue rowIn rowOf codePair formPair pairs t911 recordFrom faultFrom faultWhere lineFault recordOf readLine factsOf
+unfolding bytes digitsValue spell leap monthLength isReal isDay gregorian eraOf eraOn inEra fromEra readDay table edge oneWidth prefecture decimal sized fault value itemFault itemValue itemsFault itemsValue rowIn rowOf codePair formPair pairs t911 recordFrom faultFrom faultWhere lineFault recordOf readLine factsOf
 fixed o = (
   record { line = bytes "1,A,1,19890108,,,,,,,"; rec′ = _; read = refl; facts = refl; short = omega arith },
   record { line = bytes "5,19890108,1"; rec′ = _; read = refl; facts = refl; short = omega arith },

@@ -7,13 +7,14 @@ use mathlib.Core.Bool.{Bool, true, false, not, _&&_, _||_, false≢true}
 use mathlib.Core.List.{List, [], _∷_}
 use lib.Dec.{eqb}
 use borrow.Author.Tests.{ne-eqb, eqb-true}
+use Rattle.lists.specs.Lists.{member}
 use Rattle.lists.proofs.Tests.{both}
 use Rattle.order.specs.declared.Facts.{Facts}
 use Rattle.rules.specs.Places.{inFront, inRp, inDrugs, mayFollow}
 use Rattle.rules.specs.Rules.{unfinished}
 use Rattle.grammar.specs.Grammar.{Details, rec, _⇒_}
 use Rattle.prefixes.specs.Prefixes.{late}
-use Rattle.verdict.proofs.Computed.{Fn, In, Each, each, every, every-at, at-each, agree, member, member-in}
+use Rattle.verdict.proofs.Computed.{Fn, In, Each, each, every, every-at, at-each, agree, member-in}
 use Rattle.verdict.proofs.Machine.{Core, runs, finish}
 use Rattle.verdict.proofs.Steps.{st, bf, to401, to411, to501, to601, toEnd, rpPlaces, drugPlaces, rpOver, mayClose, treats}
 use Rattle.verdict.proofs.Steps.{at-end, at-5, at-701, at-55, at-201, at-401, at-411, at-501, at-601}
@@ -54,8 +55,8 @@ module _ (rs : List Facts) (ih : Lost rs) (p : ℕ) (m : In p groupPlaces) (d : 
   abbrev Refused : ℕ → Type 0
   Refused n = runs now (rec n b ∷ rs) ≡ true → ⊥
 
-  narrow : (n : ℕ) (ys : List ℕ) → every (λ p. mayFollow p n ⇒ member p ys) groupPlaces ≡ true → mayFollow p n ≡ true → In p ys
-  narrow n ys t h = member-in p ys (so (mayFollow p n) (member p ys) (every-at (λ p. mayFollow p n ⇒ member p ys) t m) h)
+  narrow : (n : ℕ) (ys : List ℕ) → every (λ p. mayFollow p n ⇒ member ys p) groupPlaces ≡ true → mayFollow p n ≡ true → In p ys
+  narrow n ys t h = member-in p ys (so (mayFollow p n) (member ys p) (every-at (λ p. mayFollow p n ⇒ member ys p) t m) h)
 
   -- it stays too late behind a record of number n, which was taken under the condition X
   keeps : (n : ℕ) (ys : List ℕ) (X : ℕ → Fn 6) (i2 u2 : Bool → Bool)

@@ -9,10 +9,10 @@ use mathlib.Core.Bool.{Bool, false, not, _&&_, _||_}
 use mathlib.Core.List.{List, [], _∷_, _++_, map}
 use lib.Dec.{eqb}
 use lib.ListN.{length}
-use Rattle.lists.specs.Lists.{ok, refused}
+use Rattle.lists.specs.Lists.{member, ok, refused}
 use Rattle.records.specs.Records.{Record, header}
 use Rattle.order.specs.declared.Facts.{Facts}
-use Rattle.rules.specs.Places.{oneOf, inGroup}
+use Rattle.rules.specs.Places.{inGroup}
 use Rattle.rules.specs.Questions.{Before}
 use Rattle.order.specs.Questions.{beforeOf}
 use Rattle.order.specs.State.{start}
@@ -34,7 +34,7 @@ late51 b = b .dispensing && not (b .had51) && (not (b .noRp) || eqb (b .place) 5
 
 -- "a group without RP has a 411", and a 411 stands before the 501s and 601s
 abbrev pub late411 : Before → Bool
-late411 b = oneOf (b .place) (501 ∷ 601 ∷ []) && b .noRp && not (b .had411)
+late411 b = member (501 ∷ 601 ∷ []) (b .place) && b .noRp && not (b .had411)
 
 -- "each RP has 301", and a 301 stands before the 391s
 abbrev pub late301 : Before → Bool

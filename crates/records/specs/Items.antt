@@ -7,7 +7,7 @@ use mathlib.Core.List.{List, [], _∷_, _++_}
 use lib.Dec.{leb, eqb}
 use lib.ListN.{length, getD, take, drop}
 use Rattle.lists.specs.Lists.{within, empty, all, same, last, upTo, _orElse_, unless}
-use Rattle.digits.specs.Digits.{isDigit, number, spell}
+use Rattle.digits.specs.Digits.{isDigit, value as digitsValue, number, spell}
 use Rattle.calendar.specs.declared.DateRead.{DateRead}
 use Rattle.calendar.specs.declared.DateRead.the-variants.{Date, NotADate}
 use Rattle.calendar.specs.Era.{readDay}
@@ -78,9 +78,9 @@ unhyphened s = take 3 s ++ drop 4 s
 unfoldable pub postal : List ℕ → Bool
 postal s = seven s || (eqb (getD s 3 0) 0x2d && seven (unhyphened s))
 
--- F: "01–47". 15-106 appended table 2 lists these codes; 3.2.9, records 11 and 51: type X, two bytes. 528 is what the bytes of 00 give
+-- F: "01–47". 15-106 appended table 2 lists these codes; 3.2.9, records 11 and 51: type X, two bytes
 unfoldable pub prefecture : List ℕ → Bool
-prefecture s = eqb (length s) 2 && (all isDigit s && within (528 + 1) (528 + 47) (getD s 0 0 * 10 + getD s 1 0))
+prefecture s = eqb (length s) 2 && (all isDigit s && within 1 47 (digitsValue 0 s))
 
 abbrev pub isPeriod : ℕ → Bool
 isPeriod b = eqb b 0x2e

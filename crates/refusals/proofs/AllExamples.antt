@@ -3,10 +3,9 @@ use mathlib.Core.Path.{_≡_, refl}
 use mathlib.Core.Bool.{true}
 use mathlib.Core.List.{_++_}
 use Rattle.lists.specs.Lists.{bytes}
-use Rattle.digits.specs.Digits.{value, number, spell}
+use Rattle.digits.specs.Digits.{value, number, spell, digitCount}
 use Rattle.digits.specs.Short.{plainNumber}
 use Rattle.characters.specs.Rows.{isLine}
-use Rattle.calendar.specs.Digits.{numberFrom}
 use Rattle.eras.specs.Day.{leap, monthLength, isReal, isDay}
 use Rattle.eras.specs.Era.{eraOf, eraOn, writeDay}
 use Rattle.calendar.specs.Day.{gregorian}
@@ -28,7 +27,7 @@ use Rattle.notebook.specs.Index.{entryOf, entered, entriesFrom, entriesBehind, 
 use Rattle.notebook.specs.Same.{arrange}
 use Rattle.notebook.specs.Canonical.{recordRows, writeFile, canonicalBytes, canonicalFile, canonicalResult}
 use Rattle.packing.specs.Packing.{total, put, pack}
-use Rattle.packing.specs.Widths.{past, digitsOf, over, serves, tries, plan}
+use Rattle.packing.specs.Widths.{over, serves, tries, plan}
 use Rattle.division.specs.Marks.{validID, markLine, readMark}
 use Rattle.division.specs.Pieces.{kindOf, brokenFrom, brokenLine, bodyOf, piecesIn, splitRows, split, fileOf}
 use Rattle.division.specs.Join.{unmarked, partOf, partsOf, agree, find, gather, joinPieces, joinedFile, joinFile, joinResult}
@@ -40,5 +39,5 @@ pub examples-reach : allReached ≡ true
 examples-reach = refl
 
 pub examples-hold : allHold (checks ++ (indexes ++ (canonicals ++ (cuts ++ joins)))) ≡ true
-unfolding answerIn six entryOf entered entriesFrom entriesBehind entriesOf numbers numbersOf bytes value number spell plainNumber isLine numberFrom leap monthLength isReal isDay gregorian eraOf eraOn inEra fromEra readDay writeDay joined table edge oneWidth decimal sized fault valueOf seven postal prefecture itemFault itemValue itemsFault itemsValue rowIn rowOf pairs codePair t911 isMark recordFrom faultFrom faultWhere lineFault recordOf header write inGroup mayFollow pairBroken misplaced continues closesRp lacking missing valueWrong newerGroup refusal unfinished none start hadAfter advance refusalOf stepOf finishOf factsOf stepLine closed onward recordsFrom readRows readFile checkResult indexResult recordRows arrange writeFile canonicalBytes canonicalFile canonicalResult total put pack past digitsOf over serves tries plan validID markLine readMark kindOf brokenFrom brokenLine bodyOf piecesIn splitRows split fileOf unmarked partOf partsOf agree find gather joinPieces joinedFile joinFile joinResult pieceBytes numbered cutting cutList cutResult lineEnds
+unfolding answerIn six entryOf entered entriesFrom entriesBehind entriesOf numbers numbersOf bytes value number spell plainNumber isLine leap monthLength isReal isDay gregorian eraOf eraOn inEra fromEra readDay writeDay joined table edge oneWidth decimal sized fault valueOf seven postal prefecture itemFault itemValue itemsFault itemsValue rowIn rowOf pairs codePair t911 isMark recordFrom faultFrom faultWhere lineFault recordOf header write inGroup mayFollow pairBroken misplaced continues closesRp lacking missing valueWrong newerGroup refusal unfinished none start hadAfter advance refusalOf stepOf finishOf factsOf stepLine closed onward recordsFrom readRows readFile checkResult indexResult recordRows arrange writeFile canonicalBytes canonicalFile canonicalResult total put pack digitCount over serves tries plan validID markLine readMark kindOf brokenFrom brokenLine bodyOf piecesIn splitRows split fileOf unmarked partOf partsOf agree find gather joinPieces joinedFile joinFile joinResult pieceBytes numbered cutting cutList cutResult lineEnds
 examples-hold = refl

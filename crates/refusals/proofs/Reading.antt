@@ -8,7 +8,7 @@ use mathlib.Core.List.{List, [], _∷_, _++_}
 use borrow.Author.Tests.{ne-eqb, lt-leb}
 use lib.Dec.{eqb, leb}
 use lib.ListN.{length}
-use Rattle.lists.specs.Lists.{same, member, orMember, Res, ok, refused}
+use Rattle.lists.specs.Lists.{same, member, Res, ok, refused}
 use Rattle.lists.proofs.Tests.{cond-case, both, below, below-at, not-true′}
 use Rattle.characters.specs.Text.{text}
 use Rattle.characters.specs.Rows.{rows, flat, isLine, endMark}
@@ -37,10 +37,10 @@ Refuses P (refused n line) = P n line
 
 -- every number to 16 is one of xs or one of ns
 abbrev pub Covers : List ℕ → List ℕ → Type 0
-Covers xs ns = below (λ m. orMember (member xs m) ns m) 17 ≡ true
+Covers xs ns = below (λ m. member xs m || member ns m) 17 ≡ true
 
 pub covered : (xs ns : List ℕ) (n : ℕ) → Covers xs ns → n ≤ 16 → member xs n ≡ false → member ns n ≡ true
-covered xs ns n c h e = rw e at (below-at (λ m. orMember (member xs m) ns m) 17 c n (omega arith))
+covered xs ns n c h e = rw e at (below-at (λ m. member xs m || member ns m) 17 c n (omega arith))
 
 -- "Number 1 comes first, with line 0"; "Numbers 17–20 have line 0"
 pub without-line : {ns s : List ℕ} (n : ℕ) → 0 < n → member ns n ≡ true → member lineless n ≡ true → Given ns s n 0
@@ -161,5 +161,5 @@ file-refuses ns c s =
   where
     told : (n line : ℕ) → FileRefused (flat (rows s)) n line → Given ns s n line
     told n line x =
-        with-line n line (x .low) (x .high) (covered (0 ∷ []) ns n c (x .high) (ne-eqb n 0 (λ e. omega (arith, x .low))))
+        with-line n line (x .low) (x .high) (covered (0 ∷ []) ns n c (x .high) (rw (ne-eqb n 0 (λ e. omega (arith, x .low)))))
         (subst (λ (t : List ℕ). AtLine t line) (flat-rows s) (x .at))

@@ -4,7 +4,7 @@ use Prim.Native.Nat.{ℕ}
 use mathlib.Core.Bool.{Bool, true, false, not, _&&_, Bool·beq}
 use mathlib.Core.List.{List, [], _∷_}
 use lib.Dec.{eqb}
-use Rattle.rules.specs.Places.{oneOf}
+use Rattle.lists.specs.Lists.{member}
 use Rattle.rules.specs.Questions.{Before, Asked}
 use Rattle.rules.specs.Rules.{refusal, unfinished}
 
@@ -16,15 +16,15 @@ abbrev pub seen : Bool → ℕ → ℕ → List ℕ → Before
 seen provider place schedule had = record {
   provider = provider;
   place = place;
-  noGroup = not (oneOf 5 had);
-  had11 = oneOf 11 had;
+  noGroup = not (member had 5);
+  had11 = member had 11;
   dispensing = eqb schedule 4;
-  treating = oneOf schedule (1 ∷ 3 ∷ []);
-  had51 = oneOf 51 had;
-  had411 = oneOf 411 had;
-  noRp = not (oneOf 201 had);
-  had301 = oneOf 301 had;
-  noDoctor = not (oneOf 55 had);
+  treating = member (1 ∷ 3 ∷ []) schedule;
+  had51 = member had 51;
+  had411 = member had 411;
+  noRp = not (member had 201);
+  had301 = member had 301;
+  noDoctor = not (member had 55);
 }
 
 -- in direction 1, in direction 2

@@ -4,15 +4,7 @@ use Prim.Native.Nat.{ℕ}
 use mathlib.Core.Bool.{Bool, false, cond, _||_}
 use mathlib.Core.List.{List, [], _∷_}
 use lib.Dec.{eqb}
-
--- b, or p is one of xs: joined from the left, as the code joins them
-abbrev pub orOneOf : Bool → ℕ → List ℕ → Bool
-orOneOf b p [] = b
-orOneOf b p (x ∷ xs) = orOneOf (b || eqb p x) p xs
-
--- p is one of xs
-abbrev pub oneOf : ℕ → List ℕ → Bool
-oneOf p xs = orOneOf false p xs
+use Rattle.lists.specs.Lists.{member}
 
 -- the answer of the row n, false where there is no such row
 abbrev pub rowOf : ℕ → List (ℕ × Bool) → Bool
@@ -23,23 +15,23 @@ rowOf n (x ∷ xs) = cond (eqb n (x .0)) (x .1) (rowOf n xs)
 
 -- "At most one 1; then any 2s, then 3s, then 4s", and before them
 abbrev pub inHead : ℕ → Bool
-inHead p = oneOf p (0 ∷ 1 ∷ 2 ∷ 3 ∷ 4 ∷ [])
+inHead p = member (0 ∷ 1 ∷ 2 ∷ 3 ∷ 4 ∷ []) p
 
 -- "5 (always, here), at most one 11, 15 and 51 each": a group before its prescriptions
 abbrev pub inFront : ℕ → Bool
-inFront p = oneOf p (5 ∷ 11 ∷ 15 ∷ 51 ∷ [])
+inFront p = member (5 ∷ 11 ∷ 15 ∷ 51 ∷ []) p
 
 -- "drugs (201, any 281s, then any 291s)"
 abbrev pub inDrugs : ℕ → Bool
-inDrugs p = oneOf p (201 ∷ 281 ∷ 291 ∷ [])
+inDrugs p = member (201 ∷ 281 ∷ 291 ∷ []) p
 
 -- a prescription (RP): "one or more drugs (..), at most one 301, 311s only after a 301, then any 391s"
 abbrev pub inRp : ℕ → Bool
-inRp p = oneOf p (201 ∷ 281 ∷ 291 ∷ 301 ∷ 311 ∷ 391 ∷ [])
+inRp p = member (201 ∷ 281 ∷ 291 ∷ 301 ∷ 311 ∷ 391 ∷ []) p
 
 -- "then any 401s, 411s, 501s, 601s"
 abbrev pub inRest : ℕ → Bool
-inRest p = oneOf p (401 ∷ 411 ∷ 501 ∷ 601 ∷ [])
+inRest p = member (401 ∷ 411 ∷ 501 ∷ 601 ∷ []) p
 
 -- a group is open from its 5 on: it "closes at the next 5, a 701 or the end"
 unfoldable pub inGroup : ℕ → Bool
@@ -47,7 +39,7 @@ inGroup p = inFront p || eqb p 55 || inRp p || inRest p
 
 -- what belongs to the open RP by its number alone; a 201 may begin the next
 abbrev pub ofOpenRp : ℕ → Bool
-ofOpenRp n = oneOf n (281 ∷ 291 ∷ 301 ∷ 311 ∷ 391 ∷ [])
+ofOpenRp n = member (281 ∷ 291 ∷ 301 ∷ 311 ∷ 391 ∷ []) n
 
 -- ---- the pattern
 
@@ -56,23 +48,23 @@ ofOpenRp n = oneOf n (281 ∷ 291 ∷ 301 ∷ 311 ∷ 391 ∷ [])
 abbrev pub rows : ℕ → List (ℕ × Bool)
 rows p =
     (1, eqb p 0)
-    ∷ (2, oneOf p (0 ∷ 1 ∷ 2 ∷ []))
-    ∷ (3, oneOf p (0 ∷ 1 ∷ 2 ∷ 3 ∷ []))
+    ∷ (2, member (0 ∷ 1 ∷ 2 ∷ []) p)
+    ∷ (3, member (0 ∷ 1 ∷ 2 ∷ 3 ∷ []) p)
     ∷ (4, inHead p)
     ∷ (5, inHead p || inFront p || inRp p || inRest p)
     ∷ (11, eqb p 5)
-    ∷ (15, oneOf p (5 ∷ 11 ∷ []))
-    ∷ (51, oneOf p (5 ∷ 11 ∷ 15 ∷ []))
+    ∷ (15, member (5 ∷ 11 ∷ []) p)
+    ∷ (51, member (5 ∷ 11 ∷ 15 ∷ []) p)
     ∷ (55, inFront p || inRp p)
     ∷ (201, inFront p || eqb p 55 || inRp p)
-    ∷ (281, oneOf p (201 ∷ 281 ∷ []))
+    ∷ (281, member (201 ∷ 281 ∷ []) p)
     ∷ (291, inDrugs p)
     ∷ (301, inDrugs p)
-    ∷ (311, oneOf p (301 ∷ 311 ∷ []))
+    ∷ (311, member (301 ∷ 311 ∷ []) p)
     ∷ (391, inRp p)
     ∷ (401, inFront p || inRp p || eqb p 401)
-    ∷ (411, inFront p || inRp p || oneOf p (401 ∷ 411 ∷ []))
-    ∷ (501, inFront p || inRp p || oneOf p (401 ∷ 411 ∷ 501 ∷ []))
+    ∷ (411, inFront p || inRp p || member (401 ∷ 411 ∷ []) p)
+    ∷ (501, inFront p || inRp p || member (401 ∷ 411 ∷ 501 ∷ []) p)
     ∷ (601, inFront p || inRp p || inRest p)
     ∷ (701, inHead p || inFront p || inRp p || inRest p || eqb p 701)
     ∷ []

@@ -3,7 +3,8 @@ use Prim.Native.Nat.{ℕ}
 use mathlib.Core.Bool.{Bool, not, cond, _&&_, _||_}
 use mathlib.Core.List.{[], _∷_}
 use lib.Dec.{eqb}
-use Rattle.rules.specs.Places.{oneOf, inDrugs, inRp, inGroup, ofOpenRp, mayFollow}
+use Rattle.lists.specs.Lists.{member}
+use Rattle.rules.specs.Places.{inDrugs, inRp, inGroup, ofOpenRp, mayFollow}
 use Rattle.rules.specs.Questions.{Before, Asked}
 
 -- ---- 12 pair
@@ -25,8 +26,8 @@ unfoldable pub misplaced : Before → Asked → Bool
 misplaced b r =
     not (mayFollow (b .place) (r .number))
     || eqb (r .number) 55 && inRp (b .place) && b .noDoctor
-    || b .provider && oneOf (r .number) (51 ∷ 55 ∷ []) && b .treating
-    || b .provider && eqb (b .place) 51 && not (oneOf (r .number) (55 ∷ 201 ∷ []))
+    || b .provider && member (51 ∷ 55 ∷ []) (r .number) && b .treating
+    || b .provider && eqb (b .place) 51 && not (member (55 ∷ 201 ∷ []) (r .number))
     || b .provider && eqb (r .number) 401 && b .noRp
 
 -- ---- 14 missing
@@ -53,7 +54,7 @@ unfoldable pub missing : Before → Asked → Bool
 missing b r =
     not (b .provider) && eqb (b .place) 0 && not (eqb (r .number) 1)
     || b .provider && closesRp b r && not (b .had301)
-    || b .provider && oneOf (r .number) (5 ∷ 701 ∷ []) && inGroup (b .place) && lacking b
+    || b .provider && member (5 ∷ 701 ∷ []) (r .number) && inGroup (b .place) && lacking b
     || b .provider && eqb (r .number) 701 && b .noGroup
 
 -- ---- 15 RP

@@ -7,13 +7,14 @@ use mathlib.Core.Bool.{Bool, true, false, not, cond, _&&_, _||_, false≢true}
 use mathlib.Core.List.{List, [], _∷_, _++_}
 use lib.Dec.{eqb}
 use borrow.Author.Tests.{eq-eqb, eqb-true}
+use Rattle.lists.specs.Lists.{member}
 use Rattle.lists.proofs.Tests.{both, either, or-second, not-true′, not-false′}
 use Rattle.order.specs.declared.Facts.{Facts}
 use Rattle.rules.specs.Places.{inFront, inRp, inDrugs, rowOf, rows, mayFollow}
 use Rattle.rules.specs.Rules.{pairBroken, misplaced, continues, missing, valueWrong, newerGroup, refusal, unfinished}
 use Rattle.order.specs.State.{none, start}
 use Rattle.grammar.specs.Grammar.{Details, Tree, rec, opt, any, records, _⇒_, Grammatical}
-use Rattle.verdict.proofs.Computed.{taut, In, here, there, Each, each, every, every-at, at-each, member, member-in}
+use Rattle.verdict.proofs.Computed.{taut, In, here, there, Each, each, every, every-at, at-each, member-in}
 use Rattle.verdict.proofs.Machine.{Core, before, asked, taken, next, runs, finish, accepts, coreOf, machine-core}
 use Rattle.verdict.proofs.Steps.{rpPlaces, drugPlaces, frontPlaces, to401, to411, to501, to601, toEnd, headPlaces}
 use Rattle.verdict.proofs.Prescriptions.{in-rp}
@@ -46,8 +47,8 @@ first-or P a f here = a
 first-or P a f (there m) = f m
 
 -- the places before a record of number n
-pub before-n : (n : ℕ) (ys : List ℕ) → every (λ p. mayFollow p n ⇒ member p ys) places ≡ true → {p : ℕ} → In p places → mayFollow p n ≡ true → In p ys
-before-n n ys t {p} m h = member-in p ys (so (mayFollow p n) (member p ys) h (every-at (λ p. mayFollow p n ⇒ member p ys) t m))
+pub before-n : (n : ℕ) (ys : List ℕ) → every (λ p. mayFollow p n ⇒ member ys p) places ≡ true → {p : ℕ} → In p places → mayFollow p n ≡ true → In p ys
+before-n n ys t {p} m h = member-in p ys (so (mayFollow p n) (member ys p) h (every-at (λ p. mayFollow p n ⇒ member ys p) t m))
   where
     so : (a b : Bool) → a ≡ true → (a ⇒ b) ≡ true → b ≡ true
     so true b h g = g
@@ -253,7 +254,7 @@ module _ (rs : List Facts) (ih : Shaped rs) (s : Core) (p : ℕ) (m : In p place
   Step n = runs now (rec n b ∷ rs) ≡ true → Rest p (vAt p v) (cAt p c) (rec n b ∷ rs)
 
   -- what is still to come behind it
-  then : (n : ℕ) → member n places ≡ true → runs (at (next now (rec n b)) n (vAt p v) (cAt p c)) rs ≡ true → Rest n (vAt n (vAt p v)) (cAt n (cAt p c)) rs
+  then : (n : ℕ) → member places n ≡ true → runs (at (next now (rec n b)) n (vAt p v) (cAt p c)) rs ≡ true → Rest n (vAt n (vAt p v)) (cAt n (cAt p c)) rs
   then n e z = ih (next now (rec n b)) n (member-in n places e) (vAt p v) (cAt p c) z
 
   step-1 : Step 1

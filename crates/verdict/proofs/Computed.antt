@@ -7,6 +7,7 @@ use mathlib.Core.Bool.{Bool, true, false, _&&_, _||_, false≢true}
 use mathlib.Core.List.{List, [], _∷_}
 use lib.Dec.{eqb}
 use borrow.Author.Tests.{eqb-true}
+use Rattle.lists.specs.Lists.{member}
 use Rattle.lists.proofs.Tests.{both}
 
 -- ---- all cases of some Booleans
@@ -74,22 +75,18 @@ every-at {p} f h (there {x = x} {xs = xs} m) = every-at f (both (f x) (every f x
 pub at-each : {p : ℕ} {xs : List ℕ} (k : ℕ) (f g : ℕ → Fn k) → every (λ x. agree k (f x) (g x)) xs ≡ true → In p xs → Equal k (f p) (g p)
 at-each {p} k f g e m = taut k (f p) (g p) (every-at (λ x. agree k (f x) (g x)) e m)
 
--- membership as a test
-abbrev pub member : ℕ → List ℕ → Bool
-member p [] = false
-member p (x ∷ xs) = eqb p x || member p xs
-
-pub member-in : (p : ℕ) (xs : List ℕ) → member p xs ≡ true → In p xs
+-- what passes the test of membership
+pub member-in : (p : ℕ) (xs : List ℕ) → member xs p ≡ true → In p xs
 member-in p [] h = absurd (false≢true h)
 member-in p (x ∷ xs) h = by (eqb p x) refl h (member-in p xs)
   where
-    by : (b : Bool) → eqb p x ≡ b → (b || member p xs) ≡ true → (member p xs ≡ true → In p xs) → In p (x ∷ xs)
+    by : (b : Bool) → eqb p x ≡ b → (b || member xs p) ≡ true → (member xs p ≡ true → In p xs) → In p (x ∷ xs)
     by true e h f = subst (λ y. In p (y ∷ xs)) (eqb-true p x e) here
     by false e h f = there (f h)
 
 -- places of one list that are among others
-pub among : {p : ℕ} {xs : List ℕ} (ys : List ℕ) → every (λ x. member x ys) xs ≡ true → In p xs → In p ys
-among {p} ys e m = member-in p ys (every-at (λ x. member x ys) e m)
+pub among : {p : ℕ} {xs : List ℕ} (ys : List ℕ) → every (member ys) xs ≡ true → In p xs → In p ys
+among {p} ys e m = member-in p ys (every-at (member ys) e m)
 
 pub decide-in : (n : ℕ) (xs : List ℕ) → In n xs ⊎ Each (λ x. eqb n x ≡ false) xs
 decide-in n [] = inr tt

@@ -9,9 +9,8 @@ use Rattle.rules.specs.Places.{inGroup, mayFollow}
 use Rattle.rules.specs.Rules.{pairBroken, misplaced, continues, closesRp, lacking, missing, valueWrong, newerGroup, refusal, unfinished}
 use Rattle.order.specs.State.{none, start, hadAfter, advance, refusalOf, finishOf}
 use Rattle.lists.specs.Lists.{bytes}
-use Rattle.digits.specs.Digits.{spell}
+use Rattle.digits.specs.Digits.{value as digitsValue, spell}
 use Rattle.characters.specs.Rows.{isLine}
-use Rattle.calendar.specs.Digits.{numberFrom}
 use Rattle.eras.specs.Day.{leap, monthLength, isReal, isDay}
 use Rattle.calendar.specs.Day.{gregorian}
 use Rattle.eras.specs.Era.{eraOf, eraOn}
@@ -48,5 +47,5 @@ wrong-hold = none-has wrong refl
 
 -- document 01's file of 37 bytes is a file in the sense of specs/Acceptance.antt
 pub small-file : Carries smallFile 1 0 0
-unfolding bytes spell isLine numberFrom leap monthLength isReal isDay gregorian eraOf eraOn inEra fromEra readDay table edge oneWidth decimal sized fault value itemFault itemValue itemsFault itemsValue rowIn rowOf pairs t911 recordFrom faultFrom faultWhere lineFault recordOf header inGroup mayFollow pairBroken misplaced closesRp lacking missing valueWrong newerGroup refusal unfinished none start hadAfter advance refusalOf stepOf finishOf factsOf stepLine closed onward recordsFrom readRows readFile count checkResult
+unfolding bytes spell isLine digitsValue leap monthLength isReal isDay gregorian eraOf eraOn inEra fromEra readDay table edge oneWidth decimal sized fault value itemFault itemValue itemsFault itemsValue rowIn rowOf pairs t911 recordFrom faultFrom faultWhere lineFault recordOf header inGroup mayFollow pairBroken misplaced closesRp lacking missing valueWrong newerGroup refusal unfinished none start hadAfter advance refusalOf stepOf finishOf factsOf stepLine closed onward recordsFrom readRows readFile count checkResult
 small-file = check-is-grammar smallFile 1 0 0 .0 refl

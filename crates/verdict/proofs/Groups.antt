@@ -8,7 +8,7 @@ use mathlib.Core.Option.{Option, none, some}
 use mathlib.Core.List.{List, [], _∷_}
 use lib.Dec.{leb, ltb, eqb}
 use borrow.Author.Tests.{le-leb, lt-leb, leb-true, leb-false}
-use Rattle.lists.proofs.Tests.{both}
+use Rattle.lists.proofs.Tests.{member-left, both}
 use Rattle.order.specs.declared.Facts.{Facts}
 use Rattle.rules.specs.Places.{inRp}
 use Rattle.order.specs.State.{none as noHad, start}
@@ -175,7 +175,7 @@ group-read : (o : Bool) (d : ℕ) (K : Bool) (rs : List Facts) → Closes o d K 
     → runs (st o 5 d false 0 false false 0 false false)
     (opt 11 (g .r11) (opt 15 (g .r15) (opt 51 (g .r51) (prescriptionsRecords (g .prescriptions) (restRecords g rs)))))
     ≡ (groupGood o g && K)
-group-read o d K rs h g w = read-11 o d K g rs h (g .prescriptions) w (g .r51) (g .r15) (g .r11)
+group-read o d K rs h g w = rw (member-left (1 ∷ 3 ∷ []) (scheduleOf (g .r11))) (read-11 o d K g rs h (g .prescriptions) w (g .r51) (g .r15) (g .r11))
 
 -- the groups behind one of day d
 abbrev groupsGood : Bool → ℕ → List Group → Bool

@@ -8,7 +8,7 @@ use mathlib.Core.List.{List, [], _∷_}
 use lib.Dec.{eqb, ltb, eqb·suc-zero}
 use Rattle.order.specs.declared.State.{State}
 use Rattle.order.specs.declared.Facts.{Facts}
-use Rattle.rules.specs.Places.{oneOf}
+use Rattle.lists.specs.Lists.{member}
 use Rattle.rules.specs.Questions.{Before, Asked}
 use Rattle.rules.specs.Rules.{refusal, unfinished}
 use Rattle.order.specs.State.{advance, hadAfter, refusalOf, finishOf}
@@ -44,7 +44,7 @@ before c = record {
   noGroup = c .noGroup;
   had11 = c .had11;
   dispensing = eqb (c .schedule) 4;
-  treating = oneOf (c .schedule) (1 ∷ 3 ∷ []);
+  treating = member (1 ∷ 3 ∷ []) (c .schedule);
   had51 = c .had51;
   had411 = c .had411;
   noRp = eqb (c .rp) 0;
@@ -59,7 +59,7 @@ asked c r = record {
   next = eqb (r .rp) (c .rp + 1);
   newer = ltb (c .day) (r .day);
   named = r .named;
-  material = oneOf (r .form) (9 ∷ 10 ∷ []);
+  material = member (9 ∷ 10 ∷ []) (r .form);
 }
 
 -- the next state, in a form that computes at a record of known number

@@ -1,10 +1,12 @@
 -- What one record of a known number asks at each place where it may stand, as an equation, and what the end asks. Each is a computed test over
 -- the places and the answers to the order's questions, so it depends on what the rules say and not on how they are written. Assumes nothing.
 use Prim.Native.Nat.{ℕ, _+_}
-use mathlib.Core.Path.{_≡_, refl, ap, _∙_}
+use mathlib.Core.Path.{_≡_, refl, ap, sym, _∙_}
 use mathlib.Core.Bool.{Bool, true, false, not, _&&_, _||_}
 use mathlib.Core.List.{List, [], _∷_}
 use lib.Dec.{ltb, eqb}
+use Rattle.lists.specs.Lists.{member}
+use Rattle.lists.proofs.Tests.{member-left}
 use Rattle.rules.specs.Places.{inRp, inDrugs, inGroup, mayFollow}
 use Rattle.rules.specs.Questions.{Before, Asked}
 use Rattle.rules.specs.Rules.{pairBroken, misplaced, continues, closesRp, lacking, missing, valueWrong, newerGroup, refusal, unfinished}
@@ -52,7 +54,7 @@ abbrev pub ask : ℕ → Bool → Bool → Bool → Bool → Bool → Asked
 ask n s x l a m = record { number = n; same = s; next = x; newer = l; named = a; material = m }
 
 abbrev pub material : Details → Bool
-material b = eqb (b .form) 9 || eqb (b .form) 10
+material b = member (9 ∷ 10 ∷ []) (b .form)
 
 -- record n with details b, where the group is of day d and the open RP has value v
 abbrev pub asking : ℕ → ℕ → ℕ → Details → Asked
@@ -120,7 +122,7 @@ mayClose o p e q f i z u = o ⇒ not (eqb p 51 || inRp p && not u || lacks e q f
 
 -- an 11 with 1 or 3
 abbrev pub treats : ℕ → Bool
-treats k = eqb k 1 || eqb k 3
+treats k = member (1 ∷ 3 ∷ []) k
 
 -- ---- what the group lacks as one answer
 
@@ -214,7 +216,7 @@ module _ {p : ℕ} (o : Bool) (d : ℕ) (e : Bool) (k : ℕ) (f i : Bool) (v : �
         ∙ ap (λ x. (x ⇒ b .named) && eqb (b .rp) v) (asked-of o)
       where
         asked-of : (o : Bool) → (o ⇒ eqb k 4 && not (material b)) ≡ nameAsked o k (b .form)
-        asked-of true = refl
+        asked-of true = ap (λ (x : Bool). eqb k 4 && not x) (sym (member-left (9 ∷ 10 ∷ []) (b .form)))
         asked-of false = refl
 
     -- the other records of an RP ask for its value only

@@ -13,7 +13,8 @@ use Rattle.characters.specs.Text.{text}
 use Rattle.records.specs.Records.{Record, recordOf}
 use Rattle.order.specs.declared.State.{State}
 use Rattle.order.specs.declared.Facts.{Facts}
-use Rattle.rules.specs.Places.{oneOf, inFront, inRp, inRest, inGroup}
+use Rattle.lists.specs.Lists.{member}
+use Rattle.rules.specs.Places.{inFront, inRp, inRest, inGroup}
 use Rattle.order.specs.State.{none as noHad, start, hadAfter, advance, doctorOf, groupOf, drugOf}
 use Rattle.order.proofs.Laws.{taken}
 use Rattle.notebook.specs.Facts.{factsOf}
@@ -37,7 +38,7 @@ hand l g c a [] = []
 hand l g c a (r ∷ rs) =
     let g′ = cond (eqb (r .number) 5) (g + 1) g in
     let a′ = cond (eqb (r .number) 5) 0 (cond (eqb (r .number) 201) (l + 1) a) in
-    row (r .number) (cond (inGroup (r .number)) g′ 0) (cond (inRp (r .number)) c 0) (cond (oneOf (r .number) (281 ∷ 291 ∷ [])) a′ 0)
+    row (r .number) (cond (inGroup (r .number)) g′ 0) (cond (inRp (r .number)) c 0) (cond (member (281 ∷ 291 ∷ []) (r .number)) a′ 0)
     ∷ hand (l + 1) g′ (cond (eqb (r .number) 5) 0 (cond (eqb (r .number) 55) (l + 1) c)) a′ rs
 
 abbrev handFrom : State → List Facts → List Row
@@ -220,7 +221,7 @@ before-owned n l g c w (inr (inl (p, q))) = by (eqb n 5) (eqb n 55) p q
 hand-owned : (rs : List Facts) (l g c a : ℕ) (w : Row) → Among w (hand l g c a rs) → Owned l g c w
 unfolding hand
 hand-owned (r ∷ rs) l g c a w here =
-    first-owned r l g c (cond (oneOf (r .number) (281 ∷ 291 ∷ [])) (cond (eqb (r .number) 5) 0 (cond (eqb (r .number) 201) (l + 1) a)) 0)
+    first-owned r l g c (cond (member (281 ∷ 291 ∷ []) (r .number)) (cond (eqb (r .number) 5) 0 (cond (eqb (r .number) 201) (l + 1) a)) 0)
 hand-owned (r ∷ rs) l g c a w (there m) = before-owned (r .number) l g c w (hand-owned rs (l + 1) _ _ _ w m)
 
 -- the first row's doctor, met again behind it

@@ -2,7 +2,7 @@ use borrow.Author.Needs.{needs}
 use Prim.Native.Nat.{_-_}
 use lib.ListN.{length}
 use Rattle.cut.proofs.CountLaws.{over-is}
-use Rattle.packing.proofs.Widths.{digits-most}
+use Rattle.digits.proofs.Numbers.{count-most}
 use native.Mathlib.Omega.{arith}
 use Rattle.cut.proofs.overhead.Statement.{statement}
 use Rattle.cut.proofs.overhead.Tie as tie
@@ -17,7 +17,7 @@ digits-of-requires : tie.Need-digits-of-requires
 digits-of-requires c κs = search needs
 
 add-result-2 : tie.Need-add-result-2
-add-result-2 c = omega (arith, digits-most (c .before .args .k))
+add-result-2 c = omega (arith, count-most (c .before .args .k))
 
 returns : tie.Need-returns
 returns c = search (needs, over-is)
