@@ -2,8 +2,9 @@
 -- others, so a respelled file takes the same steps.
 use Prim.Native.Nat.{ℕ}
 use mathlib.Core.Bool.{cond, not, _&&_}
+use mathlib.Core.Option.{Option, none, some}
 use lib.Dec.{eqb}
-use Rattle.digits.specs.Short.{plainNumber}
+use Rattle.digits.specs.Digits.{number}
 use Rattle.order.specs.declared.Facts.{Facts}
 use Rattle.records.specs.Items.{Value, text, num, day}
 use Rattle.records.specs.Records.{Record, nth, isEmpty}
@@ -20,9 +21,13 @@ dayOf (text s) = 0
 dayOf (num n) = 0
 dayOf (day n) = n
 
--- the number that the bytes spell, 0 where they spell none
+abbrev pub orZero : Option ℕ → ℕ
+orZero none = 0
+orZero (some n) = n
+
+-- the number that the bytes are the digits of, 0 where they are empty
 abbrev pub spelled : Value → ℕ
-spelled (text s) = plainNumber s
+spelled (text s) = orZero (number s)
 spelled (num n) = 0
 spelled (day n) = 0
 
