@@ -31,8 +31,9 @@ spelled (text s) = orZero (number s)
 spelled (num n) = 0
 spelled (day n) = 0
 
--- rp: the first item, where it is an R (201 to 391); day: the first item, where it is a D (5); schedule: the third item of an 11
--- (15-106 3.2.9: fee schedule); form: the fifth item of a 301; named: a 301's second item, the usage name, is not empty
+-- `Facts` is a struct of order, src/lib.rt. number: the record's; rp: the first item, where it is an R (201 to 391); day: the first item, where
+-- it is a D (5); schedule: the third item of an 11 (15-106 3.2.9: fee schedule); form: the fifth item of a 301; named: a 301's second item, the
+-- usage name, is not empty. 0, or false, where the record has no such item.
 unfoldable pub factsOf : Record → Facts
 factsOf r = record {
   number = r .number;
