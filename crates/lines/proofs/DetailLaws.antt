@@ -11,7 +11,7 @@ use lib.ListN.{length, getD, take, drop, length-take, length-drop}
 use Rattle.lists.specs.Lists.{empty, member, part}
 use Rattle.lists.proofs.Tests.{orMember, member-left, empty-is}
 use Rattle.digits.specs.Digits.{number}
-use Rattle.digits.specs.Short.{orThousand, shortValue, plainNumber}
+use Rattle.digits.specs.Short.{orThousand, shortValue}
 use Rattle.digits.proofs.Numbers.{number-length}
 use Rattle.calendar.specs.declared.DateRead.{DateRead}
 use Rattle.calendar.specs.declared.DateRead.the-variants.{Date, NotADate}
@@ -22,8 +22,8 @@ use Rattle.records.specs.Split.{itemsOf}
 use Rattle.lines.specs.declared.Span.{Span}
 use Rattle.lines.specs.declared.Usage.{Usage}
 use Rattle.lines.specs.declared.Details.{Details}
-use Rattle.notebook.specs.Facts.{dayOf}
-use Rattle.lines.specs.Codes.{SpanAt, codeRaw, formRaw, pairsRaw, orZero, rpRaw, dayRaw, rpRecords, factsRaw, detailsRaw, bareDetails, otherDetails, usageRaw}
+use Rattle.notebook.specs.Facts.{dayOf, orZero}
+use Rattle.lines.specs.Codes.{SpanAt, codeRaw, formRaw, pairsRaw, rpRaw, dayRaw, rpRecords, factsRaw, detailsRaw, bareDetails, otherDetails, usageRaw}
 
 -- ---- values
 
@@ -58,7 +58,7 @@ raw-5 : (ss : List (List ℕ)) → bareDetails 5 0 (dayRaw (getD ss 0 [])) 0 ≡
 unfolding detailsRaw pairsRaw factsRaw
 raw-5 ss = refl
 
-raw-11 : (ss : List (List ℕ)) → bareDetails 11 0 0 (plainNumber (getD ss 2 [])) ≡ detailsRaw 11 ss
+raw-11 : (ss : List (List ℕ)) → bareDetails 11 0 0 (rpRaw (getD ss 2 [])) ≡ detailsRaw 11 ss
 unfolding detailsRaw pairsRaw factsRaw
 raw-11 ss = refl
 
@@ -100,8 +100,8 @@ module _ {s : List ℕ} where
   pub details-5 : {i1 : Span} {d : ℕ} {r : Details} → SpanAt s 1 i1 → d ≡ dayRaw (part s (i1 .from) (i1 .to)) → r ≡ bareDetails 5 0 d 0 → r ≡ detailsRaw 5 (drop 1 (itemsOf s))
   details-5 v1 p q = q ∙ ap (λ (x : ℕ). bareDetails 5 0 x 0) (p ∙ ap dayRaw (item-is 0 v1)) ∙ raw-5 (drop 1 (itemsOf s))
 
-  pub details-11 : {i3 : Span} {n : ℕ} {r : Details} → SpanAt s 3 i3 → n ≡ plainNumber (part s (i3 .from) (i3 .to)) → r ≡ bareDetails 11 0 0 n → r ≡ detailsRaw 11 (drop 1 (itemsOf s))
-  details-11 v3 p q = q ∙ ap (λ (x : ℕ). bareDetails 11 0 0 x) (p ∙ ap plainNumber (item-is 2 v3)) ∙ raw-11 (drop 1 (itemsOf s))
+  pub details-11 : {i3 : Span} {n : ℕ} {r : Details} → SpanAt s 3 i3 → n ≡ rpRaw (part s (i3 .from) (i3 .to)) → r ≡ bareDetails 11 0 0 n → r ≡ detailsRaw 11 (drop 1 (itemsOf s))
+  details-11 v3 p q = q ∙ ap (λ (x : ℕ). bareDetails 11 0 0 x) (p ∙ ap rpRaw (item-is 2 v3)) ∙ raw-11 (drop 1 (itemsOf s))
 
   pub details-201 : {i1 i5 i6 : Span} {x : Bool} {rp : ℕ} → SpanAt s 1 i1 → SpanAt s 5 i5 → SpanAt s 6 i6 → rp ≡ rpRaw (part s (i1 .from) (i1 .to))
       → x ≡ codeRaw (part s (i5 .from) (i5 .to)) (part s (i6 .from) (i6 .to))
@@ -118,7 +118,7 @@ module _ {s : List ℕ} where
   -- a 301 from its quantity on
   pub usage-is : {i3 i4 i5 i6 i7 : Span} {x y : Bool} {form : ℕ} → SpanAt s 3 i3 → SpanAt s 4 i4 → SpanAt s 5 i5 → SpanAt s 6 i6 → SpanAt s 7 i7
       → x ≡ codeRaw (part s (i6 .from) (i6 .to)) (part s (i7 .from) (i7 .to))
-      → y ≡ formRaw (part s (i5 .from) (i5 .to)) (part s (i3 .from) (i3 .to)) (part s (i4 .from) (i4 .to)) → form ≡ plainNumber (part s (i5 .from) (i5 .to))
+      → y ≡ formRaw (part s (i5 .from) (i5 .to)) (part s (i3 .from) (i3 .to)) (part s (i4 .from) (i4 .to)) → form ≡ rpRaw (part s (i5 .from) (i5 .to))
       → _≡_ {A = Usage} (record { paired = x && y; form = form }) (usageRaw (drop 1 (itemsOf s)))
   unfolding usageRaw
   usage-is v3 v4 v5 v6 v7 p q r = rw (p, q, r, item-is 2 v3, item-is 3 v4, item-is 4 v5, item-is 5 v6, item-is 6 v7)

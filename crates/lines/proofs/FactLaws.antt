@@ -11,7 +11,6 @@ use lib.Dec.{leb, eqb}
 use lib.ListN.{length, getD}
 use Rattle.lists.specs.Lists.{empty, member}
 use Rattle.digits.specs.Digits.{number}
-use Rattle.digits.specs.Short.{plainNumber}
 use Rattle.calendar.specs.declared.DateRead.{DateRead}
 use Rattle.calendar.specs.declared.DateRead.the-variants.{Date, NotADate}
 use Rattle.calendar.specs.Era.{readDay}
@@ -20,9 +19,9 @@ use Rattle.records.specs.Table.{Kind, N, U, X, A, F, C, P, R, W, Q, D, among, I
 use Rattle.records.specs.Items.{Value, text, num, day, value, numberValue, dayValue}
 use Rattle.records.specs.Records.{Record, itemValue, itemsValue, nth, isEmpty, codePair, formPair, pairs}
 use Rattle.items.specs.Codes.{kindOf}
-use Rattle.notebook.specs.Facts.{numOf, dayOf, spelled, factsOf}
+use Rattle.notebook.specs.Facts.{numOf, dayOf, orZero, spelled, factsOf}
 use Rattle.codes.specs.Codes.{codes, sliceOf, placeOf, placeIn}
-use Rattle.lines.specs.Codes.{codeRaw, formRaw, pairsRaw, orZero, rpRaw, dayRaw, rpRecords, factsRaw}
+use Rattle.lines.specs.Codes.{codeRaw, formRaw, pairsRaw, rpRaw, dayRaw, rpRecords, factsRaw}
 use Rattle.codes.proofs.TableLaws.{rowBy, allRows, listed-row}
 
 -- ---- values by their place
@@ -200,12 +199,12 @@ module _ (ss : List (List ℕ)) where
   unfolding codes
   at-301 j n h = value-at (sliceOf 968) ss j n h
 
-  schedule-11 : length ss ≡ 8 → spelled (nth (itemsValue (sliceOf 360) ss) 3) ≡ plainNumber (getD ss 2 [])
-  unfolding codes kindOf
+  schedule-11 : length ss ≡ 8 → spelled (nth (itemsValue (sliceOf 360) ss) 3) ≡ rpRaw (getD ss 2 [])
+  unfolding codes kindOf rpRaw
   schedule-11 n = ap spelled (at-11 2 n (omega arith) ∙ among-text (1 ∷ 3 ∷ 4 ∷ []) (getD ss 2 []))
 
-  form-301 : length ss ≡ 8 → spelled (nth (itemsValue (sliceOf 968) ss) 5) ≡ plainNumber (getD ss 4 [])
-  unfolding codes kindOf
+  form-301 : length ss ≡ 8 → spelled (nth (itemsValue (sliceOf 968) ss) 5) ≡ rpRaw (getD ss 4 [])
+  unfolding codes kindOf rpRaw
   form-301 n = ap spelled (at-301 4 n (omega arith) ∙ among-text (1 ∷ 2 ∷ 3 ∷ 4 ∷ 5 ∷ 6 ∷ 7 ∷ 9 ∷ 10 ∷ []) (getD ss 4 []))
 
   name-301 : length ss ≡ 8 → isEmpty (nth (itemsValue (sliceOf 968) ss) 2) ≡ empty (getD ss 1 [])
@@ -253,19 +252,19 @@ module _ (n place : ℕ) (ss : List (List ℕ)) (at-place : place ≡ placeOf n)
           rw (e, g .0) (pairs-of-301 ss (g .1))
       go false p false q = pairs-of-other ss n _ (eqb-false n 201 p) (eqb-false n 301 q)
 
-  schedule-is : cond (eqb n 11) (spelled (nth (itemsValue (sliceOf place) ss) 3)) 0 ≡ cond (eqb n 11) (plainNumber (getD ss 2 [])) 0
+  schedule-is : cond (eqb n 11) (spelled (nth (itemsValue (sliceOf place) ss) 3)) 0 ≡ cond (eqb n 11) (rpRaw (getD ss 2 [])) 0
   unfolding placeOf placeIn
   schedule-is = go (eqb n 11) refl
     where
-      go : (x : Bool) → eqb n 11 ≡ x → cond x (spelled (nth (itemsValue (sliceOf place) ss) 3)) 0 ≡ cond x (plainNumber (getD ss 2 [])) 0
+      go : (x : Bool) → eqb n 11 ≡ x → cond x (spelled (nth (itemsValue (sliceOf place) ss) 3)) 0 ≡ cond x (rpRaw (getD ss 2 [])) 0
       go true p = let g = place-by 11 360 (eqb-true n 11 p) refl in rw (g .0) (schedule-11 ss (g .1))
       go false p = refl
 
-  form-is : cond (eqb n 301) (spelled (nth (itemsValue (sliceOf place) ss) 5)) 0 ≡ cond (eqb n 301) (plainNumber (getD ss 4 [])) 0
+  form-is : cond (eqb n 301) (spelled (nth (itemsValue (sliceOf place) ss) 5)) 0 ≡ cond (eqb n 301) (rpRaw (getD ss 4 [])) 0
   unfolding placeOf placeIn
   form-is = go (eqb n 301) refl
     where
-      go : (x : Bool) → eqb n 301 ≡ x → cond x (spelled (nth (itemsValue (sliceOf place) ss) 5)) 0 ≡ cond x (plainNumber (getD ss 4 [])) 0
+      go : (x : Bool) → eqb n 301 ≡ x → cond x (spelled (nth (itemsValue (sliceOf place) ss) 5)) 0 ≡ cond x (rpRaw (getD ss 4 [])) 0
       go true p = let g = place-by 301 968 (eqb-true n 301 p) refl in rw (g .0) (form-301 ss (g .1))
       go false p = refl
 

@@ -2,13 +2,11 @@
 use Prim.Native.Nat.{ℕ, _≤_}
 use mathlib.Core.Path.{_≡_}
 use mathlib.Core.Bool.{Bool, true, false, cond, not, _&&_}
-use mathlib.Core.Option.{Option, none, some}
 use mathlib.Core.List.{List, [], _∷_}
 use lib.Dec.{eqb}
 use lib.ListN.{length, getD}
 use Rattle.lists.specs.Lists.{empty, member, part}
 use Rattle.digits.specs.Digits.{number}
-use Rattle.digits.specs.Short.{plainNumber}
 use Rattle.characters.specs.Text.{commaCount}
 use Rattle.scanning.specs.Scans.{Stops, Sixteen}
 use Rattle.calendar.specs.Era.{readDay}
@@ -17,7 +15,7 @@ use Rattle.records.specs.Table.{R, fromProvider}
 use Rattle.records.specs.Items.{Value, text, dayValue}
 use Rattle.records.specs.Records.{itemValue, codePair, formPair}
 use Rattle.records.specs.Split.{itemsOf}
-use Rattle.notebook.specs.Facts.{dayOf}
+use Rattle.notebook.specs.Facts.{dayOf, orZero}
 use Rattle.lines.specs.declared.Span.{Span}
 use Rattle.lines.specs.declared.Usage.{Usage}
 use Rattle.lines.specs.declared.Details.{Details}
@@ -58,11 +56,7 @@ pairsRaw n ss =
     cond (eqb n 201) (codeRaw (getD ss 4 []) (getD ss 5 []))
     (cond (eqb n 301) (codeRaw (getD ss 5 []) (getD ss 6 []) && formRaw (getD ss 4 []) (getD ss 2 []) (getD ss 3 [])) true)
 
-abbrev pub orZero : Option ℕ → ℕ
-orZero none = 0
-orZero (some n) = n
-
--- the value of an RP item
+-- the value of an RP item, a fee schedule or a form
 unfoldable pub rpRaw : List ℕ → ℕ
 rpRaw s = orZero (number s)
 
@@ -79,14 +73,14 @@ factsRaw n ss = record {
   number = n;
   rp = cond (member rpRecords n) (rpRaw (getD ss 0 [])) 0;
   day = cond (eqb n 5) (dayRaw (getD ss 0 [])) 0;
-  schedule = cond (eqb n 11) (plainNumber (getD ss 2 [])) 0;
-  form = cond (eqb n 301) (plainNumber (getD ss 4 [])) 0;
+  schedule = cond (eqb n 11) (rpRaw (getD ss 2 [])) 0;
+  form = cond (eqb n 301) (rpRaw (getD ss 4 [])) 0;
   named = eqb n 301 && not (empty (getD ss 1 []));
 }
 
 -- a 301's pairs and form
 unfoldable pub usageRaw : List (List ℕ) → Usage
-usageRaw ss = record { paired = codeRaw (getD ss 5 []) (getD ss 6 []) && formRaw (getD ss 4 []) (getD ss 2 []) (getD ss 3 []); form = plainNumber (getD ss 4 []) }
+usageRaw ss = record { paired = codeRaw (getD ss 5 []) (getD ss 6 []) && formRaw (getD ss 4 []) (getD ss 2 []) (getD ss 3 []); form = rpRaw (getD ss 4 []) }
 
 abbrev pub bareDetails : ℕ → ℕ → ℕ → ℕ → Details
 bareDetails n rp day schedule = record { paired = true; facts = record { number = n; rp = rp; day = day; schedule = schedule; form = 0; named = false } }

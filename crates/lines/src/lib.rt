@@ -151,7 +151,7 @@ fn form_pair(f: &[u8], q: &[u8], u: &[u8]) -> bool
 
 // ---- facts
 
-// The value of an RP item, 0 where it is none.
+// The value of an RP item, a fee schedule or a form, 0 where it is none.
 fn rp_value(s: &[u8]) -> u32
     ensures { λ r. ⌜ r ≡ rpRaw (now (s .entry)) ⌝ }
 {
@@ -231,7 +231,7 @@ fn usage_of(stops: &[usize; 16], n: usize, s: &[u8]) -> Usage
     let formed = form_pair(&s[e..f], &s[g..h], &s[i..j]);
     Usage {
         paired: coded & formed,
-        form: digits::plain_number(&s[e..f]),
+        form: rp_value(&s[e..f]),
     }
 }
 
@@ -292,7 +292,7 @@ fn details_11(stops: &[usize; 16], n: usize, s: &[u8]) -> Details
     let schedule = item_span(stops, n, s, 3);
     let a = schedule.from;
     let b = schedule.to;
-    bare(11, 0, 0, digits::plain_number(&s[a..b]))
+    bare(11, 0, 0, rp_value(&s[a..b]))
 }
 
 // The value of the first item, for the records of an RP that have no pairs.

@@ -2,8 +2,9 @@
 -- others, so a respelled file takes the same steps.
 use Prim.Native.Nat.{ℕ}
 use mathlib.Core.Bool.{cond, not, _&&_}
+use mathlib.Core.Option.{Option, none, some}
 use lib.Dec.{eqb}
-use Rattle.digits.specs.Short.{plainNumber}
+use Rattle.digits.specs.Digits.{number}
 use Rattle.order.specs.declared.Facts.{Facts}
 use Rattle.records.specs.Items.{Value, text, num, day}
 use Rattle.records.specs.Records.{Record, item, isEmpty}
@@ -20,14 +21,19 @@ dayOf (text s) = 0
 dayOf (num n) = 0
 dayOf (day n) = n
 
--- the number that the bytes spell, 0 where they spell none
+abbrev pub orZero : Option ℕ → ℕ
+orZero none = 0
+orZero (some n) = n
+
+-- the number that the bytes are the digits of, 0 where they are empty
 abbrev pub spelled : Value → ℕ
-spelled (text s) = plainNumber s
+spelled (text s) = orZero (number s)
 spelled (num n) = 0
 spelled (day n) = 0
 
--- rp: the first item, where it is an R (201 to 391); day: the first item, where it is a D (5); schedule: the third item of an 11
--- (15-106 3.2.9: fee schedule); form: the fifth item of a 301; named: a 301's second item, the usage name, is not empty
+-- `Facts` is a struct of order, src/lib.rt. number: the record's; rp: the first item, where it is an R (201 to 391); day: the first item, where
+-- it is a D (5); schedule: the third item of an 11 (15-106 3.2.9: fee schedule); form: the fifth item of a 301; named: a 301's second item, the
+-- usage name, is not empty. 0, or false, where the record has no such item.
 unfoldable pub factsOf : Record → Facts
 factsOf r = record {
   number = r .number;

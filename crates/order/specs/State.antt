@@ -1,5 +1,16 @@
 -- The pattern state of document 01, "Each record moves the reader from one place of this pattern to the next": the state before the first
 -- record, the state after one more, and a step. `Room` is what a step asks, so that its counts fit.
+--
+-- What it speaks of are structs and an enum of src/lib.rt:
+-- `Facts`, what the rules look at in a record: its `number`; `rp`, the first item of a 201 to 391; `day`, a 5's day as the number YYYYMMDD;
+-- `schedule`, an 11's fee schedule (third item); `form`, a 301's form (fifth item); `named`, whether a 301 has a usage name. An empty item is 0,
+-- or false, and so is what another record would have.
+-- `Had`, what the open group has had: `had11`, `had51`, `had411`, whether these records; `schedule`, its 11's fee schedule; `rp`, the open RP's value,
+-- which is also the count of RPs; `had301`, whether that RP its 301; `doctor` and `drug`, the lines of the last 55 and 201. 0 where there is none.
+-- `State`, where the reader is: `provider`, whether the direction is 1; `place`, the number of the last record, and `line`, its line; `groups` and
+-- `drugs`, how many 5s and 201s so far; `day`, the last 5's; `had`, of the open group.
+-- `Moved`, what a step answers: `Refused` with the number of the refusal, or `On` with the next state, the RP of the record and the line of its
+-- doctor.
 use Prim.Native.Nat.{ℕ, _+_, _≤_, _<_}
 use mathlib.Core.Bool.{Bool, true, false, cond}
 use mathlib.Core.List.{[], _∷_}

@@ -10,7 +10,6 @@ use lib.ListN.{length, length-append}
 use borrow.Author.Tests.{le-leb}
 use Rattle.lists.specs.Lists.{bytes, empty, all, All}
 use Rattle.digits.specs.Digits.{isDigit, value as digitsValue, number, spell, digitCount}
-use Rattle.digits.specs.Short.{plainNumber}
 use Rattle.digits.proofs.Numbers.{number-spell, digits-spell, length-spell, some-digit}
 use Rattle.characters.specs.Cells.{fullRow, partRow, allowed, isPair}
 use Rattle.characters.specs.Text.{allChars}
@@ -29,7 +28,6 @@ use Rattle.order.specs.declared.Facts.{Facts}
 use Rattle.notebook.specs.Facts.{factsOf}
 use Rattle.lists.proofs.Tests.{both}
 use Rattle.digits.proofs.Numbers.{digit-is, number-is}
-use Rattle.digits.proofs.Spelling.{plain-of-spell}
 use Rattle.records.specs.Records.{日分}
 use Rattle.records.proofs.Splits.{NoComma, items-joined, weight, joined-length, AllChars, chars-joined, plain-chars, plain-no-comma}
 use Rattle.records.proofs.LineLaws.{reads}
@@ -50,17 +48,13 @@ one : number (49 ∷ []) ≡ some 1
 unfolding spell
 one = number-spell 1 (omega arith)
 
-plain-one : plainNumber (49 ∷ []) ≡ 1
-unfolding spell
-plain-one = plain-of-spell 1 (omega arith) (omega arith)
-
 -- records without an RP value
 fixed : (o : Bool) → Line o (rec 1 plain) × Line o (rec 5 dated) × Line o (rec 11 medical) × Line o (rec 411 plain)
 unfolding bytes digitsValue spell leap monthLength isReal isDay gregorian eraOf eraOn inEra fromEra readDay table edge oneWidth prefecture decimal sized fault value itemFault itemValue itemsFault itemsValue rowIn rowOf codePair formPair pairs t911 recordFrom faultFrom faultWhere lineFault recordOf readLine factsOf
 fixed o = (
   record { line = bytes "1,A,1,19890108,,,,,,,"; rec′ = _; read = refl; facts = refl; short = omega arith },
   record { line = bytes "5,19890108,1"; rec′ = _; read = refl; facts = refl; short = omega arith },
-  record { line = bytes "11,A,01,1,,,,,1"; rec′ = _; read = refl; facts = rw plain-one; short = omega arith },
+  record { line = bytes "11,A,01,1,,,,,1"; rec′ = _; read = refl; facts = rw one; short = omega arith },
   record { line = bytes "411,A,99,1"; rec′ = _; read = refl; facts = refl; short = omega arith },
 )
 
@@ -87,7 +81,7 @@ module _ (v : ℕ) (s : List ℕ) (filled : empty s ≡ false) (is : number s �
 
   facts-rp : (factsOf (recordFrom (bytes "201" ∷ s ∷ items201)) ≡ rec 201 (ofRp v)) × (factsOf (recordFrom (bytes "301" ∷ s ∷ items301)) ≡ rec 301 (used v))
   unfolding bytes spell table edge oneWidth prefecture decimal sized fault value itemFault itemValue itemsFault itemsValue rowIn rowOf codePair formPair pairs t911 recordFrom faultFrom factsOf
-  facts-rp = (rw (filled, is), rw (filled, is, plain-one))
+  facts-rp = (rw (filled, is), rw (filled, is, one))
 
 days-chars : allChars 日分 ≡ true
 unfolding fullRow partRow allowed isPair

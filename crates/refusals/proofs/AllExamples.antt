@@ -4,7 +4,6 @@ use mathlib.Core.Bool.{true}
 use mathlib.Core.List.{_++_}
 use Rattle.lists.specs.Lists.{bytes}
 use Rattle.digits.specs.Digits.{value, number, spell, digitCount}
-use Rattle.digits.specs.Short.{plainNumber}
 use Rattle.characters.specs.Rows.{isLine}
 use Rattle.eras.specs.Day.{leap, monthLength, isReal, isDay}
 use Rattle.eras.specs.Era.{eraOf, eraOn, writeDay}
@@ -39,5 +38,5 @@ pub examples-reach : allReached ≡ true
 examples-reach = refl
 
 pub examples-hold : allHold (checks ++ (indexes ++ (canonicals ++ (cuts ++ joins)))) ≡ true
-unfolding answerIn six entryOf entered entriesFrom entriesBehind entriesOf numbers numbersOf bytes value number spell plainNumber isLine leap monthLength isReal isDay gregorian eraOf eraOn inEra fromEra readDay writeDay joined table edge oneWidth decimal sized fault valueOf seven postal prefecture itemFault itemValue itemsFault itemsValue rowIn rowOf pairs codePair t911 isMark recordFrom faultFrom faultWhere lineFault recordOf header write inGroup mayFollow pairBroken misplaced continues closesRp lacking missing valueWrong newerGroup refusal unfinished none start hadAfter advance refusalOf stepOf finishOf factsOf stepLine closed onward recordsFrom readRows readFile checkResult indexResult recordRows arrange writeFile canonicalBytes canonicalFile canonicalResult total put pack digitCount over serves tries plan validID markLine readMark kindOf brokenFrom brokenLine bodyOf piecesIn splitRows split fileOf unmarked partOf partsOf agree find gather joinPieces joinedFile joinFile joinResult pieceBytes numbered cutting cutList cutResult lineEnds
+unfolding answerIn six entryOf entered entriesFrom entriesBehind entriesOf numbers numbersOf bytes value number spell isLine leap monthLength isReal isDay gregorian eraOf eraOn inEra fromEra readDay writeDay joined table edge oneWidth decimal sized fault valueOf seven postal prefecture itemFault itemValue itemsFault itemsValue rowIn rowOf pairs codePair t911 isMark recordFrom faultFrom faultWhere lineFault recordOf header write inGroup mayFollow pairBroken misplaced continues closesRp lacking missing valueWrong newerGroup refusal unfinished none start hadAfter advance refusalOf stepOf finishOf factsOf stepLine closed onward recordsFrom readRows readFile checkResult indexResult recordRows arrange writeFile canonicalBytes canonicalFile canonicalResult total put pack digitCount over serves tries plan validID markLine readMark kindOf brokenFrom brokenLine bodyOf piecesIn splitRows split fileOf unmarked partOf partsOf agree find gather joinPieces joinedFile joinFile joinResult pieceBytes numbered cutting cutList cutResult lineEnds
 examples-hold = refl

@@ -6,24 +6,24 @@ use Rattle.lines.proofs.details_11.Statement.{statement}
 use Rattle.lines.proofs.details_11.Tie as tie
 use Rattle.lines.proofs.details_11.Reads as reads
 use Rattle.lines.proofs.details_11.Lts as lts
-use Rattle.digits.proofs.plain_number.Reads as plain-number-reads
 use Rattle.lines.proofs.bare.Reads as bare-reads
 use Rattle.lines.proofs.item_span.Reads as item-span-reads
+use Rattle.lines.proofs.rp_value.Reads as rp-value-reads
 
 item-span-requires : tie.Need-item-span-requires
 item-span-requires c κs = search needs
 
-sub-plain-number : tie.Need-sub-plain-number
-sub-plain-number c = search needs
+sub-rp-value : tie.Need-sub-rp-value
+sub-rp-value c = search needs
 
-part-plain-number-start : tie.Need-part-plain-number-start
-part-plain-number-start c = search needs
+part-rp-value-start : tie.Need-part-rp-value-start
+part-rp-value-start c = search needs
 
-part-plain-number-end : tie.Need-part-plain-number-end
-part-plain-number-end c = search needs
+part-rp-value-end : tie.Need-part-rp-value-end
+part-rp-value-end c = search needs
 
-plain-number-requires : tie.Need-plain-number-requires
-plain-number-requires c κs = search needs
+rp-value-requires : tie.Need-rp-value-requires
+rp-value-requires c κs = search needs
 
 bare-requires : tie.Need-bare-requires
 bare-requires c κs = search needs
@@ -36,9 +36,9 @@ details-11-spec =
     tie.close
     (tie.spec
     item-span-requires
-    sub-plain-number
-    part-plain-number-start
-    part-plain-number-end
-    plain-number-requires
+    sub-rp-value
+    part-rp-value-start
+    part-rp-value-end
+    rp-value-requires
     bare-requires
     returns)

@@ -7,10 +7,10 @@ use Rattle.lines.proofs.usage_of.Statement.{statement}
 use Rattle.lines.proofs.usage_of.Tie as tie
 use Rattle.lines.proofs.usage_of.Reads as reads
 use Rattle.lines.proofs.usage_of.Lts as lts
-use Rattle.digits.proofs.plain_number.Reads as plain-number-reads
 use Rattle.lines.proofs.code_pair.Reads as code-pair-reads
 use Rattle.lines.proofs.form_pair.Reads as form-pair-reads
 use Rattle.lines.proofs.item_span.Reads as item-span-reads
+use Rattle.lines.proofs.rp_value.Reads as rp-value-reads
 
 item-span-requires : tie.Need-item-span-requires
 item-span-requires c κs = search needs
@@ -78,17 +78,17 @@ part-form-pair-end-3 c = omega arith
 form-pair-requires : tie.Need-form-pair-requires
 form-pair-requires c κs = tt
 
-sub-plain-number : tie.Need-sub-plain-number
-sub-plain-number c = omega arith
+sub-rp-value : tie.Need-sub-rp-value
+sub-rp-value c = omega arith
 
-part-plain-number-start : tie.Need-part-plain-number-start
-part-plain-number-start c = omega arith
+part-rp-value-start : tie.Need-part-rp-value-start
+part-rp-value-start c = omega arith
 
-part-plain-number-end : tie.Need-part-plain-number-end
-part-plain-number-end c = omega arith
+part-rp-value-end : tie.Need-part-rp-value-end
+part-rp-value-end c = omega arith
 
-plain-number-requires : tie.Need-plain-number-requires
-plain-number-requires c κs = tt
+rp-value-requires : tie.Need-rp-value-requires
+rp-value-requires c κs = tt
 
 returns : tie.Need-returns
 returns c = search (needs, usage-is)
@@ -119,8 +119,8 @@ usage-of-spec =
     part-form-pair-start-3
     part-form-pair-end-3
     form-pair-requires
-    sub-plain-number
-    part-plain-number-start
-    part-plain-number-end
-    plain-number-requires
+    sub-rp-value
+    part-rp-value-start
+    part-rp-value-end
+    rp-value-requires
     returns)
