@@ -9,7 +9,7 @@ use mathlib.Core.List.{List, [], _∷_, _++_, map, append-assoc}
 use borrow.Author.Tests.{eqb-true, eq-eqb, ne-eqb, ltb-false}
 use lib.Dec.{eqb}
 use lib.ListN.{length}
-use Rattle.lists.specs.Lists.{All, all, member, orMember, ok}
+use Rattle.lists.specs.Lists.{All, all, member, ok}
 use Rattle.lists.proofs.Tests.{both, neither}
 use Rattle.characters.specs.Text.{text}
 use Rattle.records.specs.Records.{Record, recordOf}
@@ -48,17 +48,17 @@ row-passes Q n (x ∷ xs) t h = let b = both _ _ t in go (eqb n (x .0)) refl (x 
     go true p false t i h = absurd (false≢true h)
     go false p y t i h = i h
 
-passes : (f : ℕ → Bool) (n : ℕ) (b : Bool) (xs : List ℕ) → (b ≡ true → f n ≡ true) → all f xs ≡ true → orMember b xs n ≡ true → f n ≡ true
-passes f n b [] g t h = g h
-passes f n b (x ∷ xs) g t h = let y = both (f x) (all f xs) t in passes f n (b || eqb n x) xs (λ e. go b refl e (y .0)) (y .1) h
+passes : (f : ℕ → Bool) (n : ℕ) (xs : List ℕ) → all f xs ≡ true → member xs n ≡ true → f n ≡ true
+passes f n [] t h = absurd (false≢true h)
+passes f n (x ∷ xs) t h = let y = both (f x) (all f xs) t in go (eqb n x) refl (y .0) (passes f n xs (y .1)) h
   where
-    go : (a : Bool) → b ≡ a → (a || eqb n x) ≡ true → f x ≡ true → f n ≡ true
-    go true p e t = g p
-    go false p e t = ap f (eqb-true n x e) ∙ t
+    go : (e : Bool) → eqb n x ≡ e → f x ≡ true → (member xs n ≡ true → f n ≡ true) → (e || member xs n) ≡ true → f n ≡ true
+    go true p t i h = ap f (eqb-true n x p) ∙ t
+    go false p t i h = i h
 
 follow : (Q : ℕ → ℕ → Bool) → all (λ p. rowsPass (Q p) (rows p)) places ≡ true → (p n : ℕ) → member places p ≡ true → mayFollow p n ≡ true → Q p n ≡ true
 unfolding mayFollow
-follow Q t p n k h = row-passes (Q p) n (rows p) (passes (λ p. rowsPass (Q p) (rows p)) p false places (λ e. absurd (false≢true e)) t k) h
+follow Q t p n k h = row-passes (Q p) n (rows p) (passes (λ p. rowsPass (Q p) (rows p)) p places t k) h
 
 -- "At most one 1; then any 2s, then 3s, then 4s"
 abbrev pub inFirst : ℕ → Bool
