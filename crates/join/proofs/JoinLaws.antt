@@ -24,7 +24,6 @@ use Rattle.notebook.specs.Notebook.{Notebook, readFile}
 use Rattle.notebook.specs.Check.{checkResult}
 use Rattle.notebook.proofs.Answered.{check-refused, check-accepted}
 use Rattle.division.specs.Pieces.{brokenLine, Piece, bodyOf, piecesIn, startsWell, splitRows, split, fileOf}
-use Rattle.pieces.proofs.RowLaws.{head-true, head-false}
 use Rattle.join.specs.declared.Next.{Next}
 use Rattle.join.specs.declared.Next.the-variants.{Opens, Over, Stray}
 use Rattle.join.specs.declared.Lines.{Lines}
@@ -41,18 +40,8 @@ use Rattle.join.proofs.SetLaws.{agree-self, Gathers, gathers}
 
 -- ---- line 1
 
-module _ (d : Bool) {D D₁ : List ℕ} {r : ℕ} where
-  pub head-provider : d ≡ true → Wrote D D₁ 0 r (74 ∷ 65 ∷ 72 ∷ 73 ∷ 83 ∷ 84 ∷ 67 ∷ 48 ∷ 52 ∷ 44 ∷ 49 ∷ 13 ∷ 10 ∷ []) → Wrote D D₁ 0 r (headRow d)
-  head-provider q w = subst (λ (l : List ℕ). Wrote D D₁ 0 r l) (sym (ap headRow q ∙ head-true)) w
-
-  pub head-patient : d ≡ false → Wrote D D₁ 0 r (74 ∷ 65 ∷ 72 ∷ 73 ∷ 83 ∷ 84 ∷ 67 ∷ 48 ∷ 52 ∷ 44 ∷ 50 ∷ 13 ∷ 10 ∷ []) → Wrote D D₁ 0 r (headRow d)
-  head-patient q w = subst (λ (l : List ℕ). Wrote D D₁ 0 r l) (sym (ap headRow q ∙ head-false)) w
-
-pub ruleset head-laws = (head-provider, head-patient)
-
-head-length : (d : Bool) → length (headRow d) ≡ 13
-head-length true = ap length head-true
-head-length false = ap length head-false
+pub head-wrote : (d : Bool) {row D D₁ : List ℕ} {r : ℕ} → row ≡ headRow d → Wrote D D₁ 0 r row → Wrote D D₁ 0 r (headRow d)
+head-wrote d {row} {D} {D₁} {r} p w = subst (λ (l : List ℕ). Wrote D D₁ 0 r l) p w
 
 -- ---- a file in the buffer
 

@@ -337,12 +337,8 @@ fn put_head(out: &mut [u8], d: bool) -> usize
     requires { ⌜ 13 ≤ length (now out) ⌝ }
     ensures { λ r. ⌜ Wrote (now (out .entry)) (now (out .exit)) 0 r (headRow d) ⌝ }
 {
-    if d {
-        let provider = b"JAHISTC04,1\r\n";
-        return buffers::put_all(out, 0, provider);
-    }
-    let patient = b"JAHISTC04,2\r\n";
-    buffers::put_all(out, 0, patient)
+    let row = heading::heading_row(d);
+    buffers::put_all(out, 0, &row)
 }
 
 // One piece without a record 911: line 1 of its direction, and its rows.

@@ -15,6 +15,10 @@ use Rattle.characters.specs.Text.{isStop, text}
 use Rattle.characters.specs.Rows.{consRow, rows, lineEnd, isLine, endMark}
 use Rattle.records.specs.Records.{header}
 use Rattle.notebook.specs.Canonical.{headRow}
+use Rattle.heading.specs.declared.Heading.{Heading}
+use Rattle.heading.specs.declared.Heading.the-variants.{Line1, Other}
+use Rattle.heading.specs.Reading.{headingOf}
+use Rattle.heading.proofs.Laws.{heading-is, heading-not}
 use Rattle.pieces.specs.declared.Row.the-variants.{Head, EndHead, Body, End, Broken}
 use Rattle.division.specs.Pieces.{Kind, head, endHead, body, end, broken, kindOf}
 use Rattle.pieces.specs.Answers.{RowAt, KindIs}
@@ -105,48 +109,42 @@ pub ruleset line-laws = (line-start, line-end)
 
 -- ---- kinds
 
--- line 1 with its line end, as the code's literals have it
-abbrev pub line1 : ℕ → List ℕ
-line1 d = 74 ∷ 65 ∷ 72 ∷ 73 ∷ 83 ∷ 84 ∷ 67 ∷ 48 ∷ 52 ∷ 44 ∷ d ∷ 13 ∷ 10 ∷ []
-
-pub head-true : headRow true ≡ line1 49
-unfolding header bytes
-head-true = refl
-
-pub head-false : headRow false ≡ line1 50
-unfolding header bytes
-head-false = refl
-
 -- a row that is no line 1 and no line
 abbrev noLine : List ℕ → Kind
 noLine r =
     cond (same r endMark) end
-    (cond (same r (0x1a ∷ line1 49)) (endHead true) (cond (same r (0x1a ∷ line1 50)) (endHead false) broken))
+    (cond (same r (0x1a ∷ headRow true)) (endHead true) (cond (same r (0x1a ∷ headRow false)) (endHead false) broken))
 
 -- what a 1Ah is followed by
 abbrev behindMark : List ℕ → Kind
-behindMark t = cond (same t (line1 49)) (endHead true) (cond (same t (line1 50)) (endHead false) broken)
+behindMark t = cond (same t (headRow true)) (endHead true) (cond (same t (headRow false)) (endHead false) broken)
 
-by-literals : (r : List ℕ) → kindOf r ≡
-    cond (same r (line1 49)) (head true) (cond (same r (line1 50)) (head false) (cond (isLine r) body (noLine r)))
+head-kind : (d : Bool) → kindOf (headRow d) ≡ head d
 unfolding kindOf header bytes
-by-literals r = refl
+head-kind true = refl
+head-kind false = refl
 
-module _ (r : List ℕ) {x : Bool} (p : x ≡ same r (line1 49)) where
-  pub kind-head-1 : x ≡ true → KindIs r (Head true)
-  kind-head-1 q = record { is = by-literals r ∙ rw (sym p ∙ q) }
+behind-kind : (d : Bool) → behindMark (headRow d) ≡ endHead d
+unfolding header bytes
+behind-kind true = refl
+behind-kind false = refl
 
-  module _ (q : x ≡ false) {y : Bool} (u : y ≡ same r (line1 50)) where
-    pub kind-head-2 : y ≡ true → KindIs r (Head false)
-    kind-head-2 t = record { is = by-literals r ∙ rw (sym p ∙ q, sym u ∙ t) }
+module _ (r : List ℕ) {x : Heading} (p : x ≡ headingOf r) where
+  pub kind-head : {d : Bool} → x ≡ Line1 d → KindIs r (Head d)
+  kind-head {d} q = record { is = ap kindOf (heading-is r p q) ∙ head-kind d }
 
-    module _ (t : y ≡ false) {z : Bool} (w : z ≡ isLine r) where
+  module _ (q : x ≡ Other) where
+    no-head : kindOf r ≡ cond (isLine r) body (noLine r)
+    unfolding kindOf
+    no-head = rw (heading-not r p q true, heading-not r p q false)
+
+    module _ {z : Bool} (w : z ≡ isLine r) where
       pub kind-body : z ≡ true → KindIs r Body
-      kind-body v = record { is = by-literals r ∙ rw (sym p ∙ q, sym u ∙ t, sym w ∙ v) }
+      kind-body v = record { is = no-head ∙ rw (sym w ∙ v) }
 
       module _ (v : z ≡ false) where
         no-line : kindOf r ≡ noLine r
-        no-line = by-literals r ∙ rw (sym p ∙ q, sym u ∙ t, sym w ∙ v)
+        no-line = no-head ∙ rw (sym w ∙ v)
 
         pub kind-empty : length r ≡ 0 → KindIs r Broken
         kind-empty h = record { is = no-line ∙ go r h }
@@ -184,15 +182,11 @@ module _ (r : List ℕ) {x : Bool} (p : x ≡ same r (line1 49)) where
                 go (a ∷ []) g n h = absurd (h refl)
                 go (a ∷ b ∷ r) g n h = rw (eq-eqb a 0x1a g, rest-all 1 (a ∷ b ∷ r))
 
-            module _ {c : Bool} (i : c ≡ same (take (length r - 1) (drop 1 r)) (line1 49)) where
-              pub kind-end-head-1 : c ≡ true → KindIs r (EndHead true)
-              kind-end-head-1 j = record { is = after-mark ∙ rw (sym i ∙ j) }
+            module _ {c : Heading} (i : c ≡ headingOf (take (length r - 1) (drop 1 r))) where
+              pub kind-end-head : {d : Bool} → c ≡ Line1 d → KindIs r (EndHead d)
+              kind-end-head {d} j = record { is = after-mark ∙ ap behindMark (heading-is (take (length r - 1) (drop 1 r)) i j) ∙ behind-kind d }
 
-              module _ (j : c ≡ false) {d : Bool} (k : d ≡ same (take (length r - 1) (drop 1 r)) (line1 50)) where
-                pub kind-end-head-2 : d ≡ true → KindIs r (EndHead false)
-                kind-end-head-2 l = record { is = after-mark ∙ rw (sym i ∙ j, sym k ∙ l) }
+              pub kind-broken : c ≡ Other → KindIs r Broken
+              kind-broken j = record { is = after-mark ∙ rw (heading-not (take (length r - 1) (drop 1 r)) i j true, heading-not (take (length r - 1) (drop 1 r)) i j false) }
 
-                pub kind-broken : d ≡ false → KindIs r Broken
-                kind-broken l = record { is = after-mark ∙ rw (sym i ∙ j, sym k ∙ l) }
-
-pub ruleset kind-laws = (kind-head-1, kind-head-2, kind-body, kind-empty, kind-other, kind-end, kind-end-head-1, kind-end-head-2, kind-broken)
+pub ruleset kind-laws = (kind-head, kind-body, kind-empty, kind-other, kind-end, kind-end-head, kind-broken)

@@ -17,10 +17,11 @@ use Rattle.characters.specs.Rows.{rows, flat, lineEnd, isLine, WholeLine}
 use Rattle.characters.proofs.RowLaws.{flat-rows, line-is, whole-at}
 use Rattle.notebook.specs.Canonical.{headRow}
 use Rattle.notebook.proofs.Accepted.{head-length}
+use Rattle.heading.proofs.Laws.{heading-bytes}
 use Rattle.pieces.specs.declared.Row.{Row}
 use Rattle.pieces.specs.declared.Row.the-variants.{Body}
 use Rattle.pieces.specs.Answers.{RowAt, KindIs, RowIs, PlainWhere, Skipped}
-use Rattle.pieces.proofs.RowLaws.{row-laws, head-true, head-false}
+use Rattle.pieces.proofs.RowLaws.{row-laws}
 use Rattle.division.proofs.Chunks.{body-is}
 
 -- ---- eight bytes
@@ -177,8 +178,7 @@ module _ (s : List ℕ) (at : ℕ) {i : ℕ} (p : i ≡ at + length (text (drop 
     text-other n = no-head (λ d. go d (same (part s at (i + 2)) (headRow d)) refl)
       where
         first : (d : Bool) → getD (headRow d) 0 0 ≡ 0x4a
-        first true = ap (λ (l : List ℕ). getD l 0 0) head-true
-        first false = ap (λ (l : List ℕ). getD l 0 0) head-false
+        first d = ap (λ (l : List ℕ). getD l 0 0) (heading-bytes d)
 
         front : getD (part s at (i + 2)) 0 0 ≡ getD s at 0
         front =

@@ -174,13 +174,8 @@ pub enum Row {
 fn row_kind(r: &[u8]) -> Row
     ensures { λ k. ⌜ KindIs (now (r .entry)) k ⌝ }
 {
-    let provider = b"JAHISTC04,1\r\n";
-    if lists::same_bytes(r, provider) {
-        return Row::Head(true);
-    }
-    let patient = b"JAHISTC04,2\r\n";
-    if lists::same_bytes(r, patient) {
-        return Row::Head(false);
+    if let heading::Heading::Line1(provider) = heading::read_heading(r) {
+        return Row::Head(provider);
     }
     if is_line(r) {
         return Row::Body;
@@ -194,13 +189,10 @@ fn row_kind(r: &[u8]) -> Row
     if r.len() == 1 {
         return Row::End;
     }
-    if lists::same_bytes(&r[1..], provider) {
-        return Row::EndHead(true);
+    match heading::read_heading(&r[1..]) {
+        heading::Heading::Line1(provider) => Row::EndHead(provider),
+        heading::Heading::Other => Row::Broken,
     }
-    if lists::same_bytes(&r[1..], patient) {
-        return Row::EndHead(false);
-    }
-    Row::Broken
 }
 
 // A row: where it ends, and its kind.
