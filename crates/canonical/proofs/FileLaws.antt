@@ -29,7 +29,8 @@ use Rattle.notebook.specs.Facts.{factsOf}
 use Rattle.buffers.specs.Buffers.{Room, Wrote}
 use Rattle.buffers.proofs.Runs.{sets-append}
 use Rattle.notebook.specs.Notebook.{stepLine, prepend, closed, onward, recordsFrom}
-use Rattle.checking.specs.Walking.{Behind, Closing}
+use Rattle.checking.specs.Walking.{Closing}
+use Rattle.checking.specs.Opening.{Behind}
 use Rattle.notebook.proofs.Placing.{Placed, placed, place-number}
 use Rattle.checking.specs.declared.Turn.{Turn}
 use Rattle.checking.specs.declared.Turn.the-variants.{Over, Refused as TurnRefused, On as TurnOn}

@@ -14,8 +14,9 @@ ghost use Rattle.order.specs.State.{start};
 ghost use Rattle.codes.specs.Codes.{placeOf, Lent};
 ghost use Rattle.lines.specs.Codes.{Commas, Spanned};
 ghost use Rattle.buffers.specs.Buffers.{Room, Wrote};
-ghost use Rattle.notebook.specs.Notebook.{recordsFrom, readFile};
-ghost use Rattle.checking.specs.Walking.{Behind, Closing};
+ghost use Rattle.notebook.specs.Notebook.{recordsFrom};
+ghost use Rattle.checking.specs.Walking.{Closing};
+ghost use Rattle.checking.specs.Opening.{Behind};
 ghost use Rattle.notebook.specs.Canonical.{recordRow, canonicalFile, canonicalResult};
 ghost use Rattle.replies.specs.Results.{Gives};
 ghost use Rattle.canonical.specs.Writing.{postalBytes, numberBytes, dayBytes, itemBytes, Spellable, OwnUnless, Items, Sound};
@@ -323,24 +324,12 @@ pub fn canonical_into(s: &[u8], out: &mut [u8]) -> Answer
     requires { ⌜ Holds (now s) (now out) ⌝ }
     ensures { λ r. ⌜ MadeOf (length (now (out .entry))) (canonicalFile (now (s .entry))) (now (out .exit)) r ⌝ }
 {
-    let len = s.len();
-    if 65536 < len {
-        return Answer::Refused(1, 0);
-    }
-    let codes = codes::item_codes();
-    let mut stops = [0usize; 16];
-    let start = 0;
-    match scanning::line_at(&mut stops, s, start) {
-        scanning::Line::End => Answer::Refused(2, 1),
-        scanning::Line::Mark => Answer::Refused(2, 1),
-        scanning::Line::Broken => Answer::Refused(2, 1),
-        scanning::Line::Whole(end, _, _) => {
-            let direction = checking::direction(&s[start..end]);
-            if direction == 0 {
-                return Answer::Refused(3, 1);
-            }
-            let from = end + 2;
-            write_records(&codes, &mut stops, direction == 1, s, from, out)
+    match checking::open_file(s) {
+        checking::Opening::Refused(number, line) => Answer::Refused(number, line),
+        checking::Opening::Records(provider, from) => {
+            let codes = codes::item_codes();
+            let mut stops = [0usize; 16];
+            write_records(&codes, &mut stops, provider, s, from, out)
         }
     }
 }

@@ -12,7 +12,7 @@ use mir.Val.{Fits}
 use mir.Syntax.{w32, w64}
 use lib.Dec.{leb, eqb}
 use lib.ListN.{length, take, drop}
-use Rattle.lists.specs.Lists.{bytes, same, part, Res, ok, refused}
+use Rattle.lists.specs.Lists.{part, Res, ok, refused}
 use Rattle.scanning.specs.declared.Line.{Line}
 use Rattle.scanning.specs.declared.Line.the-variants.{Whole, Mark, End, Broken}
 use Rattle.characters.specs.Text.{allChars, text}
@@ -20,7 +20,7 @@ use Rattle.scanning.specs.Scans.{Stops, Sixteen}
 use Rattle.characters.specs.Rows.{rows, isLine, lineEnd, endMark, WholeLine, BrokenRow}
 use Rattle.scanning.specs.Scans.{ScannedLine, LineMeans, LineOf}
 use Rattle.characters.proofs.RowLaws.{line-is, line-text, line-no-mark}
-use Rattle.records.specs.Records.{Record, faultWhere, lineFault, recordOf, header}
+use Rattle.records.specs.Records.{Record, recordOf}
 use Rattle.order.specs.declared.State.{State}
 use Rattle.order.specs.declared.Moved.{Moved}
 use Rattle.order.specs.declared.Moved.the-variants.{Refused as StepRefused, On}
@@ -32,40 +32,22 @@ use Rattle.replies.specs.declared.Answer.{Answer}
 use Rattle.replies.specs.declared.Answer.the-variants.{Done, Refused}
 use Rattle.replies.specs.Results.{answerIn}
 use Rattle.notebook.specs.Notebook.{Notebook, stepLine, prepend, closed, onward, recordsFrom, notebookOf, readRows, readFile}
-use Rattle.notebook.specs.Check.{count, counted, checkResult}
+use Rattle.notebook.specs.Check.{count, checkResult}
 use Rattle.notebook.proofs.Answered.{answered}
-use Rattle.checking.specs.Walking.{directionOf, tally, Behind, Closing}
+use Rattle.checking.specs.Walking.{tally, Closing}
 use Rattle.checking.proofs.LineFacts.{line-size, whole-line, records-end, records-mark, records-broken, records-on}
 use Rattle.checking.specs.declared.Turn.{Turn}
 use Rattle.checking.specs.declared.Turn.the-variants.{Over, Refused as TurnRefused, On as TurnOn}
 use Rattle.checking.specs.Turns.{RefusedAt, broken, faulty, TurnOf}
 use Rattle.checking.proofs.TurnLaws.{turn-facts, turn-over, turn-refused, turn-step, turn-fits}
 use Rattle.notebook.proofs.Placing.{Placed, placed}
-use Rattle.checking.proofs.ReadLaws.{read-large, read-end, read-mark, read-broken, read-provider, read-patient, read-version, direction-few, line-1-high, line-1-fits, line-1-behind}
+use Rattle.checking.specs.declared.Opening.{Opening}
+use Rattle.checking.specs.declared.Opening.the-variants.{Records, Refused as OpenRefused}
+use Rattle.checking.specs.Opening.{Behind, OpeningOf}
+use Rattle.checking.proofs.OpenLaws.{zeros-size, opening-refused, opening-records, opening-behind}
 
 three : {a b c a′ b′ c′ : ℕ} → a ≡ a′ → b ≡ b′ → c ≡ c′ → Done a b c ≡ Done a′ b′ c′
 three p q r = cc
-
--- ---- line 1
-
--- the bytes of the code's literals
-abbrev line1 : ℕ → List ℕ
-line1 d = 74 ∷ 65 ∷ 72 ∷ 73 ∷ 83 ∷ 84 ∷ 67 ∷ 48 ∷ 52 ∷ 44 ∷ d ∷ []
-
-by-literals : (l : List ℕ) → directionOf l ≡ cond (same l (line1 49)) 1 (cond (same l (line1 50)) 2 0)
-unfolding directionOf header bytes
-by-literals l = refl
-
-module _ (l : List ℕ) {x : Bool} (p : x ≡ same l (line1 49)) where
-  pub direction-1 : x ≡ true → 1 ≡ directionOf l
-  direction-1 q = sym (by-literals l ∙ rw (sym p ∙ q))
-
-  module _ {y : Bool} (q : x ≡ false) (r : y ≡ same l (line1 50)) where
-    pub direction-2 : y ≡ true → 2 ≡ directionOf l
-    direction-2 t = sym (by-literals l ∙ rw (sym p ∙ q, sym r ∙ t))
-
-    pub direction-0 : y ≡ false → 0 ≡ directionOf l
-    direction-0 t = sym (by-literals l ∙ rw (sym p ∙ q, sym r ∙ t))
 
 -- ---- the end
 
@@ -192,38 +174,13 @@ unfolding start
 tally-start provider (refused n line) = refl
 tally-start provider (ok rs) = three (zero-add (length rs)) (zero-add (count 5 rs)) (zero-add (count 201 rs))
 
-module _ (s : List ℕ) where
-  refused-as : {n line : ℕ} → readFile s ≡ refused n line → Refused n line ≡ answerIn (checkResult s) []
+module _ {s : List ℕ} {k : Opening} (w : OpeningOf s k) where
+  pub check-refused : {n line : ℕ} → k ≡ OpenRefused n line → Refused n line ≡ answerIn (checkResult s) []
   unfolding answerIn checkResult
-  refused-as e = sym (ap answered e)
+  check-refused q = sym (ap answered (opening-refused w q))
 
-  pub check-large : 65536 < length s → Refused 1 0 ≡ answerIn (checkResult s) []
-  check-large h = refused-as (read-large s h)
+  pub check-records : {provider : Bool} {from : ℕ} → k ≡ Records provider from → {r : Answer} → r ≡ tally (start provider) (recordsFrom (start provider) (rows (drop from s))) → r ≡ answerIn (checkResult s) []
+  unfolding answerIn checkResult
+  check-records {provider} {from} q t = t ∙ tally-start provider (recordsFrom (start provider) (rows (drop from s))) ∙ sym (ap answered (opening-records w q .read))
 
-  module _ (h : length s ≤ 65536) {stops : List ℕ} {k : Line} (w : LineOf s 0 stops k) where
-    pub check-end : k ≡ End → Refused 2 1 ≡ answerIn (checkResult s) []
-    check-end e = refused-as (read-end s h w e)
-
-    pub check-mark : k ≡ Mark → Refused 2 1 ≡ answerIn (checkResult s) []
-    check-mark e = refused-as (read-mark s h w e)
-
-    pub check-broken : k ≡ Broken → Refused 2 1 ≡ answerIn (checkResult s) []
-    check-broken e = refused-as (read-broken s h w e)
-
-    module _ {e : ℕ} {good : Bool} {n : ℕ} (q : k ≡ Whole e good n) {d : ℕ} (p : d ≡ directionOf (take (e - 0) (drop 0 s))) where
-      pub check-provider : {r : Answer} → d ≡ 1 → r ≡ tally (start true) (recordsFrom (start true) (rows (drop (e + 2) s))) → r ≡ answerIn (checkResult s) []
-      unfolding answerIn checkResult
-      check-provider z t = t ∙ tally-start true (recordsFrom (start true) (rows (drop (e + 2) s))) ∙ sym (ap answered (read-provider s h w q p z .1))
-
-      pub check-patient : {r : Answer} → d ≡ 2 → r ≡ tally (start false) (recordsFrom (start false) (rows (drop (e + 2) s))) → r ≡ answerIn (checkResult s) []
-      unfolding answerIn checkResult
-      check-patient z t =
-          t ∙ tally-start false (recordsFrom (start false) (rows (drop (e + 2) s))) ∙ sym (ap answered (read-patient s h w q p (λ o. omega arith) (λ o. omega arith) .1))
-
-      pub check-version : (d ≡ 1 → ⊥) → (d ≡ 2 → ⊥) → Refused 3 1 ≡ answerIn (checkResult s) []
-      check-version y z = refused-as (read-version s h w q p (omega (arith, direction-few s h w q p)))
-
-pub zeros-size : Sixteen (0 ∷ 0 ∷ 0 ∷ 0 ∷ 0 ∷ 0 ∷ 0 ∷ 0 ∷ 0 ∷ 0 ∷ 0 ∷ 0 ∷ 0 ∷ 0 ∷ 0 ∷ 0 ∷ [])
-zeros-size = record { is = refl }
-
-pub ruleset check-laws = (line-size, zeros-size, check-large, check-end, check-mark, check-broken, line-1-high, line-1-fits, line-1-behind, check-provider, check-patient, check-version)
+pub ruleset check-laws = (zeros-size, opening-behind, check-refused, check-records)

@@ -1,4 +1,4 @@
 pub mod LineFacts
 pub mod TurnLaws
-pub mod ReadLaws
+pub mod OpenLaws
 pub mod CheckLaws

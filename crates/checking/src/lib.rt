@@ -1,6 +1,7 @@
 // Files: line 1, the records in their order, and the end. `check` is one pass: each line is found, read and put in its place before
 // the next one is looked at, so the first faulty line is the one that answers.
-// Definitions: notebook, specs/Notebook.antt (what a file is read to) and specs/Check.antt; the walk in specs/Walking.antt, specs/Turns.antt.
+// Definitions: notebook, specs/Notebook.antt (what a file is read to) and specs/Check.antt; the beginning in
+// specs/Opening.antt, the walk in specs/Walking.antt and specs/Turns.antt.
 ghost use mathlib.Core.Path.{_≡_};
 ghost use lib.ListN.{drop};
 ghost use Rattle.characters.specs.Rows.{rows};
@@ -12,22 +13,37 @@ ghost use Rattle.checking.specs.Turns.{TurnOf};
 ghost use mathlib.Core.List.{[]};
 ghost use Rattle.notebook.specs.Check.{checkResult};
 ghost use Rattle.replies.specs.Results.{answerIn};
-ghost use Rattle.checking.specs.Walking.{tally, directionOf, Behind, Closing};
+ghost use Rattle.checking.specs.Walking.{tally, Closing};
+ghost use Rattle.checking.specs.Opening.{Behind, OpeningOf};
 use replies::Answer;
 
-// 1 for provider to patient, 2 for patient to provider, 0 for a line that is no line 1.
-pub fn direction(line: &[u8]) -> u32
-    ensures { λ r. ⌜ r ≡ directionOf (now (line .entry)) ⌝ }
+// How a file begins: the direction that line 1 tells (true: 1) and where the records begin; or a refusal with its line.
+pub enum Opening {
+    Records(bool, usize),
+    Refused(u32, u32),
+}
+
+// The size of a file and its line 1.
+pub fn open_file(s: &[u8]) -> Opening
+    ensures { λ r. ⌜ OpeningOf (now (s .entry)) r ⌝ }
 {
-    let provider = b"JAHISTC04,1";
-    if lists::same_bytes(line, provider) {
-        return 1;
+    if 65536 < s.len() {
+        return Opening::Refused(1, 0);
     }
-    let patient = b"JAHISTC04,2";
-    if lists::same_bytes(line, patient) {
-        return 2;
+    let mut stops = [0usize; 16];
+    let start = 0;
+    match scanning::line_at(&mut stops, s, start) {
+        scanning::Line::End => Opening::Refused(2, 1),
+        scanning::Line::Mark => Opening::Refused(2, 1),
+        scanning::Line::Broken => Opening::Refused(2, 1),
+        scanning::Line::Whole(end, _, _) => {
+            let from = end + 2;
+            match heading::read_heading(&s[start..from]) {
+                heading::Heading::Line1(provider) => Opening::Records(provider, from),
+                heading::Heading::Other => Opening::Refused(3, 1),
+            }
+        }
     }
-    0
 }
 
 // The end of a file: what is missing there, or the counts.
@@ -105,27 +121,12 @@ fn check_records(
 pub fn check(s: &[u8]) -> Answer
     ensures { λ r. ⌜ r ≡ answerIn (checkResult (now (s .entry))) [] ⌝ }
 {
-    let len = s.len();
-    if 65536 < len {
-        return Answer::Refused(1, 0);
-    }
-    let codes = codes::item_codes();
-    let mut stops = [0usize; 16];
-    let start = 0;
-    match scanning::line_at(&mut stops, s, start) {
-        scanning::Line::End => return Answer::Refused(2, 1),
-        scanning::Line::Mark => return Answer::Refused(2, 1),
-        scanning::Line::Broken => return Answer::Refused(2, 1),
-        scanning::Line::Whole(end, _, _) => {
-            let d = direction(&s[start..end]);
-            let from = end + 2;
-            if d == 1 {
-                return check_records(&codes, &mut stops, true, s, from);
-            }
-            if d == 2 {
-                return check_records(&codes, &mut stops, false, s, from);
-            }
-            Answer::Refused(3, 1)
+    match open_file(s) {
+        Opening::Refused(number, line) => Answer::Refused(number, line),
+        Opening::Records(provider, from) => {
+            let codes = codes::item_codes();
+            let mut stops = [0usize; 16];
+            check_records(&codes, &mut stops, provider, s, from)
         }
     }
 }

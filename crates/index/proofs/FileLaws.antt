@@ -1,18 +1,13 @@
 -- The whole call: line 1, the room for the index, the answer and the buffer. One law for each way through the code. Assumes nothing.
-use Prim.Native.Nat.{ℕ, _+_, _*_, _-_, _≤_, _<_}
+use Prim.Native.Nat.{ℕ, _*_, _-_, _≤_, _<_}
 use native.Mathlib.Omega.{arith}
 use mathlib.Core.Path.{_≡_, refl, sym, ap, _∙_, subst}
-use mathlib.Core.Bool.{Bool, true, false, cond}
-use mathlib.Core.List.{List, [], _∷_, _++_}
-use lib.Dec.{eqb}
-use lib.ListN.{length, take, drop, length-append}
+use mathlib.Core.Bool.{Bool, true, false}
+use mathlib.Core.List.{List, [], _∷_}
+use lib.ListN.{length, drop}
 use lib.Seq.{length-take-le}
-use Rattle.lists.specs.Lists.{same, part, ok, mapRes}
-use Rattle.scanning.specs.declared.Line.{Line}
-use Rattle.scanning.specs.declared.Line.the-variants.{Whole, Mark, End, Broken}
-use Rattle.characters.specs.Rows.{rows, isLine, lineEnd, WholeLine, BrokenRow}
-use Rattle.scanning.specs.Scans.{LineMeans, LineOf}
-use Rattle.characters.proofs.RowLaws.{line-is, line-text}
+use Rattle.lists.specs.Lists.{bytes, Res, ok, refused, mapRes}
+use Rattle.characters.specs.Rows.{rows, isLine}
 use Rattle.records.specs.Records.{header}
 use Rattle.order.specs.State.{start}
 use Rattle.buffers.specs.Buffers.{Room, Wrote}
@@ -20,81 +15,60 @@ use Rattle.replies.specs.declared.Answer.{Answer}
 use Rattle.replies.specs.declared.Answer.the-variants.{Done, Refused}
 use Rattle.replies.specs.Results.{answerIn, Gives}
 use Rattle.replies.proofs.Results.{gives-refusal, gives-20, gives-written}
+use Rattle.notebook.specs.Notebook.{Notebook}
 use Rattle.notebook.specs.Check.{checkResult}
-use Rattle.checking.specs.Walking.{directionOf}
+use Rattle.notebook.specs.Canonical.{headRow}
+use Rattle.checking.specs.declared.Opening.{Opening}
+use Rattle.checking.specs.declared.Opening.the-variants.{Records, Refused as OpenRefused}
+use Rattle.checking.specs.Opening.{OpensAt, OpeningOf}
+use Rattle.checking.proofs.OpenLaws.{zeros-size, opening-refused, opening-records, opening-behind}
 use Rattle.notebook.specs.Index.{Entry, entriesFrom, entriesBehind, entriesOf, numbers, numbersOf, indexed, indexResult}
 use Rattle.index.specs.Filling.{Fillable}
-use Rattle.notebook.proofs.Answered.{Counted, check-refused, check-accepted}
+use Rattle.notebook.proofs.Answered.{Counted, answer-refused, answer-accepted}
 use Rattle.notebook.proofs.Walk.{Accepted as AcceptedFile, accepted, walk-length, numbers-length}
 
 -- ---- line 1
 
--- the direction's number tells the side
-first-side : (l : List ℕ) → eqb (directionOf l) 1 ≡ same l (header true)
-unfolding directionOf
-first-side l = go (same l (header true)) (same l (header false))
-  where
-    go : (x y : Bool) → eqb (cond x 1 (cond y 2 0)) 1 ≡ x
-    go true y = refl
-    go false true = refl
-    go false false = refl
+entries-behind : (provider : Bool) (rs : List (List ℕ)) → entriesBehind (headRow provider ∷ rs) ≡ entriesFrom (start provider) (length (headRow provider)) rs
+unfolding entriesBehind header bytes isLine
+entries-behind true rs = refl
+entries-behind false rs = refl
 
-module _ (s d : List ℕ) (f : Fillable s d) where
-  none-written : entriesOf s ≡ [] → Wrote d d 0 0 (numbersOf s)
-  unfolding numbersOf numbers
-  none-written e = rw e (record { next = refl; list = refl; size = refl; high = omega arith })
+module _ {s d : List ℕ} (f : Fillable s d) {k : Opening} (w : OpeningOf s k) where
+  pub fill-refused : {n line : ℕ} → k ≡ OpenRefused n line → Wrote d d 0 0 (numbersOf s)
+  fill-refused {n} {line} q =
+      let u : _≡_ {A = Res Notebook} (ok (f .book)) (refused n line) = sym (f .read) ∙ opening-refused w q in
+      let z : _≡_ {A = ℕ} 0 1 = cc in
+      absurd (omega arith)
 
-  module _ {stops : List ℕ} {k : Line} (w : LineOf s 0 stops k) where
-    means : {j : Line} → k ≡ j → LineMeans s 0 stops j
-    means e = subst (LineMeans s 0 stops) e (w .means)
+  module _ {provider : Bool} {from : ℕ} (q : k ≡ Records provider from) where
+    file-entries : entriesOf s ≡ entriesFrom (start provider) from (rows (drop from s))
+    unfolding entriesOf
+    file-entries =
+        let o : OpensAt s provider from = opening-records w q in
+        let n : length (headRow provider) ≡ from = ap length (sym (o .first)) ∙ length-take-le (from - 0) s (omega (arith, o .behind .high)) ∙ omega arith in
+        ap entriesBehind (o .cut) ∙ entries-behind provider (rows (drop from s)) ∙ ap (λ (j : ℕ). entriesFrom (start provider) j (rows (drop from s))) n
 
-    pub fill-end : k ≡ End → Wrote d d 0 0 (numbersOf s)
-    unfolding entriesOf entriesBehind
-    fill-end e = none-written (ap entriesBehind (means e))
+    pub fill-room : Room d 0 (numbers (entriesFrom (start provider) from (rows (drop from s))))
+    unfolding numbersOf
+    fill-room = omega (arith, f .room, ap (λ (es : List Entry). length (numbers es)) file-entries)
 
-    pub fill-mark : k ≡ Mark → Wrote d d 0 0 (numbersOf s)
-    unfolding entriesOf entriesBehind isLine
-    fill-mark e = none-written (ap entriesBehind (means e))
+    pub fill-whole : {d′ : List ℕ} {r : ℕ} → Wrote d d′ 0 r (numbers (entriesFrom (start provider) from (rows (drop from s)))) → Wrote d d′ 0 r (numbersOf s)
+    unfolding numbersOf
+    fill-whole x = rw file-entries x
 
-    pub fill-broken : k ≡ Broken → Wrote d d 0 0 (numbersOf s)
-    unfolding entriesOf entriesBehind
-    fill-broken e = none-written (go (rows s) (means e))
-      where
-        go : (rs : List (List ℕ)) → BrokenRow rs → entriesBehind rs ≡ []
-        go [] b = absurd b
-        go (r ∷ rs) b = rw (b .0)
-
-    module _ {e : ℕ} {good : Bool} {commas : ℕ} (q : k ≡ Whole e good commas) {direction : ℕ} (p : direction ≡ directionOf (take (e - 0) (drop 0 s))) where
-      line : WholeLine s 0 e good
-      line = means q .line
-
-      file-entries : entriesOf s ≡ entriesFrom (start (eqb direction 1)) (e + 2) (rows (drop (e + 2) s))
-      unfolding entriesOf entriesBehind
-      file-entries =
-          let m : length (part s 0 e) ≡ e = length-take-le (e - 0) s (omega (arith, line .high)) ∙ omega arith in
-          let n : length (part s 0 e ++ lineEnd) ≡ e + 2 = rw (length-append, m) (omega arith) in
-          rw (line .cut, line-is (part s 0 e) (line .clear), line-text (part s 0 e) (line .clear), n, p, first-side (part s 0 e))
-
-      pub fill-room : Room d 0 (numbers (entriesFrom (start (eqb direction 1)) (e + 2) (rows (drop (e + 2) s))))
-      unfolding numbersOf
-      fill-room = omega (arith, f .room, ap (λ (es : List Entry). length (numbers es)) file-entries)
-
-      pub fill-whole : {d′ : List ℕ} {r : ℕ} → Wrote d d′ 0 r (numbers (entriesFrom (start (eqb direction 1)) (e + 2) (rows (drop (e + 2) s)))) → Wrote d d′ 0 r (numbersOf s)
-      unfolding numbersOf
-      fill-whole x = rw file-entries x
-
-pub ruleset fill-laws = (fill-end, fill-mark, fill-broken, fill-room, fill-whole)
+pub ruleset fill-laws = (zeros-size, opening-behind, fill-refused, fill-room, fill-whole)
 
 -- ---- the answer and the buffer
 
 module _ (s d : List ℕ) {c : Answer} (p : c ≡ answerIn (checkResult s) []) where
   pub index-refused : {n line : ℕ} → c ≡ Refused n line → Gives (indexResult s) d d (Refused n line)
   unfolding indexResult
-  index-refused {n} {line} e = gives-refusal d (ap (mapRes (indexed s)) (check-refused s n line (sym p ∙ e)))
+  index-refused {n} {line} e = gives-refusal d (ap (mapRes (indexed s)) (answer-refused s n line (sym p ∙ e)))
 
   module _ {n g x : ℕ} (e : c ≡ Done n g x) where
     by-count : Counted s n
-    by-count = check-accepted s n g x (sym p ∙ e)
+    by-count = answer-accepted s n g x (sym p ∙ e)
 
     file : AcceptedFile s (by-count .book)
     file = accepted s (by-count .book) (by-count .read)
@@ -111,7 +85,7 @@ module _ (s d : List ℕ) {c : Answer} (p : c ≡ answerIn (checkResult s) []) w
     index-short h = gives-20 d given (omega (arith, size))
 
     pub index-fillable : n * 6 ≤ length d → Fillable s d
-    index-fillable h = record { small = file .small; room = omega (arith, size) }
+    index-fillable h = record { book = by-count .book; read = by-count .read; room = omega (arith, size) }
 
     pub index-written : {d′ : List ℕ} {r : ℕ} → Wrote d d′ 0 r (numbersOf s) → Gives (indexResult s) d d′ (Done n 0 0)
     index-written {d′} w = subst (λ (k : ℕ). Gives (indexResult s) d d′ (Done k 0 0)) (by-count .count) (gives-written d given w)

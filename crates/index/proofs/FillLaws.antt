@@ -28,7 +28,7 @@ use Rattle.notebook.specs.Facts.{factsOf}
 use Rattle.buffers.specs.Buffers.{Room, Wrote, six}
 use Rattle.buffers.proofs.Runs.{carry}
 use Rattle.notebook.specs.Notebook.{stepLine}
-use Rattle.checking.specs.Walking.{Behind}
+use Rattle.checking.specs.Opening.{Behind}
 use Rattle.notebook.proofs.Placing.{Placed, placed, place-number}
 use Rattle.checking.specs.declared.Turn.{Turn}
 use Rattle.checking.specs.declared.Turn.the-variants.{Over, Refused as TurnRefused, On as TurnOn}

@@ -9,7 +9,7 @@ ghost use Rattle.order.specs.State.{start, groupOf, drugOf};
 ghost use Rattle.scanning.specs.Scans.{Sixteen};
 ghost use Rattle.codes.specs.Codes.{Lent};
 ghost use Rattle.buffers.specs.Buffers.{Room, Wrote, six};
-ghost use Rattle.checking.specs.Walking.{Behind};
+ghost use Rattle.checking.specs.Opening.{Behind};
 ghost use Rattle.notebook.specs.Index.{entriesFrom, numbers, numbersOf, indexResult};
 ghost use Rattle.replies.specs.Results.{Gives};
 ghost use Rattle.index.specs.Filling.{Spanned, Fillable};
@@ -66,22 +66,17 @@ fn fill_records(
     }
 }
 
-// The entries of a file, from the buffer's start on.
+// The entries of an accepted file, from the buffer's start on.
 fn fill(s: &[u8], out: &mut [u32]) -> usize
     requires { ⌜ Fillable (now s) (now out) ⌝ }
     ensures { λ r. ⌜ Wrote (now (out .entry)) (now (out .exit)) 0 r (numbersOf (now (s .entry))) ⌝ }
 {
-    let codes = codes::item_codes();
-    let mut stops = [0usize; 16];
-    let start = 0;
-    match scanning::line_at(&mut stops, s, start) {
-        scanning::Line::End => 0,
-        scanning::Line::Mark => 0,
-        scanning::Line::Broken => 0,
-        scanning::Line::Whole(end, _, _) => {
-            let direction = checking::direction(&s[start..end]);
-            let from = end + 2;
-            fill_records(&codes, &mut stops, direction == 1, s, from, out)
+    match checking::open_file(s) {
+        checking::Opening::Refused(_, _) => 0,
+        checking::Opening::Records(provider, from) => {
+            let codes = codes::item_codes();
+            let mut stops = [0usize; 16];
+            fill_records(&codes, &mut stops, provider, s, from, out)
         }
     }
 }

@@ -250,7 +250,7 @@ accepted f b e = sized (leb (length f) 65536) refl e
     sized false p e = absurd (no-refusal e)
 
 -- rows behind a line 1 are read as the reader reads them from the start
-rows-read : (d : Bool) (rs : List (List ℕ)) → readRows (headRow d ∷ rs) ≡ notebookOf d (recordsFrom (start d) rs)
+pub rows-read : (d : Bool) (rs : List (List ℕ)) → readRows (headRow d ∷ rs) ≡ notebookOf d (recordsFrom (start d) rs)
 unfolding readRows header bytes
 rows-read true rs = rw (head-line true)
 rows-read false rs = rw (head-line false)

@@ -17,7 +17,7 @@ use Rattle.records.specs.Records.{Record, ok as read, readLine, recordOf, lineF
 use Rattle.records.proofs.LineLaws.{reads, read-is}
 use Rattle.records.proofs.TheLanguage.{round, short, clear}
 use Rattle.notebook.specs.Notebook.{Notebook, readFile}
-use Rattle.replies.specs.Results.{Result, writes}
+use Rattle.replies.specs.Results.{writes}
 use Rattle.notebook.specs.Check.{counted, checkResult}
 use Rattle.notebook.specs.Canonical.{headRow, recordRow, recordRows, canonicalBytes, canonicalFile, canonicalResult}
 use Rattle.notebook.proofs.Accepted.{IsLine, head-length, line-bytes, rows-flat, Reads, Lines, none, more, lines-are, Taken, Carried, accepted, carries}
