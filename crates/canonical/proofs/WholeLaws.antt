@@ -2,10 +2,8 @@
 use Prim.Native.Nat.{ℕ, _+_, _-_, _≤_, _<_}
 use native.Mathlib.Omega.{arith}
 use mathlib.Core.Path.{_≡_, refl, sym, ap, _∙_, subst}
-use mathlib.Core.Bool.{Bool, cond}
+use mathlib.Core.Bool.{Bool}
 use mathlib.Core.List.{List, _++_}
-use borrow.Author.Tests.{le-leb, lt-leb}
-use lib.Dec.{leb}
 use lib.ListN.{length, take, drop}
 use lib.Seq.{sets, length-sets, length-take-le}
 use Rattle.lists.specs.Lists.{part, Res, ok, refused, mapRes}
@@ -13,8 +11,8 @@ use Rattle.characters.specs.Rows.{rows, flat}
 use Rattle.records.specs.Records.{Record}
 use Rattle.order.specs.State.{start}
 use Rattle.buffers.specs.Buffers.{Room, Wrote}
-use Rattle.buffers.proofs.Runs.{then, front, sets-all}
-use Rattle.notebook.specs.Notebook.{Notebook, recordsFrom, notebookOf, readFile}
+use Rattle.buffers.proofs.Runs.{then, front}
+use Rattle.notebook.specs.Notebook.{recordsFrom, notebookOf, readFile}
 use Rattle.checking.specs.declared.Opening.{Opening}
 use Rattle.checking.specs.declared.Opening.the-variants.{Records, Refused as OpenRefused}
 use Rattle.checking.specs.Opening.{OpensAt, OpeningOf}

@@ -21,7 +21,6 @@ use Rattle.items.specs.Codes.{itemOf}
 use Rattle.codes.specs.Codes.{codes, placeOf, sliceOf}
 use Rattle.lines.specs.Codes.{Spanned}
 use Rattle.buffers.specs.Buffers.{Wrote}
-use Rattle.notebook.specs.Notebook.{Notebook}
 use Rattle.replies.specs.declared.Answer.{Answer}
 use Rattle.replies.specs.declared.Answer.the-variants.{Done, Refused}
 use Rattle.canonical.specs.declared.Run.{Run}

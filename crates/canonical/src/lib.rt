@@ -14,7 +14,7 @@ ghost use Rattle.order.specs.State.{start};
 ghost use Rattle.codes.specs.Codes.{placeOf, Lent};
 ghost use Rattle.lines.specs.Codes.{Commas, Spanned};
 ghost use Rattle.buffers.specs.Buffers.{Room, Wrote};
-ghost use Rattle.notebook.specs.Notebook.{recordsFrom, readFile};
+ghost use Rattle.notebook.specs.Notebook.{recordsFrom};
 ghost use Rattle.checking.specs.Walking.{Closing};
 ghost use Rattle.checking.specs.Opening.{Behind};
 ghost use Rattle.notebook.specs.Canonical.{recordRow, canonicalFile, canonicalResult};

@@ -32,7 +32,7 @@ use Rattle.replies.specs.declared.Answer.{Answer}
 use Rattle.replies.specs.declared.Answer.the-variants.{Done, Refused}
 use Rattle.replies.specs.Results.{answerIn}
 use Rattle.notebook.specs.Notebook.{Notebook, stepLine, prepend, closed, onward, recordsFrom, notebookOf, readRows, readFile}
-use Rattle.notebook.specs.Check.{count, counted, checkResult}
+use Rattle.notebook.specs.Check.{count, checkResult}
 use Rattle.notebook.proofs.Answered.{answered}
 use Rattle.checking.specs.Walking.{tally, Closing}
 use Rattle.checking.proofs.LineFacts.{line-size, whole-line, records-end, records-mark, records-broken, records-on}

@@ -1,12 +1,12 @@
 -- The whole call: line 1, the room for the index, the answer and the buffer. One law for each way through the code. Assumes nothing.
-use Prim.Native.Nat.{ℕ, _+_, _*_, _-_, _≤_, _<_}
+use Prim.Native.Nat.{ℕ, _*_, _-_, _≤_, _<_}
 use native.Mathlib.Omega.{arith}
 use mathlib.Core.Path.{_≡_, refl, sym, ap, _∙_, subst}
-use mathlib.Core.Bool.{Bool, true, false, cond}
-use mathlib.Core.List.{List, [], _∷_, _++_}
+use mathlib.Core.Bool.{Bool, true, false}
+use mathlib.Core.List.{List, [], _∷_}
 use lib.ListN.{length, drop}
 use lib.Seq.{length-take-le}
-use Rattle.lists.specs.Lists.{bytes, ok, mapRes}
+use Rattle.lists.specs.Lists.{bytes, Res, ok, refused, mapRes}
 use Rattle.characters.specs.Rows.{rows, isLine}
 use Rattle.records.specs.Records.{header}
 use Rattle.order.specs.State.{start}
@@ -15,6 +15,7 @@ use Rattle.replies.specs.declared.Answer.{Answer}
 use Rattle.replies.specs.declared.Answer.the-variants.{Done, Refused}
 use Rattle.replies.specs.Results.{answerIn, Gives}
 use Rattle.replies.proofs.Results.{gives-refusal, gives-20, gives-written}
+use Rattle.notebook.specs.Notebook.{Notebook}
 use Rattle.notebook.specs.Check.{checkResult}
 use Rattle.notebook.specs.Canonical.{headRow}
 use Rattle.checking.specs.declared.Opening.{Opening}
@@ -23,7 +24,7 @@ use Rattle.checking.specs.Opening.{OpensAt, OpeningOf}
 use Rattle.checking.proofs.OpenLaws.{zeros-size, opening-refused, opening-records, opening-behind}
 use Rattle.notebook.specs.Index.{Entry, entriesFrom, entriesBehind, entriesOf, numbers, numbersOf, indexed, indexResult}
 use Rattle.index.specs.Filling.{Fillable}
-use Rattle.notebook.proofs.Answered.{Counted, check-refused, check-accepted}
+use Rattle.notebook.proofs.Answered.{Counted, answer-refused, answer-accepted}
 use Rattle.notebook.proofs.Walk.{Accepted as AcceptedFile, accepted, walk-length, numbers-length}
 
 -- ---- line 1
@@ -63,11 +64,11 @@ pub ruleset fill-laws = (zeros-size, opening-behind, fill-refused, fill-room, fi
 module _ (s d : List ℕ) {c : Answer} (p : c ≡ answerIn (checkResult s) []) where
   pub index-refused : {n line : ℕ} → c ≡ Refused n line → Gives (indexResult s) d d (Refused n line)
   unfolding indexResult
-  index-refused {n} {line} e = gives-refusal d (ap (mapRes (indexed s)) (check-refused s n line (sym p ∙ e)))
+  index-refused {n} {line} e = gives-refusal d (ap (mapRes (indexed s)) (answer-refused s n line (sym p ∙ e)))
 
   module _ {n g x : ℕ} (e : c ≡ Done n g x) where
     by-count : Counted s n
-    by-count = check-accepted s n g x (sym p ∙ e)
+    by-count = answer-accepted s n g x (sym p ∙ e)
 
     file : AcceptedFile s (by-count .book)
     file = accepted s (by-count .book) (by-count .read)

@@ -22,7 +22,7 @@ use Rattle.replies.specs.Results.{writes, answerIn, Gives}
 use Rattle.replies.proofs.Results.{gives-refusal, front-20, front-written}
 use Rattle.notebook.specs.Notebook.{Notebook, readFile}
 use Rattle.notebook.specs.Check.{checkResult}
-use Rattle.notebook.proofs.Answered.{check-refused, check-accepted}
+use Rattle.notebook.proofs.Answered.{answer-refused, answer-accepted}
 use Rattle.division.specs.Pieces.{brokenLine, Piece, bodyOf, piecesIn, startsWell, splitRows, split, fileOf}
 use Rattle.join.specs.declared.Next.{Next}
 use Rattle.join.specs.declared.Next.the-variants.{Opens, Over, Stray}
@@ -395,12 +395,12 @@ module _ (s : List ℕ) {B : List ℕ} {m : Made} (x : MadeIs (joinedFile s) B m
       pub join-refused : {n line : ℕ} → k ≡ Refused n line → Gives (joinResult s) d d (Refused n line)
       unfolding file
       join-refused {n} {line} e =
-          gives-refusal d (by-check ∙ ap (λ (r : Res Notebook). mapRes writes (checkedFile file r)) (check-refused file n line (sym c ∙ e)))
+          gives-refusal d (by-check ∙ ap (λ (r : Res Notebook). mapRes writes (checkedFile file r)) (answer-refused file n line (sym c ∙ e)))
 
       module _ {n₁ n₂ n₃ : ℕ} (e : k ≡ Done n₁ n₂ n₃) where
         given : joinResult s ≡ ok (writes (take (t - 0) (drop 0 B)))
         unfolding file
-        given = by-check ∙ ap (λ (r : Res Notebook). mapRes writes (checkedFile file r)) (check-accepted file n₁ n₂ n₃ (sym c ∙ e) .read)
+        given = by-check ∙ ap (λ (r : Res Notebook). mapRes writes (checkedFile file r)) (answer-accepted file n₁ n₂ n₃ (sym c ∙ e) .read)
 
         pub join-short : length d < t → Gives (joinResult s) d d (Refused 20 0)
         join-short h = front-20 B d join-end given h

@@ -14,9 +14,9 @@ use Rattle.notebook.specs.Check.{count, counted, checkResult}
 abbrev pub answered : Res Notebook → Answer
 answered x = answerOf (fitting (mapRes counted x) [])
 
-pub check-refused : (s : List ℕ) (n line : ℕ) → answerIn (checkResult s) [] ≡ Refused n line → readFile s ≡ refused n line
+pub answer-refused : (s : List ℕ) (n line : ℕ) → answerIn (checkResult s) [] ≡ Refused n line → readFile s ≡ refused n line
 unfolding answerIn checkResult
-check-refused s n line e = go (readFile s) e
+answer-refused s n line e = go (readFile s) e
   where
     go : (x : Res Notebook) → answered x ≡ Refused n line → x ≡ refused n line
     go (ok b) e = let z : _≡_ {A = ℕ} 0 1 = cc in absurd (omega arith)
@@ -27,9 +27,9 @@ pub record Counted (s : List ℕ) (records : ℕ) : Type 0 where
   pub read : readFile s ≡ ok book
   pub count : counted book .a ≡ records
 
-pub check-accepted : (s : List ℕ) (a b c : ℕ) → answerIn (checkResult s) [] ≡ Done a b c → Counted s a
+pub answer-accepted : (s : List ℕ) (a b c : ℕ) → answerIn (checkResult s) [] ≡ Done a b c → Counted s a
 unfolding answerIn checkResult
-check-accepted s a b c e = go (readFile s) refl e
+answer-accepted s a b c e = go (readFile s) refl e
   where
     go : (x : Res Notebook) → readFile s ≡ x → answered x ≡ Done a b c → Counted s a
     go (ok book) q e = record { book = book; read = q; count = cc }
