@@ -12,7 +12,8 @@ use Rattle.lists.specs.Lists.{same, part, Res, ok, refused}
 use Rattle.lists.proofs.Tests.{same-true}
 use Rattle.scanning.specs.declared.Line.{Line}
 use Rattle.scanning.specs.declared.Line.the-variants.{Whole, Mark, End, Broken}
-use Rattle.characters.specs.Rows.{rows, isLine, WholeLine, BrokenRow}
+use Rattle.characters.specs.Rows.{rows, isLine, WholeLine}
+use Rattle.characters.specs.Scanning.{BrokenRow}
 use Rattle.scanning.specs.Scans.{LineMeans, LineOf}
 use Rattle.characters.proofs.RowLaws.{line-is, line-text}
 use Rattle.records.specs.Records.{header}

@@ -6,7 +6,7 @@ use mathlib.Core.Bool.{Bool, true, false, cond}
 use mathlib.Core.List.{List}
 use borrow.Author.Tests.{ne-eqb, eqb-true, eqb-false}
 use lib.Dec.{eqb}
-use Rattle.records.specs.Records.{faultWhere, lineFault, recordOf}
+use Rattle.records.specs.Records.{lineFault, recordOf}
 use Rattle.order.specs.declared.State.{State}
 use Rattle.order.specs.declared.Facts.{Facts}
 use Rattle.order.specs.declared.Moved.{Moved}
@@ -16,7 +16,7 @@ use Rattle.order.proofs.Laws.{taken}
 use Rattle.lines.specs.declared.LineRead.{LineRead}
 use Rattle.lines.specs.declared.LineRead.the-variants.{Fault, Fine}
 use Rattle.notebook.specs.Facts.{factsOf}
-use Rattle.lines.specs.Found.{lineRead}
+use Rattle.lines.specs.Found.{faultWhere, lineRead}
 use Rattle.notebook.specs.Notebook.{stepLine}
 use Rattle.checking.specs.Walking.{Judged}
 
@@ -42,7 +42,7 @@ read-fine g b l f e = go (eqb (faultWhere g b l) 0) refl e
 
 module _ (st : State) (l : List ℕ) {good : Bool} (g : Judged good l) {a : LineRead} (p : a ≡ lineRead good (st .provider) l) where
   own-fault : lineFault (st .provider) l ≡ faultWhere good (st .provider) l
-  unfolding lineFault
+  unfolding lineFault faultWhere
   own-fault = rw (g .chars)
 
   pub step-fault : {n m : ℕ} → a ≡ Fault n → m ≡ n → Refused m ≡ stepLine st l

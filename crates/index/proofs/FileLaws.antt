@@ -11,7 +11,8 @@ use lib.Seq.{length-take-le}
 use Rattle.lists.specs.Lists.{same, part, Res, ok, refused}
 use Rattle.scanning.specs.declared.Line.{Line}
 use Rattle.scanning.specs.declared.Line.the-variants.{Whole, Mark, End, Broken}
-use Rattle.characters.specs.Rows.{rows, isLine, lineEnd, WholeLine, BrokenRow}
+use Rattle.characters.specs.Rows.{rows, isLine, lineEnd, WholeLine}
+use Rattle.characters.specs.Scanning.{BrokenRow}
 use Rattle.scanning.specs.Scans.{LineMeans, LineOf}
 use Rattle.characters.proofs.RowLaws.{line-is, line-text}
 use Rattle.records.specs.Records.{header}

@@ -6,15 +6,15 @@ use mathlib.Core.Bool.{Bool, true, cond}
 use mathlib.Core.List.{List, []}
 use lib.Dec.{eqb}
 use lib.ListN.{length, getD, drop}
-use Rattle.lists.specs.Lists.{part}
+use Rattle.lists.specs.Lists.{part, _orElse_, unless}
 use Rattle.digits.specs.Short.{plainNumber}
 use Rattle.scanning.specs.declared.Line.{Line}
 use Rattle.scanning.specs.declared.Line.the-variants.{Whole as WholeLine, Mark as MarkLine, End as EndLine, Broken as BrokenLine}
-use Rattle.characters.specs.Text.{commaCount}
+use Rattle.characters.specs.Scanning.{commaCount}
 use Rattle.scanning.specs.Scans.{Sixteen}
 use Rattle.scanning.specs.Scans.{LineOf}
 use Rattle.records.specs.Split.{itemsOf}
-use Rattle.records.specs.Records.{itemsFault, faultWhere, recordOf}
+use Rattle.records.specs.Records.{itemsFault, faultFrom, recordOf}
 use Rattle.lines.specs.declared.LineRead.{LineRead}
 use Rattle.lines.specs.declared.LineRead.the-variants.{Fault, Fine}
 use Rattle.lines.specs.declared.Numbered.{Numbered}
@@ -23,6 +23,10 @@ use Rattle.lines.specs.declared.Found.{Found}
 use Rattle.lines.specs.declared.Found.the-variants.{Whole, Mark, End, Broken}
 use Rattle.notebook.specs.Facts.{factsOf}
 use Rattle.codes.specs.Codes.{sliceOf, placeOf, InCodes}
+
+-- a line's fault (`lineFault`), where it is told whether the line is characters
+unfoldable pub faultWhere : Bool → Bool → List ℕ → ℕ
+faultWhere good provider l = unless good 4 orElse faultFrom provider (itemsOf l)
 
 -- a line's fault, or its facts; good: it is characters
 unfoldable pub lineRead : Bool → Bool → List ℕ → LineRead
