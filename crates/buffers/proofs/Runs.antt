@@ -11,7 +11,8 @@ use lib.ListN.{length, getD, take, drop, set, length-append, length-set, drop-of
 use lib.Seq.{sets, sets-eq, take-at}
 use Rattle.lists.proofs.Cuts.{drop-step}
 use Rattle.digits.specs.Digits.{spell}
-use Rattle.buffers.specs.Buffers.{Room, Wrote, six}
+use Rattle.buffers.specs.Buffers.{Room, Wrote}
+use Rattle.buffers.specs.Entries.{six}
 
 -- one run after another is one run
 pub sets-append : (v d : List ℕ) (at : ℕ) (w : List ℕ) → sets d at (v ++ w) ≡ sets (sets d at v) (at + length v) w

@@ -1,8 +1,8 @@
--- What a writer leaves in a buffer that its caller lends: a list from an index on, and everything else as it was.
+-- Vocabulary of the code: what a writer leaves in a buffer that its caller lends: a list from an index on, and everything else as it was.
 -- All writers have one contract, for buffers of bytes and of 32-bit numbers alike.
 use Prim.Native.Nat.{ℕ, _+_, _≤_}
 use mathlib.Core.Path.{_≡_}
-use mathlib.Core.List.{List, [], _∷_}
+use mathlib.Core.List.{List}
 use lib.ListN.{length}
 use lib.Seq.{sets}
 
@@ -16,7 +16,3 @@ pub record Wrote (d d′ : List ℕ) (at r : ℕ) (w : List ℕ) : Type 0 where
   pub list : d′ ≡ sets d at w
   pub size : length d′ ≡ length d
   pub high : r ≤ length d
-
--- six numbers, as an entry of an index has them
-unfoldable pub six : ℕ → ℕ → ℕ → ℕ → ℕ → ℕ → List ℕ
-six a b c d e f = a ∷ b ∷ c ∷ d ∷ e ∷ f ∷ []

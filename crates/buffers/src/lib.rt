@@ -4,7 +4,8 @@
 ghost use mathlib.Core.List.{[], _∷_};
 ghost use Prim.Native.Nat.{_<_};
 ghost use Rattle.digits.specs.Digits.{spell};
-ghost use Rattle.buffers.specs.Buffers.{Room, Wrote, six};
+ghost use Rattle.buffers.specs.Buffers.{Room, Wrote};
+ghost use Rattle.buffers.specs.Entries.{six};
 
 // One byte.
 pub fn put_byte(out: &mut [u8], at: usize, b: u8) -> usize

@@ -23,7 +23,8 @@ use Rattle.records.proofs.LineLaws.{line-good}
 use Rattle.order.specs.declared.State.{State}
 use Rattle.order.specs.declared.Moved.{Moved}
 use Rattle.order.specs.declared.Moved.the-variants.{Refused as StepRefused, On}
-use Rattle.order.specs.State.{start, finishOf, Room as Countable}
+use Rattle.order.specs.State.{start, finishOf}
+use Rattle.order.specs.Room.{Room as Countable}
 use Rattle.order.proofs.Laws.{next-line, room, room-start, line-start}
 use Rattle.notebook.specs.Facts.{factsOf}
 use Rattle.buffers.specs.Buffers.{Room, Wrote}

@@ -12,7 +12,7 @@ use Rattle.lists.specs.Lists.{part}
 use Rattle.lists.proofs.Tests.{or-zero, cond-case, below, below-at}
 use Rattle.lists.proofs.Cuts.{drop-step}
 use Rattle.digits.specs.Short.{plainNumber}
-use Rattle.characters.specs.Text.{commaCount}
+use Rattle.characters.specs.Scanning.{commaCount}
 use Rattle.scanning.specs.Scans.{Stops, Sixteen}
 use Rattle.characters.specs.Rows.{lineEnd}
 use Rattle.records.specs.Table.{Item, table}

@@ -14,7 +14,8 @@ use Rattle.lists.specs.Lists.{all, same, part, upTo}
 use Rattle.lists.proofs.Tests.{both, neither, same-refl, same-true}
 use Rattle.lists.proofs.Cuts.{drop-step, drop-end, two-on, last-on, take-upTo, upTo-le, upTo-split}
 use Rattle.characters.specs.Text.{allChars, isStop, clean, text}
-use Rattle.characters.specs.Rows.{consRow, rows, flat, lineEnd, isLine, endMark, WholeLine, BrokenRow}
+use Rattle.characters.specs.Rows.{consRow, rows, flat, lineEnd, isLine, endMark, WholeLine}
+use Rattle.characters.specs.Scanning.{BrokenRow}
 
 -- ---- rows are the file
 

@@ -2,3 +2,4 @@ pub mod Cells
 pub mod Text
 pub mod Rows
 pub mod Examples
+pub mod Scanning

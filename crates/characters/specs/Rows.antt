@@ -2,7 +2,7 @@
 -- Every list of bytes is the bytes of its rows; a row that breaks the rule of line ends is a row that is no line.
 use Prim.Native.Nat.{ℕ, _+_, _≤_}
 use mathlib.Core.Path.{_≡_}
-use mathlib.Core.Bool.{Bool, true, false, cond}
+use mathlib.Core.Bool.{Bool, true, cond}
 use mathlib.Core.List.{List, [], _∷_, _++_}
 use lib.Dec.{eqb}
 use lib.ListN.{length, drop}
@@ -44,8 +44,3 @@ pub record WholeLine (s : List ℕ) (at e : ℕ) (good : Bool) : Type 0 where
   pub cut : rows (drop at s) ≡ (part s at e ++ lineEnd) ∷ rows (drop (e + 2) s)
   pub clear : clean (part s at e) ≡ true
   pub chars : good ≡ allChars (part s at e)
-
--- the first row is no line, and no 1Ah at the end
-abbrev pub BrokenRow : List (List ℕ) → Type 0
-BrokenRow [] = ⊥
-BrokenRow (r ∷ rs) = (isLine r ≡ false) × (same r endMark ≡ false)

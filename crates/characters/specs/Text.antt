@@ -1,23 +1,10 @@
 -- Characters of a list of bytes, and the text up to a line's end. Document 01, "Lines and characters"; refusals 2 and 4; 15-106 3.2.4, 3.2.5.
-use Prim.Native.Nat.{ℕ, suc, _+_}
+use Prim.Native.Nat.{ℕ}
 use mathlib.Core.Bool.{Bool, true, cond, not, _&&_, _||_}
 use mathlib.Core.List.{List, [], _∷_}
 use lib.Dec.{eqb}
-use lib.ListN.{drop}
 use Rattle.lists.specs.Lists.{all, upTo}
 use Rattle.characters.specs.Cells.{isOne, isPair}
-use Rattle.characters.specs.declared.Char.{Char}
-use Rattle.characters.specs.declared.Char.the-variants.{One, Two, Bad}
-
--- the character that a list begins with: of one byte, of two, or none
-abbrev pub charOf : List ℕ → Char
-charOf [] = Bad
-charOf (a ∷ []) = cond (isOne a) One Bad
-charOf (a ∷ b ∷ r) = cond (isOne a) One (cond (isPair a b) Two Bad)
-
--- the character at a position
-unfoldable pub charAt : List ℕ → ℕ → Char
-charAt s i = charOf (drop i s)
 
 -- the list is characters and nothing else; refusal 4 where a line is not. 15-106 3.2.5: the characters of JIS X 0201-1976 (8 bits) and JIS X 0208-1983,
 -- annex 1, and no others. The clause also keeps 81A1h out but for what has no replacement; document 01's cells have it.
@@ -37,13 +24,3 @@ clean s = all (λ b. not (isStop b)) s
 -- the bytes before the first of them
 abbrev pub text : List ℕ → List ℕ
 text l = upTo isStop l
-
--- how many 2Ch a list has
-abbrev pub commaCount : List ℕ → ℕ
-commaCount [] = 0
-commaCount (a ∷ l) = cond (eqb a 0x2c) 1 0 + commaCount l
-
--- where they stand, counted from k
-abbrev pub commasFrom : ℕ → List ℕ → List ℕ
-commasFrom k [] = []
-commasFrom k (a ∷ l) = cond (eqb a 0x2c) (k ∷ commasFrom (suc k) l) (commasFrom (suc k) l)

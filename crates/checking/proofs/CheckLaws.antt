@@ -17,14 +17,16 @@ use Rattle.scanning.specs.declared.Line.{Line}
 use Rattle.scanning.specs.declared.Line.the-variants.{Whole, Mark, End, Broken}
 use Rattle.characters.specs.Text.{allChars, text}
 use Rattle.scanning.specs.Scans.{Stops, Sixteen}
-use Rattle.characters.specs.Rows.{rows, isLine, lineEnd, endMark, WholeLine, BrokenRow}
+use Rattle.characters.specs.Rows.{rows, isLine, lineEnd, endMark, WholeLine}
+use Rattle.characters.specs.Scanning.{BrokenRow}
 use Rattle.scanning.specs.Scans.{ScannedLine, LineMeans, LineOf}
 use Rattle.characters.proofs.RowLaws.{line-is, line-text, line-no-mark}
 use Rattle.records.specs.Records.{Record, recordOf}
 use Rattle.order.specs.declared.State.{State}
 use Rattle.order.specs.declared.Moved.{Moved}
 use Rattle.order.specs.declared.Moved.the-variants.{Refused as StepRefused, On}
-use Rattle.order.specs.State.{start, finishOf, advance, Room}
+use Rattle.order.specs.State.{start, finishOf, advance}
+use Rattle.order.specs.Room.{Room}
 use Rattle.order.proofs.Laws.{next-line, room, room-start, line-start}
 use Rattle.notebook.specs.Facts.{factsOf}
 use Rattle.lines.specs.Codes.{Commas}

@@ -13,7 +13,8 @@ use Rattle.lists.specs.Lists.{part, Res, refused}
 use Rattle.scanning.specs.declared.Line.{Line}
 use Rattle.scanning.specs.declared.Line.the-variants.{Whole, Mark, End, Broken}
 use Rattle.scanning.specs.Scans.{Stops, Sixteen}
-use Rattle.characters.specs.Rows.{rows, WholeLine, BrokenRow}
+use Rattle.characters.specs.Rows.{rows, WholeLine}
+use Rattle.characters.specs.Scanning.{BrokenRow}
 use Rattle.scanning.specs.Scans.{ScannedLine, LineMeans, LineOf}
 use Rattle.characters.proofs.RowLaws.{line-is, line-text, line-no-mark}
 use Rattle.records.specs.Records.{Record, recordOf}

@@ -15,7 +15,7 @@ use Rattle.calendar.specs.Era.{inEra, fromEra, readDay}
 use Rattle.records.specs.Split.{joined}
 use Rattle.records.specs.Table.{table}
 use Rattle.records.specs.Items.{text, day, edge, oneWidth, decimal, sized, fault, value}
-use Rattle.records.specs.Records.{Record, itemFault, itemValue, itemsFault, itemsValue, rowIn, rowOf, pairs, t911, recordFrom, faultFrom, faultWhere, lineFault, recordOf, header, write}
+use Rattle.records.specs.Records.{Record, itemFault, itemValue, itemsFault, itemsValue, rowIn, rowOf, pairs, t911, recordFrom, faultFrom, lineFault, recordOf, header, write}
 use Rattle.rules.specs.Places.{inGroup, mayFollow}
 use Rattle.rules.specs.Rules.{pairBroken, misplaced, closesRp, lacking, missing, valueWrong, newerGroup, refusal, unfinished}
 use Rattle.order.specs.State.{none, start, hadAfter, advance, refusalOf, stepOf, finishOf}
@@ -55,7 +55,7 @@ abbrev Read : ℕ → Type 0
 Read n = readFile (withNotes n) ≡ ok (book n)
 
 reads : Read 20 × Read 18 × Read 2
-unfolding notes book bytes spell isLine digitsValue leap monthLength isReal isDay gregorian eraOf eraOn inEra fromEra readDay writeDay table edge oneWidth decimal sized fault value itemFault itemValue itemsFault itemsValue rowIn rowOf pairs t911 recordFrom faultFrom faultWhere lineFault recordOf header inGroup mayFollow pairBroken misplaced closesRp lacking missing valueWrong newerGroup refusal unfinished none start hadAfter advance refusalOf stepOf finishOf factsOf stepLine closed onward recordsFrom readRows readFile
+unfolding notes book bytes spell isLine digitsValue leap monthLength isReal isDay gregorian eraOf eraOn inEra fromEra readDay writeDay table edge oneWidth decimal sized fault value itemFault itemValue itemsFault itemsValue rowIn rowOf pairs t911 recordFrom faultFrom lineFault recordOf header inGroup mayFollow pairBroken misplaced closesRp lacking missing valueWrong newerGroup refusal unfinished none start hadAfter advance refusalOf stepOf finishOf factsOf stepLine closed onward recordsFrom readRows readFile
 reads = (refl, refl, refl)
 
 -- ---- cut
@@ -92,5 +92,5 @@ cuts = (cut 20 69 (reads .0), cut 18 60 (reads .1), cut 18 59 (reads .1), cut 2 
 -- ---- ALL CASES
 
 pub cases-hold : map (λ (c : Case). answer (c .asked)) cases ≡ map (λ (c : Case). c .said) cases
-unfolding bytes spell isLine digitsValue leap monthLength isReal isDay gregorian eraOf eraOn inEra fromEra readDay writeDay table edge oneWidth decimal sized fault value itemFault itemValue itemsFault itemsValue rowIn rowOf pairs t911 recordFrom faultFrom faultWhere lineFault recordOf header inGroup mayFollow pairBroken misplaced closesRp lacking missing valueWrong newerGroup refusal unfinished none start hadAfter advance refusalOf stepOf finishOf factsOf stepLine closed onward recordsFrom readRows readFile count checkResult joined write recordRows arrange writeFile canonicalBytes canonicalFile canonicalResult answerIn decimalDigits decimalOf numbers line printed
+unfolding bytes spell isLine digitsValue leap monthLength isReal isDay gregorian eraOf eraOn inEra fromEra readDay writeDay table edge oneWidth decimal sized fault value itemFault itemValue itemsFault itemsValue rowIn rowOf pairs t911 recordFrom faultFrom lineFault recordOf header inGroup mayFollow pairBroken misplaced closesRp lacking missing valueWrong newerGroup refusal unfinished none start hadAfter advance refusalOf stepOf finishOf factsOf stepLine closed onward recordsFrom readRows readFile count checkResult joined write recordRows arrange writeFile canonicalBytes canonicalFile canonicalResult answerIn decimalDigits decimalOf numbers line printed
 cases-hold = rw (cuts .4, cuts .3, cuts .2, cuts .1, cuts .0) refl

@@ -25,7 +25,7 @@ use Rattle.packing.proofs.Packing.{Pairs, nil, cons, Way, way-of, lighter}
 use Rattle.packing.proofs.Widths.{AtMost, plan-whole, way-fewest}
 use Rattle.division.specs.Pieces.{Piece, split, splitRows, brokenLine, fileOf}
 use Rattle.division.proofs.Chunks.{Chunk, chunkBytes, chunk-length, pieceOf, Body, Good, flat-append, body-line, bodies-lines, split-bytes, ChunkOf, one-is}
-use Rattle.division.proofs.MarkLaws.{read-length, read-count, read-place}
+use Rattle.division.proofs.MarkLaws.{read-length, read-count}
 use Rattle.division.specs.Cut.{numbered, planned, cutting}
 use Rattle.division.specs.Join.{unmarked, Part, partsOf, joinParts, joinPieces, orSet, joinSplit, joinedFile, checkedFile, thenChecked, joinFile}
 use Rattle.division.specs.Demand.{OnePiece, Within, Sound}

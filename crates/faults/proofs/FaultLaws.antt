@@ -21,7 +21,7 @@ use Rattle.digits.specs.Digits.{number}
 use Rattle.records.specs.Table.{Kind, N, U, X, A, F, C, P, R, W, Q, D, among, Item, required}
 use Rattle.records.specs.Split.{itemsOf}
 use Rattle.records.specs.Items.{edge, oneWidth, isCode, oneOf, seven, postal, prefecture, decimal, numberFault, dayFault, sized, fault}
-use Rattle.records.specs.Records.{Record, recordOf, recordFrom, header, itemFault, itemsFault, rowOf, pairs, t911, faultFrom, faultWhere, lineFault}
+use Rattle.records.specs.Records.{Record, recordOf, recordFrom, header, itemFault, itemsFault, rowOf, pairs, t911, faultFrom, lineFault}
 use Rattle.order.specs.declared.State.{State}
 use Rattle.order.specs.declared.Facts.{Facts}
 use Rattle.order.specs.declared.Moved.{Moved}
@@ -348,7 +348,7 @@ first-items provider [] = refl
 first-items provider (h ∷ ss) = rw (else-zero (unless (pairs (recordFrom (h ∷ ss))) 12))
 
 first-own : (provider : Bool) (l : List ℕ) → lineFault provider l ≡ firstOf (ownFaults provider l)
-unfolding lineFault faultWhere
+unfolding lineFault
 first-own provider l = ap (λ (n : ℕ). unless (allChars l) 4 orElse n) (first-items provider (itemsOf l))
 
 when-else : (b : Bool) (n m : ℕ) → cond b (suc n) m ≡ when b (suc n) orElse m

@@ -14,18 +14,21 @@ use lib.ListN.{length, take, drop, length-append, length-drop}
 use lib.Seq.{sets, length-take-le}
 use Rattle.lists.specs.Lists.{part}
 use Rattle.scanning.specs.declared.Line.the-variants.{Whole, Mark, End, Broken}
-use Rattle.characters.specs.Rows.{rows, isLine, lineEnd, WholeLine, BrokenRow}
+use Rattle.characters.specs.Rows.{rows, isLine, lineEnd, WholeLine}
+use Rattle.characters.specs.Scanning.{BrokenRow}
 use Rattle.scanning.specs.Scans.{LineOf}
 use Rattle.characters.proofs.RowLaws.{line-is, line-text}
-use Rattle.records.specs.Records.{faultWhere, lineFault, recordOf}
+use Rattle.records.specs.Records.{lineFault, recordOf}
 use Rattle.order.specs.declared.State.{State}
 use Rattle.order.specs.declared.Facts.{Facts}
 use Rattle.order.specs.declared.Moved.{Moved}
 use Rattle.order.specs.declared.Moved.the-variants.{Refused, On}
-use Rattle.order.specs.State.{start, advance, stepOf, groupOf, drugOf, Room as Countable}
+use Rattle.order.specs.State.{start, advance, stepOf, groupOf, drugOf}
+use Rattle.order.specs.Room.{Room as Countable}
 use Rattle.order.proofs.Laws.{taken, next-line, room, room-start, line-start}
 use Rattle.notebook.specs.Facts.{factsOf}
-use Rattle.buffers.specs.Buffers.{Room, Wrote, six}
+use Rattle.buffers.specs.Buffers.{Room, Wrote}
+use Rattle.buffers.specs.Entries.{six}
 use Rattle.buffers.proofs.Runs.{carry}
 use Rattle.notebook.specs.Notebook.{stepLine}
 use Rattle.checking.specs.Opening.{Behind}

@@ -8,7 +8,8 @@ use native.Mathlib.Omega.{arith}
 use borrow.Author.Tests.{eqb-true, eq-eqb, ne-eqb}
 use lib.Dec.{leb, eqb}
 use lib.ListN.{length, take, drop, length-append, length-take, length-drop}
-use Rattle.lists.specs.Lists.{within, all, upTo, findFrom}
+use Rattle.lists.specs.Lists.{within, all, upTo}
+use Rattle.lists.specs.Searching.{findFrom}
 use Rattle.lists.proofs.Tests.{all-append}
 use Rattle.lists.proofs.Cuts.{rest-all, take-upTo}
 use Rattle.lists.proofs.Loops.{find-high}

@@ -7,7 +7,8 @@ use native.Mathlib.Omega.{arith}
 use borrow.Author.Tests.{le-leb, lt-leb, eq-eqb, ne-eqb}
 use lib.Dec.{leb, eqb}
 use lib.ListN.{length, take, drop, getD}
-use Rattle.lists.specs.Lists.{same, findFrom, unless, _orElse_}
+use Rattle.lists.specs.Lists.{same, unless, _orElse_}
+use Rattle.lists.specs.Searching.{findFrom}
 use Rattle.lists.proofs.Tests.{or-stops}
 use Rattle.lists.proofs.Loops.{find-high}
 use Rattle.digits.specs.Digits.{spell}
@@ -15,7 +16,8 @@ use Rattle.digits.specs.Short.{plainNumber}
 use Rattle.digits.proofs.Spelling.{same-spell}
 use Rattle.characters.specs.Text.{commaCount}
 use Rattle.scanning.specs.Scans.{Stops, Sixteen}
-use Rattle.records.specs.Split.{itemsOf, itemsFrom}
+use Rattle.records.specs.Split.{itemsOf}
+use Rattle.records.specs.Positions.{itemsFrom}
 use Rattle.records.specs.Table.{Row, table}
 use Rattle.records.specs.Records.{t911, rowOf, recordFrom, recordOf, itemsValue, itemsFault, pairs, faultFrom}
 use Rattle.lines.specs.declared.Details.{Details}

@@ -10,13 +10,15 @@ use borrow.Author.Tests.{le-leb, lt-leb, leb-true, leb-false}
 use lib.Dec.{leb, eqb, leb·zero}
 use lib.ListN.{length, take, drop, getD, length-map}
 use lib.Seq.{drop-drop}
-use Rattle.lists.specs.Lists.{part, upTo, findFrom}
+use Rattle.lists.specs.Lists.{part, upTo}
+use Rattle.lists.specs.Searching.{findFrom}
 use Rattle.lists.proofs.Cuts.{drop-step, drop-end, take-upTo}
 use Rattle.lists.proofs.Loops.{find-low, find-high}
-use Rattle.characters.specs.Text.{commaCount, commasFrom}
+use Rattle.characters.specs.Scanning.{commaCount, commasFrom}
 use Rattle.scanning.specs.Scans.{Stops, Sixteen}
 use Rattle.scanning.proofs.TextLaws.{count-places}
-use Rattle.records.specs.Split.{isComma, consItem, itemsOf, itemsFrom, itemEnd}
+use Rattle.records.specs.Split.{isComma, consItem, itemsOf}
+use Rattle.records.specs.Positions.{itemsFrom, itemEnd}
 use Rattle.lines.specs.declared.Span.{Span}
 use Rattle.lines.specs.Codes.{Commas, Spanned, SpanAt}
 

@@ -7,7 +7,7 @@ use lib.Dec.{eqb}
 use lib.ListN.{length, getD}
 use Rattle.lists.specs.Lists.{empty, member, part}
 use Rattle.digits.specs.Digits.{number}
-use Rattle.characters.specs.Text.{commaCount}
+use Rattle.characters.specs.Scanning.{commaCount}
 use Rattle.scanning.specs.Scans.{Stops, Sixteen}
 use Rattle.calendar.specs.Era.{readDay}
 use Rattle.order.specs.declared.Facts.{Facts}

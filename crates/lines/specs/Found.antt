@@ -5,10 +5,10 @@ use mathlib.Core.Bool.{Bool, true}
 use mathlib.Core.Logic.{_⊎_}
 use mathlib.Core.List.{List, []}
 use lib.ListN.{length, getD, drop}
-use Rattle.lists.specs.Lists.{part}
+use Rattle.lists.specs.Lists.{part, _orElse_, unless}
 use Rattle.digits.specs.Short.{plainNumber}
 use Rattle.scanning.specs.declared.Line.the-variants.{Whole, Mark, End, Broken}
-use Rattle.characters.specs.Text.{commaCount}
+use Rattle.characters.specs.Scanning.{commaCount}
 use Rattle.scanning.specs.Scans.{Sixteen, LineOf}
 use Rattle.records.specs.Split.{itemsOf}
 use Rattle.records.specs.Records.{itemsFault, faultFrom, lineFault, recordOf}

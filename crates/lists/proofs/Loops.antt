@@ -7,7 +7,8 @@ use native.Mathlib.Omega.{arith}
 use borrow.Author.Tests.{eq-eqb, ne-eqb}
 use lib.Dec.{eqb}
 use lib.ListN.{length, getD, drop, length-drop, List·getD-eq-default}
-use Rattle.lists.specs.Lists.{all, same, upTo, is, findFrom}
+use Rattle.lists.specs.Lists.{all, same, upTo, is}
+use Rattle.lists.specs.Searching.{findFrom}
 use Rattle.lists.proofs.Tests.{same-true}
 use Rattle.lists.proofs.Cuts.{drop-step, drop-end, upTo-hit, upTo-go, upTo-out, upTo-le}
 

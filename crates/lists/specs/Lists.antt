@@ -1,6 +1,6 @@
 -- Lists of bytes: texts as bytes, tests of all bytes, equality as a test, parts; and an answer that is a value or a refusal.
 -- Nothing here is about notebooks; everything above is written with it.
-use Prim.Native.Nat.{ℕ, zero, suc, _+_, _-_}
+use Prim.Native.Nat.{ℕ, zero, suc, _-_}
 use Prim.Native.Char.{code}
 use Prim.Native.String.{String}
 use mathlib.Core.Bool.{Bool, true, false, cond, _&&_, _||_}
@@ -60,12 +60,9 @@ abbrev pub upTo : (ℕ → Bool) → List ℕ → List ℕ
 upTo p [] = []
 upTo p (a ∷ l) = cond (p a) [] (a ∷ upTo p l)
 
--- where the byte c first stands from a position on, or the end
+-- b is the byte c
 abbrev pub is : ℕ → ℕ → Bool
 is c b = eqb b c
-
-unfoldable pub findFrom : ℕ → List ℕ → ℕ → ℕ
-findFrom c s at = at + length (upTo (is c) (drop at s))
 
 -- ---- answers
 

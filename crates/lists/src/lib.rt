@@ -3,7 +3,8 @@
 ghost use mathlib.Core.Path.{_≡_};
 ghost use Prim.Native.Nat.{_-_};
 ghost use lib.ListN.{getD};
-ghost use Rattle.lists.specs.Lists.{same, findFrom};
+ghost use Rattle.lists.specs.Lists.{same};
+ghost use Rattle.lists.specs.Searching.{findFrom};
 
 // The byte at an index, 0 past the end.
 pub fn byte_at(s: &[u8], i: usize) -> u8

@@ -11,7 +11,7 @@ use Rattle.lists.proofs.Tests.{same-true, or-zero, unless-zero}
 use Rattle.characters.specs.Text.{allChars, text}
 use Rattle.characters.specs.Rows.{rows, flat, isLine, lineEnd, WholeLine}
 use Rattle.characters.proofs.RowLaws.{flat-rows, text-clean, text-of, whole-at}
-use Rattle.records.specs.Records.{Record, recordOf, faultFrom, faultWhere, lineFault, readLine}
+use Rattle.records.specs.Records.{Record, recordOf, faultFrom, lineFault, readLine}
 use Rattle.records.specs.Split.{itemsOf}
 use Rattle.records.proofs.LineLaws.{reads}
 use Rattle.order.specs.declared.State.{State}
@@ -52,7 +52,7 @@ at-row s at r rs e h =
     }
 
 sound-chars : (provider : Bool) (l : List ℕ) → lineFault provider l ≡ 0 → allChars l ≡ true
-unfolding lineFault faultWhere
+unfolding lineFault
 sound-chars provider l e = unless-zero (allChars l) 3 (or-zero (unless (allChars l) 4) (faultFrom provider (itemsOf l)) e .0)
 
 pub walk-cuts : (provider : Bool) (s : List ℕ) {st : State} {at : ℕ} {rs : List (List ℕ)} {recs : List Record} {es : List Entry}

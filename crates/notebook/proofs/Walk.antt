@@ -17,7 +17,7 @@ use Rattle.order.specs.declared.State.{State}
 use Rattle.order.specs.declared.Moved.{Moved}
 use Rattle.order.specs.declared.Moved.the-variants.{Refused, On}
 use Rattle.order.specs.State.{start, finishOf}
-use Rattle.buffers.specs.Buffers.{six}
+use Rattle.buffers.specs.Entries.{six}
 use Rattle.buffers.proofs.Runs.{six-length}
 use Rattle.notebook.specs.Notebook.{Notebook, stepLine, prepend, closed, onward, recordsFrom, notebookOf, readRows, readFile}
 use Rattle.notebook.specs.Index.{Entry, entryOf, entered, entriesFrom, entriesBehind, entriesOf, numbers}

@@ -11,7 +11,7 @@ use Rattle.order.specs.declared.State.{State}
 use Rattle.order.specs.declared.Moved.{Moved}
 use Rattle.order.specs.declared.Moved.the-variants.{Refused as StepRefused, On}
 use Rattle.order.specs.State.{start, groupOf, drugOf}
-use Rattle.buffers.specs.Buffers.{six}
+use Rattle.buffers.specs.Entries.{six}
 use Rattle.notebook.specs.Notebook.{Notebook, stepLine, readFile}
 use Rattle.replies.specs.Results.{Result}
 

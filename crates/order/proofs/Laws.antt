@@ -16,7 +16,8 @@ use Rattle.rules.specs.Places.{inRp, ofOpenRp}
 use Rattle.rules.specs.Questions.{Before, Asked}
 use Rattle.order.specs.Questions.{beforeOf, askedOf}
 use Rattle.rules.specs.Rules.{pairBroken, misplaced, missing, continues, valueWrong, newerGroup, refusal}
-use Rattle.order.specs.State.{start, hadAfter, advance, refusalOf, rpOf, doctorOf, stepOf, Room}
+use Rattle.order.specs.State.{start, hadAfter, advance, refusalOf, rpOf, doctorOf, stepOf}
+use Rattle.order.specs.Room.{Room}
 use Rattle.order.specs.Run.{after}
 
 -- ---- what a step says

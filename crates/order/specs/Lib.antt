@@ -1,4 +1,5 @@
 pub mod Questions
 pub mod State
+pub mod Room
 pub mod Run
 pub mod Examples

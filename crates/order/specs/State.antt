@@ -1,5 +1,5 @@
 -- The pattern state of document 01, "Each record moves the reader from one place of this pattern to the next": the state before the first
--- record, the state after one more, and a step. `Room` is what a step asks, so that its counts fit.
+-- record, the state after one more, and a step.
 --
 -- What it speaks of are structs and an enum of src/lib.rt:
 -- `Facts`, what the rules look at in a record: its `number`; `rp`, the first item of a 201 to 391; `day`, a 5's day as the number YYYYMMDD;
@@ -11,7 +11,7 @@
 -- `drugs`, how many 5s and 201s so far; `day`, the last 5's; `had`, of the open group.
 -- `Moved`, what a step answers: `Refused` with the number of the refusal, or `On` with the next state, the RP of the record and the line of its
 -- doctor.
-use Prim.Native.Nat.{ℕ, _+_, _≤_, _<_}
+use Prim.Native.Nat.{ℕ, _+_}
 use mathlib.Core.Bool.{Bool, true, false, cond}
 use mathlib.Core.List.{[], _∷_}
 use lib.Dec.{eqb}
@@ -88,9 +88,3 @@ groupOf s = cond (inGroup (s .place)) (s .groups) 0
 -- "line of the last preceding 201 for 281 and 291 (else 0)"
 unfoldable pub drugOf : State → ℕ
 drugOf s = cond (member (281 ∷ 291 ∷ []) (s .place)) (s .had .drug) 0
-
--- one more group, drug and line can be counted in 32 bits
-pub record Room (s : State) : Type 0 where
-  pub groups : s .groups ≤ s .line
-  pub drugs : s .drugs ≤ s .line
-  pub line : s .line < 4294967295

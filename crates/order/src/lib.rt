@@ -13,7 +13,8 @@ ghost use Rattle.order.specs.declared.Moved.the-variants.{On};
 ghost use Rattle.rules.specs.Places.{inHead, inFront, inDrugs, inRp, inRest, inGroup};
 ghost use Rattle.order.specs.Questions.{beforeOf};
 ghost use Rattle.rules.specs.Rules.{lacking};
-ghost use Rattle.order.specs.State.{none, hadAfter, start, advance, rpOf, doctorOf, refusalOf, stepOf, finishOf, groupOf, drugOf, Room};
+ghost use Rattle.order.specs.State.{none, hadAfter, start, advance, rpOf, doctorOf, refusalOf, stepOf, finishOf, groupOf, drugOf};
+ghost use Rattle.order.specs.Room.{Room};
 
 // All that the rules look at in a record; an empty item is 0, or false. `rp` is the first item of 201 to 391, `day` a
 // 5's day as YYYYMMDD, `schedule` an 11's fee schedule (third item), `form` a 301's form (fifth item), `named` whether

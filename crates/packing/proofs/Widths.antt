@@ -3,7 +3,7 @@
 use Prim.Native.Nat.{ℕ, zero, suc, _+_, _≤_, _<_}
 use mathlib.Core.Path.{_≡_, refl, sym, ap, subst}
 use mathlib.Core.Logic.{inr}
-use mathlib.Core.Bool.{Bool, true, false, cond}
+use mathlib.Core.Bool.{Bool, true, false}
 use mathlib.Core.Option.{Option, none, some}
 use mathlib.Core.List.{List, [], _∷_, append-nil}
 use native.Mathlib.Omega.{arith}
@@ -57,8 +57,8 @@ over-wide w w′ k h = omega arith
 
 -- ---- a width that serves
 
-few-digits : (n : ℕ) → digitCount n ≤ 3 → n ≤ 999
-few-digits n h = go (leb n 999) refl
+digits-1000 : (n : ℕ) → digitCount n ≤ 3 → n ≤ 999
+digits-1000 n h = go (leb n 999) refl
   where
     go : (b : Bool) → leb n 999 ≡ b → n ≤ 999
     go true e = leb-true n 999 e
@@ -226,7 +226,7 @@ module _ {A : Type 0} (len : A → ℕ) (c : ℕ) (rs : List A) where
           record {
             all = g .1;
             two = t;
-            most = few-digits (length xs) (omega arith);
+            most = digits-1000 (length xs) (omega arith);
             fits = subst (λ (v : ℕ). Fits len (over v) c 1 xs) (sym d) (taken-fits w xs (g .0));
           }
       go (d, t) false q = absurd (omega (arith, pack-start len c w rs xs (leb-false _ _ q) e))

@@ -9,14 +9,16 @@ use borrow.Author.Tests.{eq-eqb, ne-eqb, eqb-true, lt-leb, not-true, not-false}
 use lib.Dec.{eqb}
 use lib.ListN.{length, take, drop, getD}
 use lib.Seq.{take-nil}
-use Rattle.lists.specs.Lists.{all, same, part, findFrom}
+use Rattle.lists.specs.Lists.{all, same, part}
+use Rattle.lists.specs.Searching.{findFrom}
 use Rattle.lists.proofs.Tests.{both, same-true}
 use Rattle.lists.proofs.Parts.{part-length}
 use Rattle.lists.proofs.Loops.{find-low, find-high}
 use Rattle.digits.specs.Digits.{isDigit, number}
 use Rattle.digits.specs.Short.{orThousand, shortValue}
 use Rattle.digits.proofs.Numbers.{number-length}
-use Rattle.records.specs.Split.{itemsOf, itemsFrom}
+use Rattle.records.specs.Split.{itemsOf}
+use Rattle.records.specs.Positions.{itemsFrom}
 use Rattle.records.specs.Records.{t911, firstOf, isMark}
 use Rattle.lines.proofs.SplitLaws.{items-from, items-all, item-cut}
 use Rattle.pieces.specs.declared.Numbers.{Numbers}

@@ -8,7 +8,8 @@ use borrow.Author.Tests.{eq-eqb, ne-eqb}
 use lib.Dec.{eqb}
 use lib.ListN.{length, take, drop, getD, length-drop}
 use lib.Seq.{drop-drop, take-all}
-use Rattle.lists.specs.Lists.{bytes, same, upTo, is, findFrom}
+use Rattle.lists.specs.Lists.{bytes, same, upTo, is}
+use Rattle.lists.specs.Searching.{findFrom}
 use Rattle.lists.proofs.Cuts.{drop-end, rest-all, upTo-le, upTo-split}
 use Rattle.lists.proofs.Loops.{find-high}
 use Rattle.characters.specs.Text.{isStop, text}

@@ -7,7 +7,7 @@ use mathlib.Core.List.{List, _∷_}
 use lib.ListN.{length, drop, getD}
 use Rattle.lists.specs.Lists.{same, part}
 use Rattle.characters.specs.Rows.{rows}
-use Rattle.records.specs.Split.{itemsFrom}
+use Rattle.records.specs.Positions.{itemsFrom}
 use Rattle.records.specs.Records.{t911}
 use Rattle.pieces.specs.declared.Row.{Row}
 use Rattle.pieces.specs.declared.Row.the-variants.{Head, EndHead, Body, End, Broken}

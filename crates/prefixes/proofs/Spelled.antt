@@ -23,7 +23,7 @@ use Rattle.records.specs.Split.{itemsOf, joined}
 use Rattle.records.specs.Items.{edge, oneWidth, prefecture, decimal, sized, fault, value}
 use Rattle.records.specs.Records.{Record, Read, itemFault, itemValue, itemsFault, itemsValue, rowIn, rowOf, codePair, formPair, pairs, t911, recordFrom}
 use Rattle.records.specs.Records.{faultFrom}
-use Rattle.records.specs.Records.{faultWhere, lineFault, recordOf, readLine}
+use Rattle.records.specs.Records.{lineFault, recordOf, readLine}
 use Rattle.order.specs.declared.Facts.{Facts}
 use Rattle.notebook.specs.Facts.{factsOf}
 use Rattle.lists.proofs.Tests.{both}
@@ -50,7 +50,7 @@ one = number-spell 1 (omega arith)
 
 -- records without an RP value
 fixed : (o : Bool) → Line o (rec 1 plain) × Line o (rec 5 dated) × Line o (rec 11 medical) × Line o (rec 411 plain)
-unfolding bytes digitsValue spell leap monthLength isReal isDay gregorian eraOf eraOn inEra fromEra readDay table edge oneWidth prefecture decimal sized fault value itemFault itemValue itemsFault itemsValue rowIn rowOf codePair formPair pairs t911 recordFrom faultFrom faultWhere lineFault recordOf readLine factsOf
+unfolding bytes digitsValue spell leap monthLength isReal isDay gregorian eraOf eraOn inEra fromEra readDay table edge oneWidth prefecture decimal sized fault value itemFault itemValue itemsFault itemsValue rowIn rowOf codePair formPair pairs t911 recordFrom faultFrom lineFault recordOf readLine factsOf
 fixed o = (
   record { line = bytes "1,A,1,19890108,,,,,,,"; rec′ = _; read = refl; facts = refl; short = omega arith },
   record { line = bytes "5,19890108,1"; rec′ = _; read = refl; facts = refl; short = omega arith },
@@ -99,7 +99,7 @@ module _ (v : ℕ) (lo : 1 ≤ v) (hi : v ≤ 999) where
   rp-line : (o : Bool) (h : List ℕ) (ss : List (List ℕ)) → NoComma h → All NoComma ss → AllChars h → All AllChars ss → faultFrom o (h ∷ spell v ∷ ss) ≡ 0
       → length h + weight ss ≤ 36
       → {f : Facts} → factsOf (recordFrom (h ∷ spell v ∷ ss)) ≡ f → Line o f
-  unfolding lineFault faultWhere recordOf
+  unfolding lineFault recordOf
   rp-line o h ss a b c d z n g =
       let p : Plain (spell v) = plain-digits (spell v) (digits-spell v hi) in
       let l : List ℕ = joined h (spell v ∷ ss) in

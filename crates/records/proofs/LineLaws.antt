@@ -18,7 +18,7 @@ use Rattle.characters.proofs.CharLaws.{chars-clean}
 use Rattle.records.specs.Split.{itemsOf, joined}
 use Rattle.records.specs.Table.{Item, Row, table}
 use Rattle.records.specs.Items.{Value, writeValue}
-use Rattle.records.specs.Records.{faultWhere, Record, Read, ok, faulty, noRow, rowIn, rowOf, pairs, itemsFault, itemsValue, recordFrom, faultFrom, lineFault, recordOf, readLine, t911, write}
+use Rattle.records.specs.Records.{Record, Read, ok, faulty, noRow, rowIn, rowOf, pairs, itemsFault, itemsValue, recordFrom, faultFrom, lineFault, recordOf, readLine, t911, write}
 use Rattle.records.proofs.Splits.{NoComma, AllChars, Split, split, weight, items-joined, joined-length, chars-parts, chars-joined}
 use Rattle.records.proofs.ItemLaws.{Fine, written, Written, items-written}
 
@@ -79,7 +79,7 @@ pub record Good (d : Bool) (l : List ℕ) (r : Record) : Type 0 where
   pub sound : Sound d head rest
 
 pub line-good : (d : Bool) (l : List ℕ) → lineFault d l ≡ 0 → Good d l (recordOf l)
-unfolding lineFault faultWhere recordOf recordFrom write rowOf
+unfolding lineFault recordOf recordFrom write rowOf
 line-good d l e =
     let z : (unless (allChars l) 4 ≡ 0) × (faultFrom d (itemsOf l) ≡ 0) = or-zero (unless (allChars l) 4) (faultFrom d (itemsOf l)) e in
     let chars : AllChars l = unless-zero (allChars l) 3 (z .0) in

@@ -1,4 +1,5 @@
 pub mod Split
+pub mod Positions
 pub mod Table
 pub mod Items
 pub mod Records

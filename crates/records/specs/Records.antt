@@ -149,12 +149,9 @@ faultFrom provider (h ∷ ss) =
     itemsFault provider ((rowOf h) .items) ss orElse
     unless (pairs (recordFrom (h ∷ ss))) 12
 
--- 4 first; good: the line is characters
-unfoldable pub faultWhere : Bool → Bool → List ℕ → ℕ
-faultWhere good provider l = unless good 4 orElse faultFrom provider (itemsOf l)
-
+-- 4 first
 unfoldable pub lineFault : Bool → List ℕ → ℕ
-lineFault provider l = faultWhere (allChars l) provider l
+lineFault provider l = unless (allChars l) 4 orElse faultFrom provider (itemsOf l)
 
 unfoldable pub recordOf : List ℕ → Record
 recordOf l = recordFrom (itemsOf l)

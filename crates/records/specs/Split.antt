@@ -3,9 +3,7 @@
 use Prim.Native.Nat.{ℕ}
 use mathlib.Core.Bool.{Bool, true, false, cond}
 use mathlib.Core.List.{List, [], _∷_, _++_}
-use lib.Dec.{leb, eqb}
-use lib.ListN.{length, drop}
-use Rattle.lists.specs.Lists.{is, findFrom}
+use Rattle.lists.specs.Lists.{is}
 
 abbrev pub isComma : ℕ → Bool
 isComma b = is 0x2c b
@@ -24,13 +22,3 @@ itemsOf (a ∷ l) = cond (isComma a) ([] ∷ itemsOf l) (consItem a (itemsOf l))
 unfoldable pub joined : List ℕ → List (List ℕ) → List ℕ
 joined h [] = h
 joined h (s ∷ ss) = h ++ 0x2c ∷ joined s ss
-
--- ---- the same by positions, for code
-
--- where the item that begins at a position ends
-abbrev pub itemEnd : List ℕ → ℕ → ℕ
-itemEnd s at = findFrom 0x2c s at
-
--- the items from a position on: none past the end
-unfoldable pub itemsFrom : List ℕ → ℕ → List (List ℕ)
-itemsFrom s at = cond (leb at (length s)) (itemsOf (drop at s)) []

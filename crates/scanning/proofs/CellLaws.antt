@@ -12,7 +12,7 @@ use lib.Dec.{leb, eqb}
 use Rattle.lists.specs.Lists.{within, member}
 use Rattle.lists.proofs.Tests.{both, either, below, below-at, within-in, within-below, within-above}
 use Rattle.characters.specs.Cells.{allowed, fullRow, partRow, isLead, leadRow, isTrail, trailRow, trailCell, isOne, isPair}
-use Rattle.characters.specs.Text.{charOf}
+use Rattle.characters.specs.Scanning.{charOf}
 use Rattle.characters.specs.declared.Char.{Char}
 use Rattle.characters.specs.declared.Char.the-variants.{One, Two, Bad}
 

@@ -9,7 +9,8 @@ use Rattle.lists.specs.Lists.{part}
 use Rattle.lists.proofs.Cuts.{drop-end, last-on}
 use Rattle.scanning.specs.declared.Scan.{Scan}
 use Rattle.scanning.specs.declared.Line.the-variants.{Whole, Mark, End, Broken}
-use Rattle.characters.specs.Text.{text, commaCount}
+use Rattle.characters.specs.Text.{text}
+use Rattle.characters.specs.Scanning.{commaCount}
 use Rattle.characters.specs.Rows.{rows}
 use Rattle.scanning.specs.Scans.{Stops, Sixteen, ScanOf, LineOf}
 use Rattle.characters.proofs.RowLaws.{broken, text-part, whole-at}

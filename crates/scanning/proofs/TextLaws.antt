@@ -17,7 +17,8 @@ use Rattle.lists.proofs.Cuts.{drop-step, drop-end}
 use Rattle.characters.specs.Cells.{isOne, isPair, isTrail, isLead}
 use Rattle.characters.specs.declared.Char.{Char}
 use Rattle.characters.specs.declared.Char.the-variants.{One, Two, Bad}
-use Rattle.characters.specs.Text.{charOf, charAt, allChars, isStop, commaCount, commasFrom, text}
+use Rattle.characters.specs.Text.{allChars, isStop, text}
+use Rattle.characters.specs.Scanning.{charOf, charAt, commaCount, commasFrom}
 use Rattle.scanning.specs.Scans.{Sixteen, ScanOf}
 use Rattle.characters.proofs.CharLaws.{one-go}
 

@@ -7,8 +7,10 @@ use mathlib.Core.List.{List, [], _∷_}
 use lib.ListN.{length, drop, getD}
 use Rattle.lists.specs.Lists.{part}
 use Rattle.characters.specs.declared.Char.the-variants.{Bad}
-use Rattle.characters.specs.Text.{charAt, allChars, text, commaCount, commasFrom}
-use Rattle.characters.specs.Rows.{rows, endMark, WholeLine, BrokenRow}
+use Rattle.characters.specs.Text.{allChars, text}
+use Rattle.characters.specs.Scanning.{charAt, commaCount, commasFrom}
+use Rattle.characters.specs.Rows.{rows, endMark, WholeLine}
+use Rattle.characters.specs.Scanning.{BrokenRow}
 use Rattle.scanning.specs.declared.Scan.{Scan}
 use Rattle.scanning.specs.declared.Line.{Line}
 use Rattle.scanning.specs.declared.Line.the-variants.{Whole, Mark, End, Broken}

@@ -11,7 +11,8 @@ ghost use Prim.Native.Nat.{_+_, _≤_, _<_};
 ghost use lib.ListN.{length};
 ghost use Rattle.lists.specs.Lists.{within};
 ghost use Rattle.characters.specs.Cells.{row2, row3, allowed, trailCell, trailRow, isOne, isTrail, isPair};
-ghost use Rattle.characters.specs.Text.{charOf, allChars, isStop};
+ghost use Rattle.characters.specs.Text.{allChars, isStop};
+ghost use Rattle.characters.specs.Scanning.{charOf};
 ghost use Rattle.scanning.specs.Scans.{ScanOf, Sixteen, RunOf, RunEnds, Finished, LineOf};
 
 // ---- the allowed cells of JIS X 0208-1983

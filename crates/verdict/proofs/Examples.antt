@@ -17,7 +17,7 @@ use Rattle.eras.specs.Era.{eraOf, eraOn}
 use Rattle.calendar.specs.Era.{inEra, fromEra, readDay}
 use Rattle.records.specs.Table.{table}
 use Rattle.records.specs.Items.{edge, oneWidth, decimal, sized, fault, value}
-use Rattle.records.specs.Records.{itemFault, itemValue, itemsFault, itemsValue, rowIn, rowOf, pairs, t911, recordFrom, faultFrom, faultWhere, lineFault}
+use Rattle.records.specs.Records.{itemFault, itemValue, itemsFault, itemsValue, rowIn, rowOf, pairs, t911, recordFrom, faultFrom, lineFault}
 use Rattle.records.specs.Records.{recordOf, header}
 use Rattle.order.specs.State.{stepOf}
 use Rattle.notebook.specs.Facts.{factsOf}
@@ -47,5 +47,5 @@ wrong-hold = none-has wrong refl
 
 -- document 01's file of 37 bytes is a file in the sense of specs/Acceptance.antt
 pub small-file : Carries smallFile 1 0 0
-unfolding bytes spell isLine digitsValue leap monthLength isReal isDay gregorian eraOf eraOn inEra fromEra readDay table edge oneWidth decimal sized fault value itemFault itemValue itemsFault itemsValue rowIn rowOf pairs t911 recordFrom faultFrom faultWhere lineFault recordOf header inGroup mayFollow pairBroken misplaced closesRp lacking missing valueWrong newerGroup refusal unfinished none start hadAfter advance refusalOf stepOf finishOf factsOf stepLine closed onward recordsFrom readRows readFile count checkResult
+unfolding bytes spell isLine digitsValue leap monthLength isReal isDay gregorian eraOf eraOn inEra fromEra readDay table edge oneWidth decimal sized fault value itemFault itemValue itemsFault itemsValue rowIn rowOf pairs t911 recordFrom faultFrom lineFault recordOf header inGroup mayFollow pairBroken misplaced closesRp lacking missing valueWrong newerGroup refusal unfinished none start hadAfter advance refusalOf stepOf finishOf factsOf stepLine closed onward recordsFrom readRows readFile count checkResult
 small-file = check-is-grammar smallFile 1 0 0 .0 refl

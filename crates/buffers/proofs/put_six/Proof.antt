@@ -6,7 +6,7 @@ use mathlib.Core.Path.{_≡_, refl}
 use native.Mathlib.Omega.{arith}
 use native.Mathlib.Numerals.{add-one}
 use lib.ListN.{length-set}
-use Rattle.buffers.specs.Buffers.{six}
+use Rattle.buffers.specs.Entries.{six}
 use Rattle.buffers.proofs.put_six.Statement.{statement}
 use Rattle.buffers.proofs.put_six.Tie as tie
 use Rattle.buffers.proofs.put_six.Reads as reads
