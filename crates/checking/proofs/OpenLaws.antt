@@ -13,7 +13,8 @@ use Rattle.lists.specs.Lists.{same, part, refused}
 use Rattle.lists.proofs.Tests.{same-true, same-refl}
 use Rattle.scanning.specs.declared.Line.{Line}
 use Rattle.scanning.specs.declared.Line.the-variants.{Whole, Mark, End, Broken}
-use Rattle.characters.specs.Rows.{rows, flat, isLine, lineEnd, WholeLine, BrokenRow}
+use Rattle.characters.specs.Rows.{rows, flat, isLine, lineEnd, WholeLine}
+use Rattle.characters.specs.Scanning.{BrokenRow}
 use Rattle.scanning.specs.Scans.{Sixteen, LineMeans, LineOf}
 use Rattle.characters.proofs.RowLaws.{line-is, line-text, flat-rows}
 use Rattle.records.specs.Records.{header}

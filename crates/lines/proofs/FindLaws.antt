@@ -13,7 +13,7 @@ use Rattle.scanning.specs.declared.Line.{Line}
 use Rattle.scanning.specs.declared.Line.the-variants.{Whole, Mark, End, Broken}
 use Rattle.scanning.specs.Scans.{Stops, Sixteen, ScannedLine, LineOf}
 use Rattle.records.specs.Split.{itemsOf}
-use Rattle.records.specs.Records.{faultFrom, faultWhere, lineFault}
+use Rattle.records.specs.Records.{faultFrom, lineFault}
 use Rattle.lines.specs.declared.Details.{Details}
 use Rattle.lines.specs.declared.Numbered.{Numbered}
 use Rattle.lines.specs.declared.Quick.{Quick}
@@ -26,11 +26,11 @@ use Rattle.lines.proofs.LineLaws.{sound-few, sound-fault, sound-facts}
 
 -- "4": characters come before all else
 chars-fault : (b : Bool) (l : List ℕ) → allChars l ≡ false → lineFault b l ≡ 4
-unfolding lineFault faultWhere
+unfolding lineFault
 chars-fault b l e = rw e
 
 past-chars : (b : Bool) (l : List ℕ) → allChars l ≡ true → lineFault b l ≡ faultFrom b (itemsOf l)
-unfolding lineFault faultWhere
+unfolding lineFault
 past-chars b l e = rw e
 
 -- ---- the ways through slow_line

@@ -14,7 +14,7 @@ use Rattle.lists.proofs.Loops.{find-high}
 use Rattle.digits.specs.Digits.{spell}
 use Rattle.digits.specs.Short.{plainNumber}
 use Rattle.digits.proofs.Spelling.{same-spell}
-use Rattle.characters.specs.Text.{commaCount}
+use Rattle.characters.specs.Scanning.{commaCount}
 use Rattle.scanning.specs.Scans.{Stops, Sixteen}
 use Rattle.records.specs.Split.{itemsOf}
 use Rattle.records.specs.Positions.{itemsFrom}

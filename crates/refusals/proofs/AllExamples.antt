@@ -19,7 +19,7 @@ use Rattle.rules.specs.Rules.{pairBroken, misplaced, continues, closesRp, lacki
 use Rattle.order.specs.State.{none, start, hadAfter, advance, refusalOf, stepOf, finishOf}
 use Rattle.notebook.specs.Facts.{factsOf}
 use Rattle.notebook.specs.Notebook.{stepLine, closed, onward, recordsFrom, readRows, readFile}
-use Rattle.buffers.specs.Buffers.{six}
+use Rattle.buffers.specs.Entries.{six}
 use Rattle.replies.specs.Results.{answerIn}
 use Rattle.notebook.specs.Check.{checkResult}
 use Rattle.notebook.specs.Index.{entryOf, entered, entriesFrom, entriesBehind, entriesOf, numbers, numbersOf, indexResult}
