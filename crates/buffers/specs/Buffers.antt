@@ -1,4 +1,5 @@
--- Vocabulary of the code: what a writer leaves in a buffer that its caller lends: a list from an index on, and everything else as it was.
+-- Vocabulary of the code.
+-- What a writer leaves in a buffer that its caller lends: a list from an index on, and everything else as it was.
 -- All writers have one contract, for buffers of bytes and of 32-bit numbers alike.
 use Prim.Native.Nat.{ℕ, _+_, _≤_}
 use mathlib.Core.Path.{_≡_}

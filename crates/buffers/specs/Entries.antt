@@ -1,3 +1,4 @@
+-- Definitions, to be believed.
 -- The numbers of an entry of an index, in order.
 use Prim.Native.Nat.{ℕ}
 use mathlib.Core.List.{List, [], _∷_}

@@ -1,3 +1,4 @@
+-- Definitions, to be believed.
 -- The day that a number names, as the code answers it. The rule and the range: eras, specs/Day.antt.
 use Prim.Native.Nat.{ℕ}
 use mathlib.Core.Bool.{cond}

@@ -1,4 +1,5 @@
--- Vocabulary of the code: what a run of digits reads to, byte by byte. proofs/Steps.antt says it by the value of digits (`number-is`).
+-- Vocabulary of the code.
+-- What a run of digits reads to, byte by byte. proofs/Steps.antt says it by the value of digits (`number-is`).
 use Prim.Native.Nat.{ℕ, _+_, _-_, _*_}
 use mathlib.Core.List.{List, [], _∷_}
 use mathlib.Core.Bool.{cond}

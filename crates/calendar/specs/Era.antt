@@ -1,3 +1,4 @@
+-- Definitions, to be believed.
 -- The item of kind D read: its two spellings. Document 01, kind D; 15-106 3.2.9, dates. The eras: eras, specs/Era.antt.
 use Prim.Native.Nat.{ℕ, _+_}
 use mathlib.Core.List.{List}

@@ -12,10 +12,12 @@ use mir.Syntax.{w32, w64}
 use lib.Dec.{eqb}
 use lib.ListN.{length, take, drop, length-append}
 use lib.Seq.{sets, length-sets, drop-drop, drop-at}
-use Rattle.lists.specs.Lists.{same, part, Res, ok, refused}
+use Rattle.lists.specs.Lists.{same, Res, ok, refused}
+use Rattle.lists.specs.Searching.{part}
 use Rattle.scanning.specs.declared.Line.{Line}
 use Rattle.scanning.specs.declared.Line.the-variants.{Whole, Mark, End, Broken}
-use Rattle.characters.specs.Rows.{rows, flat, lineEnd, WholeLine}
+use Rattle.characters.specs.Rows.{rows, flat, lineEnd}
+use Rattle.characters.specs.Scanning.{WholeLine}
 use Rattle.scanning.specs.Scans.{LineOf}
 use Rattle.characters.proofs.RowLaws.{flat-rows}
 use Rattle.records.specs.Records.{Record, recordOf, lineFault, write}

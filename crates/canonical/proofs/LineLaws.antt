@@ -8,7 +8,7 @@ use mathlib.Core.List.{List, [], _∷_, _++_, map, append-assoc, append-nil}
 use lib.ListN.{length, getD, take, drop, length-append}
 use lib.Dec.{leb, eqb}
 use lib.Seq.{sets, length-sets}
-use Rattle.lists.specs.Lists.{part}
+use Rattle.lists.specs.Searching.{part}
 use Rattle.lists.proofs.Tests.{or-zero, cond-case, below, below-at}
 use Rattle.lists.proofs.Cuts.{drop-step}
 use Rattle.digits.specs.Short.{plainNumber}

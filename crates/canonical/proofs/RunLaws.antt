@@ -6,7 +6,7 @@ use mathlib.Core.Bool.{Bool, false}
 use mathlib.Core.List.{List, [], _∷_, _++_}
 use lib.ListN.{length, take, drop}
 use lib.Seq.{sets, length-sets}
-use Rattle.lists.specs.Lists.{part}
+use Rattle.lists.specs.Searching.{part}
 use Rattle.buffers.specs.Buffers.{Room, Wrote}
 use Rattle.buffers.proofs.Runs.{sets-append, then}
 use Rattle.canonical.specs.declared.Run.{Run}

@@ -8,7 +8,7 @@ use mir.Val.{Fits}
 use mir.Syntax.{w64}
 use lib.ListN.{length, getD, take, drop, length-append, length-drop}
 use lib.Seq.{drop-at, take-at, getD-take, getD-drop}
-use Rattle.lists.specs.Lists.{part}
+use Rattle.lists.specs.Searching.{part}
 use Rattle.lists.proofs.Cuts.{drop-step, drop-end}
 use Rattle.records.specs.Split.{itemsOf, joined}
 use Rattle.records.proofs.Splits.{Split, split}

@@ -6,7 +6,8 @@ use mathlib.Core.Bool.{Bool}
 use mathlib.Core.List.{List, _++_}
 use lib.ListN.{length, take, drop}
 use lib.Seq.{sets, length-sets, length-take-le}
-use Rattle.lists.specs.Lists.{part, Res, ok, refused, mapRes}
+use Rattle.lists.specs.Lists.{Res, ok, refused, mapRes}
+use Rattle.lists.specs.Searching.{part}
 use Rattle.characters.specs.Rows.{rows, flat}
 use Rattle.records.specs.Records.{Record}
 use Rattle.order.specs.State.{start}
@@ -21,7 +22,8 @@ use Rattle.replies.specs.declared.Answer.{Answer}
 use Rattle.replies.specs.declared.Answer.the-variants.{Done, Refused}
 use Rattle.notebook.specs.Canonical.{headRow, recordRows, writeFile, canonicalBytes, canonicalFile, canonicalResult}
 use Rattle.notebook.proofs.Arranging.{arrange-as-is}
-use Rattle.replies.specs.Results.{writes, Gives}
+use Rattle.replies.specs.Results.{writes}
+use Rattle.replies.specs.Contracts.{Gives}
 use Rattle.replies.proofs.Results.{gives-refusal, front-20, front-room, front-written}
 use Rattle.canonical.specs.Writing.{Output, poured, Poured, MadeMeans, MadeOf, Holds}
 

@@ -1,3 +1,4 @@
+-- Vocabulary of the code.
 -- The canonical file as the code writes it: runs of kept bytes and the items between them that are spelled anew, and what is left of a
 -- file from a row on.
 use Prim.Native.Nat.{ℕ, _+_, _-_, _*_, _/_, _%_, _≤_, _<_}
@@ -7,7 +8,8 @@ use mathlib.Core.List.{List, [], _∷_, _++_}
 use lib.Dec.{eqb}
 use lib.ListN.{length, getD, take, drop}
 use lib.Seq.{sets}
-use Rattle.lists.specs.Lists.{empty, part, Res, ok, refused}
+use Rattle.lists.specs.Lists.{empty, Res, ok, refused}
+use Rattle.lists.specs.Searching.{part}
 use Rattle.digits.specs.Digits.{number}
 use Rattle.characters.specs.Rows.{flat, lineEnd}
 use Rattle.calendar.specs.Era.{readDay}

@@ -10,7 +10,8 @@ use lib.Dec.{leb}
 use Rattle.lists.specs.Lists.{within}
 use Rattle.lists.proofs.Tests.{both, either}
 use Rattle.characters.specs.Cells.{isOne, isPair, isTrail, isLead}
-use Rattle.characters.specs.Text.{allChars, isStop, clean}
+use Rattle.characters.specs.Text.{allChars, isStop}
+use Rattle.characters.specs.Scanning.{clean}
 
 -- a byte from 20h on
 high-go : (b : ℕ) → 0x20 ≤ b → isStop b ≡ false

@@ -10,11 +10,14 @@ use borrow.Author.Tests.{eq-eqb, ne-eqb, eqb-true}
 use lib.Dec.{leb, eqb}
 use lib.ListN.{length, take, drop, getD, length-drop, length-append}
 use lib.Seq.{drop-drop, getD-drop, getD-append-seam, getD-append-add}
-use Rattle.lists.specs.Lists.{all, same, part, upTo}
+use Rattle.lists.specs.Lists.{all, same, upTo}
+use Rattle.lists.specs.Searching.{part}
 use Rattle.lists.proofs.Tests.{both, neither, same-refl, same-true}
 use Rattle.lists.proofs.Cuts.{drop-step, drop-end, two-on, last-on, take-upTo, upTo-le, upTo-split}
-use Rattle.characters.specs.Text.{allChars, isStop, clean, text}
-use Rattle.characters.specs.Rows.{consRow, rows, flat, lineEnd, isLine, endMark, WholeLine}
+use Rattle.characters.specs.Text.{allChars, isStop, text}
+use Rattle.characters.specs.Scanning.{clean}
+use Rattle.characters.specs.Rows.{consRow, rows, flat, lineEnd, isLine, endMark}
+use Rattle.characters.specs.Scanning.{WholeLine}
 use Rattle.characters.specs.Scanning.{BrokenRow}
 
 -- ---- rows are the file

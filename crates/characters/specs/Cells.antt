@@ -1,9 +1,8 @@
+-- Definitions, to be believed.
 -- One Shift_JIS character, by row and cell. Document 01, "Lines and characters"; 15-106 3.2.5 (JIS X 0208-1983).
-use Prim.Native.Nat.{ℕ, zero, suc, _+_, _-_, _*_}
-use mathlib.Core.Path.{_≡_, refl}
-use mathlib.Core.Bool.{Bool, true, false, cond, _&&_, _||_}
-use mathlib.Core.List.{List, [], _∷_}
-use lib.Dec.{leb, eqb}
+use Prim.Native.Nat.{ℕ, _+_, _-_, _*_}
+use mathlib.Core.Bool.{Bool, false, cond, _&&_, _||_}
+use lib.Dec.{eqb}
 use Rattle.lists.specs.Lists.{within}
 
 -- "rows 1, 16–46, 48–83 all 94"
@@ -35,20 +34,6 @@ partRow r c =
 unfoldable pub allowed : ℕ → ℕ → Bool
 unfolding fullRow partRow
 allowed r c = cond (fullRow r) (within 1 94 c) (partRow r c)
-
--- how many of the cells c, c+1, .. (n of them) of a row are allowed, and of n rows of 94 cells from r
-abbrev pub countCells : ℕ → ℕ → ℕ → ℕ
-countCells r c zero = 0
-countCells r c (suc n) = cond (allowed r c) 1 0 + countCells r (c + 1) n
-
-abbrev pub countRows : ℕ → ℕ → ℕ
-countRows r zero = 0
-countRows r (suc n) = countCells r 1 94 + countRows (r + 1) n
-
--- "That is 6,877 cells."
-pub cells-6877 : countRows 1 94 ≡ 6877
-unfolding allowed countCells countRows
-cells-6877 = refl
 
 -- "Row is 2×(L−81h)+1 for L 81h–9Fh, 2×(L−C1h)+1 for L E0h–EFh", but for the trail's part in it
 abbrev pub isLead : ℕ → Bool

@@ -1,3 +1,4 @@
+-- Examples, computed.
 -- Bytes and pairs of bytes, and whether they are a character; rows, and whether they are a line: what document 01 names, and neighbours on both
 -- sides of a rule. proofs/AllExamples.antt computes them; all pairs go through the test program.
 use Prim.Native.Nat.{ℕ}

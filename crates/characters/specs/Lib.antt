@@ -3,3 +3,4 @@ pub mod Text
 pub mod Rows
 pub mod Examples
 pub mod Scanning
+pub mod Count

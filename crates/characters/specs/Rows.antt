@@ -1,13 +1,12 @@
+-- Definitions, to be believed.
 -- A file cut into rows behind each 0Ah, and the rows that are lines. Document 01, "Lines and characters"; refusal 2; 15-106 3.2.1, 3.2.4.
 -- Every list of bytes is the bytes of its rows; a row that breaks the rule of line ends is a row that is no line.
-use Prim.Native.Nat.{ℕ, _+_, _≤_}
-use mathlib.Core.Path.{_≡_}
-use mathlib.Core.Bool.{Bool, true, cond}
+use Prim.Native.Nat.{ℕ}
+use mathlib.Core.Bool.{Bool, cond}
 use mathlib.Core.List.{List, [], _∷_, _++_}
 use lib.Dec.{eqb}
-use lib.ListN.{length, drop}
-use Rattle.lists.specs.Lists.{same, part}
-use Rattle.characters.specs.Text.{allChars, clean, text}
+use Rattle.lists.specs.Lists.{same}
+use Rattle.characters.specs.Text.{text}
 
 -- a byte more at the front of the first row
 abbrev pub consRow : ℕ → List (List ℕ) → List (List ℕ)
@@ -34,13 +33,3 @@ isLine r = same r (text r ++ lineEnd)
 -- "then optionally one 1Ah as the very last byte": without 0Ah it is the last row
 abbrev pub endMark : List ℕ
 endMark = 0x1a ∷ []
-
--- ---- what stands where a row begins
-
--- a line from at to e, and the rows behind its end
-pub record WholeLine (s : List ℕ) (at e : ℕ) (good : Bool) : Type 0 where
-  pub low : at ≤ e
-  pub high : e + 2 ≤ length s
-  pub cut : rows (drop at s) ≡ (part s at e ++ lineEnd) ∷ rows (drop (e + 2) s)
-  pub clear : clean (part s at e) ≡ true
-  pub chars : good ≡ allChars (part s at e)

@@ -1,15 +1,18 @@
--- Vocabulary of the code: the character that stands at a position, the 2Ch of a list by their places, and a row that is refused.
-use Prim.Native.Nat.{ℕ, suc, _+_}
+-- Vocabulary of the code.
+-- The character that stands at a position, the 2Ch of a list by their places, a whole line, and a row that is refused.
+use Prim.Native.Nat.{ℕ, suc, _+_, _≤_}
 use mathlib.Core.Path.{_≡_}
-use mathlib.Core.Bool.{false, cond}
-use mathlib.Core.List.{List, [], _∷_}
+use mathlib.Core.Bool.{Bool, true, false, cond, not}
+use mathlib.Core.List.{List, [], _∷_, _++_}
 use lib.Dec.{eqb}
-use lib.ListN.{drop}
-use Rattle.lists.specs.Lists.{same}
+use lib.ListN.{drop, length}
+use Rattle.lists.specs.Lists.{same, all}
+use Rattle.lists.specs.Searching.{part}
 use Rattle.characters.specs.Cells.{isOne, isPair}
-use Rattle.characters.specs.Rows.{isLine, endMark}
+use Rattle.characters.specs.Rows.{isLine, endMark, rows, lineEnd}
 use Rattle.characters.specs.declared.Char.{Char}
 use Rattle.characters.specs.declared.Char.the-variants.{One, Two, Bad}
+use Rattle.characters.specs.Text.{allChars, isStop}
 
 -- the character that a list begins with: of one byte, of two, or none
 abbrev pub charOf : List ℕ → Char
@@ -31,7 +34,19 @@ abbrev pub commasFrom : ℕ → List ℕ → List ℕ
 commasFrom k [] = []
 commasFrom k (a ∷ l) = cond (eqb a 0x2c) (k ∷ commasFrom (suc k) l) (commasFrom (suc k) l)
 
+-- none of 0Dh, 0Ah and 1Ah
+abbrev pub clean : List ℕ → Bool
+clean s = all (λ b. not (isStop b)) s
+
 -- the first row is no line, and no 1Ah at the end
 abbrev pub BrokenRow : List (List ℕ) → Type 0
 BrokenRow [] = ⊥
 BrokenRow (r ∷ rs) = (isLine r ≡ false) × (same r endMark ≡ false)
+
+-- a line from at to e, and the rows behind its end
+pub record WholeLine (s : List ℕ) (at e : ℕ) (good : Bool) : Type 0 where
+  pub low : at ≤ e
+  pub high : e + 2 ≤ length s
+  pub cut : rows (drop at s) ≡ (part s at e ++ lineEnd) ∷ rows (drop (e + 2) s)
+  pub clear : clean (part s at e) ≡ true
+  pub chars : good ≡ allChars (part s at e)

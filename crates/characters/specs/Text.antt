@@ -1,9 +1,10 @@
+-- Definitions, to be believed.
 -- Characters of a list of bytes, and the text up to a line's end. Document 01, "Lines and characters"; refusals 2 and 4; 15-106 3.2.4, 3.2.5.
 use Prim.Native.Nat.{ℕ}
-use mathlib.Core.Bool.{Bool, true, cond, not, _&&_, _||_}
+use mathlib.Core.Bool.{Bool, true, cond, _&&_, _||_}
 use mathlib.Core.List.{List, [], _∷_}
 use lib.Dec.{eqb}
-use Rattle.lists.specs.Lists.{all, upTo}
+use Rattle.lists.specs.Lists.{upTo}
 use Rattle.characters.specs.Cells.{isOne, isPair}
 
 -- the list is characters and nothing else; refusal 4 where a line is not. 15-106 3.2.5: the characters of JIS X 0201-1976 (8 bits) and JIS X 0208-1983,
@@ -16,10 +17,6 @@ allChars (a ∷ b ∷ r) = cond (isOne a) (allChars (b ∷ r)) (isPair a b && al
 -- 0Dh, 0Ah and 1Ah, which "stand nowhere else"
 abbrev pub isStop : ℕ → Bool
 isStop a = eqb a 0x0d || eqb a 0x0a || eqb a 0x1a
-
--- none of them
-abbrev pub clean : List ℕ → Bool
-clean s = all (λ b. not (isStop b)) s
 
 -- the bytes before the first of them
 abbrev pub text : List ℕ → List ℕ

@@ -12,12 +12,14 @@ use mir.Val.{Fits}
 use mir.Syntax.{w32, w64}
 use lib.Dec.{leb, eqb}
 use lib.ListN.{length, take, drop}
-use Rattle.lists.specs.Lists.{part, Res, ok, refused}
+use Rattle.lists.specs.Lists.{Res, ok, refused}
+use Rattle.lists.specs.Searching.{part}
 use Rattle.scanning.specs.declared.Line.{Line}
 use Rattle.scanning.specs.declared.Line.the-variants.{Whole, Mark, End, Broken}
 use Rattle.characters.specs.Text.{allChars, text}
 use Rattle.scanning.specs.Scans.{Stops, Sixteen}
-use Rattle.characters.specs.Rows.{rows, isLine, lineEnd, endMark, WholeLine}
+use Rattle.characters.specs.Rows.{rows, isLine, lineEnd, endMark}
+use Rattle.characters.specs.Scanning.{WholeLine}
 use Rattle.characters.specs.Scanning.{BrokenRow}
 use Rattle.scanning.specs.Scans.{ScannedLine, LineMeans, LineOf}
 use Rattle.characters.proofs.RowLaws.{line-is, line-text, line-no-mark}

@@ -9,11 +9,13 @@ use mir.Val.{Fits}
 use mir.Syntax.{w64}
 use lib.ListN.{length, take, drop, length-drop}
 use lib.Seq.{length-take-le}
-use Rattle.lists.specs.Lists.{part, Res, refused}
+use Rattle.lists.specs.Lists.{Res, refused}
+use Rattle.lists.specs.Searching.{part}
 use Rattle.scanning.specs.declared.Line.{Line}
 use Rattle.scanning.specs.declared.Line.the-variants.{Whole, Mark, End, Broken}
 use Rattle.scanning.specs.Scans.{Stops, Sixteen}
-use Rattle.characters.specs.Rows.{rows, WholeLine}
+use Rattle.characters.specs.Rows.{rows}
+use Rattle.characters.specs.Scanning.{WholeLine}
 use Rattle.characters.specs.Scanning.{BrokenRow}
 use Rattle.scanning.specs.Scans.{ScannedLine, LineMeans, LineOf}
 use Rattle.characters.proofs.RowLaws.{line-is, line-text, line-no-mark}

@@ -9,11 +9,13 @@ use mir.Val.{Fits}
 use mir.Syntax.{w64}
 use lib.ListN.{length, take, drop, length-append}
 use lib.Seq.{length-take-le, take-at}
-use Rattle.lists.specs.Lists.{same, part, refused}
+use Rattle.lists.specs.Lists.{same, refused}
+use Rattle.lists.specs.Searching.{part}
 use Rattle.lists.proofs.Tests.{same-true, same-refl}
 use Rattle.scanning.specs.declared.Line.{Line}
 use Rattle.scanning.specs.declared.Line.the-variants.{Whole, Mark, End, Broken}
-use Rattle.characters.specs.Rows.{rows, flat, isLine, lineEnd, WholeLine}
+use Rattle.characters.specs.Rows.{rows, flat, isLine, lineEnd}
+use Rattle.characters.specs.Scanning.{WholeLine}
 use Rattle.characters.specs.Scanning.{BrokenRow}
 use Rattle.scanning.specs.Scans.{Sixteen, LineMeans, LineOf}
 use Rattle.characters.proofs.RowLaws.{line-is, line-text, flat-rows}

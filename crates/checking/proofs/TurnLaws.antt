@@ -7,7 +7,7 @@ use borrow.Author.Tests.{ne-eqb}
 use mir.Val.{Fits}
 use mir.Syntax.{w64}
 use lib.ListN.{length, take, drop}
-use Rattle.lists.specs.Lists.{part}
+use Rattle.lists.specs.Searching.{part}
 use Rattle.scanning.specs.Scans.{Stops, Sixteen, LineOf}
 use Rattle.records.specs.Records.{lineFault}
 use Rattle.order.specs.declared.State.{State}

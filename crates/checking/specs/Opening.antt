@@ -1,10 +1,12 @@
+-- Vocabulary of the code.
 -- How a file begins, as the code answers it: its size, its line 1 and the direction that it tells.
 use Prim.Native.Nat.{ℕ, _≤_}
 use mathlib.Core.Path.{_≡_}
 use mathlib.Core.Bool.{Bool}
 use mathlib.Core.List.{List, _∷_}
 use lib.ListN.{length, drop}
-use Rattle.lists.specs.Lists.{part, refused}
+use Rattle.lists.specs.Lists.{refused}
+use Rattle.lists.specs.Searching.{part}
 use Rattle.characters.specs.Rows.{rows}
 use Rattle.order.specs.State.{start}
 use Rattle.notebook.specs.Notebook.{recordsFrom, notebookOf, readFile}

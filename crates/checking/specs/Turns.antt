@@ -1,9 +1,10 @@
+-- Vocabulary of the code.
 -- One turn of a walk over records: what the record at a position does to a state, as the code answers it.
 use Prim.Native.Nat.{ℕ}
 use mathlib.Core.Path.{_≡_}
 use mathlib.Core.Bool.{Bool}
 use mathlib.Core.List.{List}
-use Rattle.lists.specs.Lists.{part}
+use Rattle.lists.specs.Searching.{part}
 use Rattle.scanning.specs.declared.Line.the-variants.{Whole, Broken}
 use Rattle.scanning.specs.Scans.{Sixteen, LineOf}
 use Rattle.order.specs.declared.State.{State}

@@ -1,3 +1,4 @@
+-- Vocabulary of the code.
 -- The table of records as numbers, as the code holds it (items, specs/Codes.antt), and where the row of each record stands in it: codes, sliceOf,
 -- placeOf, Lent, InCodes. That they are the paper's table is shown, not believed (proofs/TableLaws.antt).
 use Prim.Native.Nat.{ℕ, _+_, _/_, _%_, _≤_}

@@ -7,11 +7,12 @@ use mathlib.Core.List.{List, [], _∷_, append-nil}
 use mir.Val.{Fits}
 use mir.Syntax.{w32, w64}
 use lib.ListN.{length}
-use Rattle.lists.specs.Lists.{part, mapRes}
+use Rattle.lists.specs.Lists.{mapRes}
+use Rattle.lists.specs.Searching.{part}
 use Rattle.characters.specs.Rows.{flat}
 use Rattle.buffers.specs.Buffers.{Wrote}
 use Rattle.replies.specs.declared.Answer.the-variants.{Done, Refused}
-use Rattle.replies.specs.Results.{Gives}
+use Rattle.replies.specs.Contracts.{Gives}
 use Rattle.replies.proofs.Results.{gives-refusal, gives-20, gives-written}
 use Rattle.division.specs.Cut.{listed, writesPieces}
 use Rattle.cut.specs.declared.Chosen.{Chosen}

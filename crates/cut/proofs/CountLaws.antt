@@ -10,7 +10,7 @@ use mathlib.Core.List.{List, [], _∷_, append-nil}
 use borrow.Author.Tests.{leb-true, leb-false}
 use lib.Dec.{eqb, leb}
 use lib.ListN.{length, drop, getD}
-use Rattle.lists.specs.Lists.{part}
+use Rattle.lists.specs.Searching.{part}
 use Rattle.lists.proofs.Cuts.{drop-step}
 use Rattle.characters.specs.Rows.{rows}
 use Rattle.characters.proofs.RowLaws.{First, first-row}

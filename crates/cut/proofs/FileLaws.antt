@@ -8,7 +8,8 @@ use mathlib.Core.List.{List, [], _∷_, _++_}
 use borrow.Author.Tests.{eqb-true}
 use lib.Dec.{eqb}
 use lib.ListN.{length, take}
-use Rattle.lists.specs.Lists.{all, part, Res, ok, refused, mapRes, andThen}
+use Rattle.lists.specs.Lists.{all, Res, ok, refused, mapRes, andThen}
+use Rattle.lists.specs.Searching.{part}
 use Rattle.lists.proofs.Tests.{both}
 use Rattle.digits.specs.Digits.{isDigit}
 use Rattle.characters.specs.Rows.{flat}
@@ -16,7 +17,8 @@ use Rattle.notebook.specs.Notebook.{Notebook, readFile}
 use Rattle.notebook.specs.Same.{arrange}
 use Rattle.replies.specs.declared.Answer.{Answer}
 use Rattle.replies.specs.declared.Answer.the-variants.{Done, Refused}
-use Rattle.replies.specs.Results.{Result, Gives}
+use Rattle.replies.specs.Results.{Result}
+use Rattle.replies.specs.Contracts.{Gives}
 use Rattle.replies.proofs.Results.{gives-refusal}
 use Rattle.notebook.specs.Canonical.{headRow, recordRows, canonicalBytes, canonicalFile}
 use Rattle.canonical.specs.Writing.{MadeMeans, MadeOf}

@@ -7,9 +7,10 @@ use mathlib.Core.Option.{Option, none, some}
 use mathlib.Core.List.{List, [], _∷_, _++_}
 use borrow.Author.Tests.{lt-leb}
 use lib.ListN.{length, drop, length-append, length-drop}
-use Rattle.lists.specs.Lists.{part}
+use Rattle.lists.specs.Searching.{part}
 use Rattle.characters.specs.Rows.{rows, flat}
-use Rattle.packing.specs.Packing.{total, concat, pack}
+use Rattle.packing.specs.Packing.{total, pack}
+use Rattle.packing.specs.Divisions.{concat}
 use Rattle.digits.specs.Digits.{digitCount}
 use Rattle.digits.proofs.Numbers.{to-999}
 use Rattle.packing.specs.Widths.{Plan, whole, split, fails, over, serves, tries, plan}

@@ -13,7 +13,7 @@ use mir.Syntax.{w32}
 use lib.Dec.{leb}
 use lib.ListN.{length, length-append}
 use lib.Seq.{sets}
-use Rattle.lists.specs.Lists.{part}
+use Rattle.lists.specs.Searching.{part}
 use Rattle.digits.specs.Digits.{spell}
 use Rattle.characters.specs.Rows.{rows, flat}
 use Rattle.characters.proofs.RowLaws.{flat-rows}

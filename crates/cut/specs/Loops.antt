@@ -1,3 +1,4 @@
+-- Vocabulary of the code.
 -- What the code of cutting follows, over the bytes s of a canonical file: 13 bytes of line 1, then rows. Each form is a function of `pack`
 -- or `tries` (packing, specs/) at the loop's place: piece k begins with the row at i. Cut.antt says the same of notebooks;
 -- proofs/FileLaws.antt joins the two.
@@ -6,7 +7,8 @@ use mathlib.Core.Path.{_≡_}
 use mathlib.Core.Option.{Option, none, some}
 use mathlib.Core.List.{List, [], _∷_, _++_}
 use lib.ListN.{length, drop}
-use Rattle.lists.specs.Lists.{part, Res, mapRes}
+use Rattle.lists.specs.Lists.{Res, mapRes}
+use Rattle.lists.specs.Searching.{part}
 use Rattle.digits.specs.Digits.{spell, digitCount}
 use Rattle.characters.specs.Rows.{rows, flat}
 use Rattle.packing.specs.Packing.{pack}

@@ -12,7 +12,7 @@ ghost use Rattle.packing.specs.Widths.{serves};
 ghost use Rattle.canonical.specs.Writing.{Holds};
 ghost use Rattle.division.specs.Marks.{markRow};
 ghost use Rattle.division.specs.Cut.{cutResult};
-ghost use Rattle.replies.specs.Results.{Gives};
+ghost use Rattle.replies.specs.Contracts.{Gives};
 ghost use Rattle.cut.specs.Loops.{OverOf, RunAt, Small, chosen, MarkRoom, pieceAs, PieceRoom, poured, Ready, Given, cutOfBytes};
 use replies::Answer;
 

@@ -1,3 +1,4 @@
+-- Definitions, to be believed.
 -- Digits read to a number of one to three digits, and numbers below 1,000 written. Document 01: kind R, record 911's n and k.
 use Prim.Native.Nat.{ℕ, zero, suc, _+_, _*_, _-_, _/_, _%_}
 use mathlib.Core.Bool.{Bool, true, false, cond, _&&_}

@@ -1,4 +1,5 @@
--- Vocabulary of the code: the same numbers as it hands them on, with a number outside the range for "none".
+-- Vocabulary of the code.
+-- The same numbers as it hands them on, with a number outside the range for "none".
 use Prim.Native.Nat.{ℕ, zero, suc, _+_, _*_, _-_}
 use mathlib.Core.Bool.{Bool, true, false, cond, _&&_}
 use mathlib.Core.Option.{Option, none, some}

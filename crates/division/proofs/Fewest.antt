@@ -18,7 +18,8 @@ use Rattle.notebook.specs.Notebook.{Notebook, readFile}
 use Rattle.notebook.specs.Canonical.{recordRows, writeFile}
 use Rattle.notebook.proofs.Accepted.{no-refusal, line-bytes, Lines, none as noLines, more, LinesRead, lines-read}
 use Rattle.notebook.proofs.WrittenLaws.{row-short, lines-short}
-use Rattle.packing.specs.Packing.{total, concat, Fits}
+use Rattle.packing.specs.Packing.{total}
+use Rattle.packing.specs.Divisions.{concat, Fits}
 use Rattle.digits.specs.Digits.{digitCount}
 use Rattle.packing.specs.Widths.{over, Plan, whole, split as divided, fails, plan}
 use Rattle.packing.proofs.Packing.{Pairs, nil, cons, Way, way-of, lighter}

@@ -12,7 +12,8 @@ use Rattle.lists.specs.Lists.{bytes, all, same}
 use Rattle.lists.proofs.Tests.{both, same-refl, same-true, all-append}
 use Rattle.digits.specs.Digits.{isDigit, number, spell, digitCount}
 use Rattle.digits.proofs.Numbers.{number-spell, length-spell, digits-spell, digit-is, number-length}
-use Rattle.characters.specs.Text.{isStop, clean, text}
+use Rattle.characters.specs.Text.{isStop, text}
+use Rattle.characters.specs.Scanning.{clean}
 use Rattle.characters.specs.Rows.{lineEnd}
 use Rattle.characters.proofs.RowLaws.{line-is, line-text}
 use Rattle.records.specs.Split.{itemsOf, joined}

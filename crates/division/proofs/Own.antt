@@ -17,7 +17,8 @@ use Rattle.notebook.specs.Same.{CarrySame}
 use Rattle.notebook.specs.Canonical.{headRow, recordRows, writeFile}
 use Rattle.notebook.proofs.Accepted.{head-length, Lines, none as noLines, more, accepted}
 use Rattle.notebook.proofs.WrittenLaws.{lines-written, written-small, written-carries}
-use Rattle.packing.specs.Packing.{total, concat, Fits}
+use Rattle.packing.specs.Packing.{total}
+use Rattle.packing.specs.Divisions.{concat, Fits}
 use Rattle.digits.specs.Digits.{digitCount}
 use Rattle.digits.proofs.Numbers.{to-999}
 use Rattle.packing.specs.Widths.{over, Plan, whole, split as divided, fails, plan}

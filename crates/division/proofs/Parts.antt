@@ -13,7 +13,7 @@ use Rattle.lists.specs.Lists.{same, All}
 use Rattle.lists.proofs.Tests.{both, same-refl, not-true′}
 use Rattle.characters.specs.Text.{text}
 use Rattle.records.specs.Records.{isMark}
-use Rattle.packing.specs.Packing.{concat}
+use Rattle.packing.specs.Divisions.{concat}
 use Rattle.division.specs.Marks.{Mark, readMark}
 use Rattle.division.specs.Pieces.{Piece}
 use Rattle.division.specs.Join.{unmarked, Part, before, lastMark, partOf, with, partsOf, agree, find, behind, gather, whole, joinParts}

@@ -1,3 +1,4 @@
+-- Examples, computed.
 -- Document 01's cases marked ●, in its order, as one list: what is asked, and what the paper says to it. `answer` asks the definitions that
 -- the contracts of the exported calls cite; proofs/Cases.antt shows that it says the same, for all of them at once.
 -- Another kind of case is a constructor of `Asked`, its line in `answer`, and a constructor of `Said` where none of these fits.

@@ -1,3 +1,4 @@
+-- Promises, to be believed.
 -- DEMAND 3, sentence by sentence, as statements about the definitions that the contracts of the exported calls cite: what the calls reply
 -- and what they leave in their outputs. proofs/Promises.antt proves each. A file f is accepted if `readFile f ≡ ok b`; b is the notebook
 -- that it carries.

@@ -1,3 +1,4 @@
+-- Examples, computed.
 -- Worked examples of cutting and joining, written from document 01: records 911, inputs of joining with what is joined or refused, and the
 -- refusals of cutting. proofs/AllExamples.antt computes them. The marked cases are in Cases.antt.
 use Prim.Native.Nat.{ℕ}

@@ -1,3 +1,4 @@
+-- Definitions, to be believed.
 -- The call join. Document 01, "Cutting and joining": "Joining accepts one piece without a record 911, or n pieces, each with exactly one
 -- record 911 of items ID, n, k as its last line, all with equal line 1, ID (14 digits) and n (2–999, value); k takes each value 1 to n
 -- once"; "The joined file is line 1 and the records by k, without 911 and 1Ah; it is then checked as a file". "Joining: 1 and 2 on the input,

@@ -1,3 +1,4 @@
+-- Definitions, to be believed.
 -- The record 911 of a piece: `911,ID,n,k`. Document 01, "Cutting and joining"; 15-106 3.2.9, record 911.
 use Prim.Native.Nat.{ℕ}
 use mathlib.Core.Bool.{Bool, true, false, cond, _&&_}

@@ -1,3 +1,4 @@
+-- Definitions, to be believed.
 -- A list's elements in some order.
 use mathlib.Core.List.{List, [], _∷_}
 

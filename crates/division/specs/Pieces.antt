@@ -1,3 +1,4 @@
+-- Definitions, to be believed.
 -- The input of joining as pieces, row by row (a row is cut behind each 0Ah: characters, specs/Rows.antt). Document 01, "Cutting and
 -- joining": "pieces in any order, an optional 1Ah after each; a 1Ah elsewhere is number 2. A piece runs from a JAHISTC04,1 or JAHISTC04,2
 -- line to the next such line or the end."

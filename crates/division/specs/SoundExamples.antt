@@ -1,3 +1,4 @@
+-- Examples, computed.
 -- A list of pieces that is sound and is not ours, and lists that are not sound, each for one reason: `Sound` (Demand.antt) asks what demand 3
 -- says, no more and no less. proofs/AllExamples.antt shows each by computing.
 use Prim.Native.Nat.{ℕ}

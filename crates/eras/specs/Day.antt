@@ -1,3 +1,4 @@
+-- Definitions, to be believed.
 -- Days: the Gregorian rule, and the range. A day is the number YYYYMMDD, so the order of the numbers is that of the days.
 -- Document 01, kind D: "a real Gregorian day"; 15-106 3.2.9 (dates of the records); the range is 01's own ("here").
 use Prim.Native.Nat.{ℕ, _+_, _/_, _%_}

@@ -1,3 +1,4 @@
+-- Definitions, to be believed.
 -- The eras, and the era form that a day is written in. Document 01, kind D; 15-106 appended table 1. A new era is a new row of `eras`, in front.
 use Prim.Native.Nat.{ℕ, _+_, _-_, _/_, _%_}
 use mathlib.Core.List.{List, [], _∷_}

@@ -1,3 +1,4 @@
+-- Examples, computed.
 -- Years and days of document 01's calendar: leap years, and the first and last day of each era in the era form. proofs/AllExamples.antt computes
 -- them.
 use Prim.Native.Nat.{ℕ}

@@ -7,7 +7,8 @@ use lib.Dec.{eqb}
 use borrow.Author.Tests.{eqb-true}
 use Rattle.lists.specs.Lists.{same, All}
 use Rattle.lists.proofs.Tests.{neither, same-true}
-use Rattle.characters.specs.Text.{isStop, clean, text}
+use Rattle.characters.specs.Text.{isStop, text}
+use Rattle.characters.specs.Scanning.{clean}
 use Rattle.characters.specs.Rows.{consRow, rows, flat, lineEnd, isLine, endMark}
 use Rattle.characters.proofs.RowLaws.{First, first-row, flat-rows, text-clean}
 use Rattle.faults.specs.Faults.{wholeLines}

@@ -1,3 +1,4 @@
+-- A second statement, proved equal.
 -- What is claimed of refusals. Document 01: "Then the first faulty line; within it the lowest number, but 8–11 item by item from the left (F, C, P,
 -- D, A, braces, R, W, Q: only 8 and 11)". Names of proofs/FaultLaws.antt have these types: `first-fault`, `lowest-number`, `item-by-item`,
 -- `only-form`.

@@ -1,3 +1,4 @@
+-- Examples, computed.
 -- Worked examples of the grammar, written from document 01: notebooks that meet the conditions, notebooks that break one, and records that no
 -- notebook has. proofs/AllExamples.antt shows that they come out so, of the wrong records
 -- proofs/Examples.antt of verdict.

@@ -1,3 +1,4 @@
+-- A second statement, proved equal.
 -- Document 01, "Order of records" and the usage name of "Pairs", as a grammar: what a notebook is made of, the records that it is written as,
 -- and the conditions, each with its sentence and the clause of 15-106 that it condenses. There is no reader's state here. Parts come before the
 -- wholes that name them; the conditions are in document 01's order. Two of its sentences need no line: "A 201 with another value than the open

@@ -1,3 +1,4 @@
+-- A second statement, proved equal.
 -- Document 01, "Index", read off the tree: the group of each record, the line of the 55 under which the tree puts its RP, the line of the 201 to
 -- whose drug a 281 or 291 belongs. No record before is looked for.
 use Prim.Native.Nat.{ℕ, _+_}

@@ -1,3 +1,4 @@
+-- Vocabulary of the code.
 -- What a row is to the reader of line 1, as the code answers it.
 use Prim.Native.Nat.{ℕ}
 use mathlib.Core.Bool.{cond, true, false}

@@ -13,7 +13,8 @@ use Rattle.order.specs.State.{start}
 use Rattle.buffers.specs.Buffers.{Room, Wrote}
 use Rattle.replies.specs.declared.Answer.{Answer}
 use Rattle.replies.specs.declared.Answer.the-variants.{Done, Refused}
-use Rattle.replies.specs.Results.{answerIn, Gives}
+use Rattle.replies.specs.Results.{answerIn}
+use Rattle.replies.specs.Contracts.{Gives}
 use Rattle.replies.proofs.Results.{gives-refusal, gives-20, gives-written}
 use Rattle.notebook.specs.Notebook.{Notebook}
 use Rattle.notebook.specs.Check.{checkResult}

@@ -12,9 +12,10 @@ use mir.Syntax.{w64}
 use lib.Dec.{eqb}
 use lib.ListN.{length, take, drop, length-append, length-drop}
 use lib.Seq.{sets, length-take-le}
-use Rattle.lists.specs.Lists.{part}
+use Rattle.lists.specs.Searching.{part}
 use Rattle.scanning.specs.declared.Line.the-variants.{Whole, Mark, End, Broken}
-use Rattle.characters.specs.Rows.{rows, isLine, lineEnd, WholeLine}
+use Rattle.characters.specs.Rows.{rows, isLine, lineEnd}
+use Rattle.characters.specs.Scanning.{WholeLine}
 use Rattle.characters.specs.Scanning.{BrokenRow}
 use Rattle.scanning.specs.Scans.{LineOf}
 use Rattle.characters.proofs.RowLaws.{line-is, line-text}

@@ -1,3 +1,4 @@
+-- Vocabulary of the code.
 -- What the writing of the index asks of a line, and of the file and the buffer.
 use Prim.Native.Nat.{ℕ, _≤_}
 use mathlib.Core.Path.{_≡_}

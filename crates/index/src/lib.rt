@@ -12,7 +12,7 @@ ghost use Rattle.buffers.specs.Buffers.{Room, Wrote};
 ghost use Rattle.buffers.specs.Entries.{six};
 ghost use Rattle.checking.specs.Opening.{Behind};
 ghost use Rattle.notebook.specs.Index.{entriesFrom, numbers, numbersOf, indexResult};
-ghost use Rattle.replies.specs.Results.{Gives};
+ghost use Rattle.replies.specs.Contracts.{Gives};
 ghost use Rattle.index.specs.Filling.{Spanned, Fillable};
 use replies::Answer;
 

@@ -8,7 +8,8 @@ use native.Mathlib.Omega.{arith}
 use borrow.Author.Tests.{leb-true, le-leb, eqb-true, ne-eqb}
 use lib.Dec.{leb, eqb}
 use lib.ListN.{length, getD}
-use Rattle.lists.specs.Lists.{within, all, part}
+use Rattle.lists.specs.Lists.{within, all}
+use Rattle.lists.specs.Searching.{part}
 use Rattle.lists.proofs.Parts.{part-length, part-none, part-more, part-at}
 use Rattle.lists.proofs.Tests.{both, either, or-first, within-in, all-append, zero-unless}
 use Rattle.digits.specs.Digits.{isDigit}

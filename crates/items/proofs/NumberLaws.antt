@@ -7,7 +7,8 @@ use native.Mathlib.Omega.{arith}
 use borrow.Author.Tests.{le-leb}
 use lib.Dec.{leb, eqb}
 use lib.ListN.{length, getD}
-use Rattle.lists.specs.Lists.{all, part}
+use Rattle.lists.specs.Lists.{all}
+use Rattle.lists.specs.Searching.{part}
 use Rattle.lists.proofs.Tests.{all-append, not-false′}
 use Rattle.lists.proofs.Parts.{part-length, part-none, part-more}
 use Rattle.digits.specs.Digits.{isDigit, value, number}

@@ -7,7 +7,7 @@ use native.Mathlib.Omega.{arith}
 use borrow.Author.Tests.{ne-eqb, leb-true}
 use lib.Dec.{leb, eqb}
 use lib.ListN.{length, getD, take, drop}
-use Rattle.lists.specs.Lists.{part}
+use Rattle.lists.specs.Searching.{part}
 use Rattle.lists.proofs.Tests.{both, not-true′}
 use Rattle.lists.proofs.Loops.{AllLeft, all-go}
 use Rattle.digits.specs.Digits.{isDigit}

@@ -1,3 +1,4 @@
+-- Vocabulary of the code.
 -- An item of the table as one number, as the code holds it: need + 4 × kind + 64 × (most bytes, or which set of values).
 use Prim.Native.Nat.{ℕ, zero, suc, _/_, _%_}
 use mathlib.Core.Bool.{Bool, true, false, cond}

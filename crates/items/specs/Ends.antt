@@ -1,10 +1,12 @@
+-- Vocabulary of the code.
 -- Where an item that begins at a position ends, as the code finds it while it reads a line.
 use Prim.Native.Nat.{ℕ, _+_, _≤_, _<_}
 use mathlib.Core.Path.{_≡_}
 use mathlib.Core.Bool.{Bool, true}
 use mathlib.Core.List.{List, [], _∷_}
 use lib.ListN.{length, getD}
-use Rattle.lists.specs.Lists.{all, part}
+use Rattle.lists.specs.Lists.{all}
+use Rattle.lists.specs.Searching.{part}
 use Rattle.scanning.specs.Scans.{RunOf}
 use Rattle.digits.specs.Short.{shortValue}
 use Rattle.records.specs.Items.{isCode, fault}

@@ -11,7 +11,8 @@ use mir.Syntax.{w64}
 use lib.Dec.{eqb}
 use lib.ListN.{length, take, drop, length-take, length-drop, length-append}
 use lib.Seq.{take-nil, take-take, take-add, drop-drop}
-use Rattle.lists.specs.Lists.{same, part}
+use Rattle.lists.specs.Lists.{same}
+use Rattle.lists.specs.Searching.{part}
 use Rattle.lists.proofs.Tests.{both, same-true}
 use Rattle.lists.proofs.Cuts.{take-upTo}
 use Rattle.characters.specs.Text.{isStop, text}

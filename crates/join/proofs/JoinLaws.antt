@@ -11,14 +11,16 @@ use mir.Val.{Fits}
 use mir.Syntax.{w32}
 use lib.Dec.{leb, eqb}
 use lib.ListN.{length, take, drop, replicate, length-replicate, getD-replicate, length-append}
-use Rattle.lists.specs.Lists.{same, part, Res, ok, refused, mapRes}
+use Rattle.lists.specs.Lists.{same, Res, ok, refused, mapRes}
+use Rattle.lists.specs.Searching.{part}
 use Rattle.characters.specs.Rows.{rows}
 use Rattle.notebook.specs.Canonical.{headRow}
 use Rattle.buffers.specs.Buffers.{Wrote}
 use Rattle.buffers.proofs.Runs.{then, front}
 use Rattle.replies.specs.declared.Answer.{Answer}
 use Rattle.replies.specs.declared.Answer.the-variants.{Done, Refused}
-use Rattle.replies.specs.Results.{writes, answerIn, Gives}
+use Rattle.replies.specs.Results.{writes, answerIn}
+use Rattle.replies.specs.Contracts.{Gives}
 use Rattle.replies.proofs.Results.{gives-refusal, front-20, front-written}
 use Rattle.notebook.specs.Notebook.{Notebook, readFile}
 use Rattle.notebook.specs.Check.{checkResult}

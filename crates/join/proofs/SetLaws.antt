@@ -10,7 +10,8 @@ use borrow.Author.Tests.{eq-eqb, ne-eqb, eqb-true, eqb-false}
 use lib.Dec.{eqb}
 use lib.ListN.{length, getD, set, take, drop, length-set, length-append}
 use lib.Seq.{sets, getD-set-same, getD-set-other}
-use Rattle.lists.specs.Lists.{same, part}
+use Rattle.lists.specs.Lists.{same}
+use Rattle.lists.specs.Searching.{part}
 use Rattle.lists.proofs.Tests.{same-refl}
 use Rattle.characters.specs.Rows.{rows, flat}
 use Rattle.buffers.specs.Buffers.{Room, Wrote}

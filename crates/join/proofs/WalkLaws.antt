@@ -9,7 +9,7 @@ use mir.Val.{Fits}
 use mir.Syntax.{w32}
 use lib.ListN.{length, take, drop}
 use Rattle.lists.proofs.Cuts.{drop-end}
-use Rattle.lists.specs.Lists.{part}
+use Rattle.lists.specs.Searching.{part}
 use Rattle.characters.specs.Rows.{consRow, rows, flat, endMark}
 use Rattle.characters.proofs.RowLaws.{flat-rows, first-row}
 use Rattle.pieces.specs.declared.Row.{Row}

@@ -1,3 +1,4 @@
+-- Vocabulary of the code.
 -- Pieces by positions in the input, as the code of joining carries them: a body is the bytes from a position to a position, and the spans
 -- of the parts lie in two tables by place. The laws in proofs/ show that they stand for the lists of rows of Join.antt; the call's own
 -- contract names Join.antt alone.
@@ -8,7 +9,8 @@ use mathlib.Core.Option.{Option, none, some}
 use mathlib.Core.List.{List, [], _∷_, _++_}
 use lib.Dec.{eqb}
 use lib.ListN.{length, take, drop, getD, set}
-use Rattle.lists.specs.Lists.{part, Res, ok, refused}
+use Rattle.lists.specs.Lists.{Res, ok, refused}
+use Rattle.lists.specs.Searching.{part}
 use Rattle.characters.specs.Text.{text}
 use Rattle.characters.specs.Rows.{rows, flat, isLine}
 use Rattle.buffers.specs.Buffers.{Wrote}

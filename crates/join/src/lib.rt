@@ -6,13 +6,14 @@ ghost use mathlib.Core.Path.{_≡_};
 ghost use mathlib.Core.List.{_++_};
 ghost use Prim.Native.Nat.{_≤_, _<_};
 ghost use lib.ListN.{length, drop};
-ghost use Rattle.lists.specs.Lists.{part, ok};
+ghost use Rattle.lists.specs.Lists.{ok};
+ghost use Rattle.lists.specs.Searching.{part};
 ghost use Rattle.characters.specs.Rows.{rows};
 ghost use Rattle.notebook.specs.Canonical.{headRow};
 ghost use Rattle.buffers.specs.Buffers.{Wrote};
 ghost use Rattle.division.specs.Pieces.{brokenLine, startsWell, piecesIn};
 ghost use Rattle.division.specs.Join.{partsOf, joinParts, joinPieces, orSet, joinedFile, joinResult};
-ghost use Rattle.replies.specs.Results.{Gives};
+ghost use Rattle.replies.specs.Contracts.{Gives};
 ghost use Rattle.join.specs.Spans.{NextIs, FirstIs, goesOn, LineAt, LastIs, LinesAre, Within, MemberIs, Sizes, Blank, Stored, CollectIs, taken, spans, FillIs, FillRoom, MadeIs, SoundIs, Given, GivenSet, First, Input};
 use replies::Answer;
 

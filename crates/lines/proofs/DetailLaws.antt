@@ -8,7 +8,8 @@ use native.Mathlib.Omega.{arith}
 use borrow.Author.Tests.{eq-eqb, ne-eqb, eqb-true, eqb-false}
 use lib.Dec.{leb, eqb}
 use lib.ListN.{length, getD, take, drop, length-take, length-drop}
-use Rattle.lists.specs.Lists.{empty, member, part}
+use Rattle.lists.specs.Lists.{empty, member}
+use Rattle.lists.specs.Searching.{part}
 use Rattle.lists.proofs.Tests.{orMember, member-left, empty-is}
 use Rattle.digits.specs.Digits.{number}
 use Rattle.digits.specs.Short.{orThousand, shortValue}

@@ -6,7 +6,8 @@ use mathlib.Core.Bool.{Bool, true, false, not}
 use mathlib.Core.Logic.{inl, inr}
 use mathlib.Core.List.{List}
 use lib.ListN.{length, take, drop}
-use Rattle.lists.specs.Lists.{part, unless}
+use Rattle.lists.specs.Lists.{unless}
+use Rattle.lists.specs.Searching.{part}
 use Rattle.lists.proofs.Tests.{not-true′, not-false′}
 use Rattle.characters.specs.Text.{allChars}
 use Rattle.scanning.specs.declared.Line.{Line}

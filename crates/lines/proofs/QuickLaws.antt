@@ -9,7 +9,7 @@ use borrow.Author.Tests.{le-leb, ne-eqb, eqb-true}
 use lib.Dec.{eqb}
 use lib.ListN.{length, take, drop, getD, set, length-set, length-append, length-map, length-take, length-drop, List·getD-append}
 use lib.Seq.{take-add, getD-drop, drop-append-le}
-use Rattle.lists.specs.Lists.{part}
+use Rattle.lists.specs.Searching.{part}
 use Rattle.lists.proofs.Tests.{or-zero, both-zero}
 use Rattle.lists.proofs.Cuts.{drop-step}
 use Rattle.lists.proofs.Parts.{part-join, part-at}

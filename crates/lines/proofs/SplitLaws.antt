@@ -10,7 +10,8 @@ use borrow.Author.Tests.{le-leb, lt-leb, leb-true, leb-false}
 use lib.Dec.{leb, eqb, leb·zero}
 use lib.ListN.{length, take, drop, getD, length-map}
 use lib.Seq.{drop-drop}
-use Rattle.lists.specs.Lists.{part, upTo}
+use Rattle.lists.specs.Lists.{upTo}
+use Rattle.lists.specs.Searching.{part}
 use Rattle.lists.specs.Searching.{findFrom}
 use Rattle.lists.proofs.Cuts.{drop-step, drop-end, take-upTo}
 use Rattle.lists.proofs.Loops.{find-low, find-high}

@@ -1,3 +1,4 @@
+-- Vocabulary of the code.
 -- A line by its items at positions, and its pairs and facts by the bytes of the items: what the functions of src/lib.rt take and answer.
 use Prim.Native.Nat.{ℕ, _≤_}
 use mathlib.Core.Path.{_≡_}
@@ -5,7 +6,8 @@ use mathlib.Core.Bool.{Bool, true, false, cond, not, _&&_}
 use mathlib.Core.List.{List, [], _∷_}
 use lib.Dec.{eqb}
 use lib.ListN.{length, getD}
-use Rattle.lists.specs.Lists.{empty, member, part}
+use Rattle.lists.specs.Lists.{empty, member}
+use Rattle.lists.specs.Searching.{part}
 use Rattle.digits.specs.Digits.{number}
 use Rattle.characters.specs.Scanning.{commaCount}
 use Rattle.scanning.specs.Scans.{Stops, Sixteen}

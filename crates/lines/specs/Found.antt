@@ -1,3 +1,4 @@
+-- Vocabulary of the code.
 -- What the code knows of a line: its record's number where its items have no fault, and what stands at a position where a row begins.
 use Prim.Native.Nat.{ℕ, _+_, _%_, _<_}
 use mathlib.Core.Path.{_≡_}
@@ -5,7 +6,8 @@ use mathlib.Core.Bool.{Bool, true}
 use mathlib.Core.Logic.{_⊎_}
 use mathlib.Core.List.{List, []}
 use lib.ListN.{length, getD, drop}
-use Rattle.lists.specs.Lists.{part, _orElse_, unless}
+use Rattle.lists.specs.Lists.{_orElse_, unless}
+use Rattle.lists.specs.Searching.{part}
 use Rattle.digits.specs.Short.{plainNumber}
 use Rattle.scanning.specs.declared.Line.the-variants.{Whole, Mark, End, Broken}
 use Rattle.characters.specs.Scanning.{commaCount}

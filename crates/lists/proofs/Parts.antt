@@ -5,7 +5,7 @@ use mathlib.Core.Path.{_≡_, sym, ap, _∙_}
 use mathlib.Core.List.{List, [], _∷_, _++_}
 use lib.ListN.{length, take, drop, getD, length-take, length-drop}
 use lib.Seq.{take-nil, take-take, take-add, take-suc, drop-drop, getD-take, getD-drop}
-use Rattle.lists.specs.Lists.{part}
+use Rattle.lists.specs.Searching.{part}
 
 pub part-length : (s : List ℕ) (a e : ℕ) → a ≤ e → e ≤ length s → length (part s a e) ≡ e - a
 part-length s a e h g = simp (length-take, length-drop) (omega arith)

@@ -1,12 +1,13 @@
+-- Definitions, to be believed.
 -- Lists of bytes: texts as bytes, tests of all bytes, equality as a test, parts; and an answer that is a value or a refusal.
 -- Nothing here is about notebooks; everything above is written with it.
 use Prim.Native.Nat.{ℕ, zero, suc, _-_}
 use Prim.Native.Char.{code}
 use Prim.Native.String.{String}
 use mathlib.Core.Bool.{Bool, true, false, cond, _&&_, _||_}
-use mathlib.Core.List.{List, [], _∷_, _++_}
+use mathlib.Core.List.{List, [], _∷_}
 use lib.Dec.{leb, eqb}
-use lib.ListN.{length, getD, take, drop}
+use lib.ListN.{length, getD}
 
 -- the bytes of a text in ASCII
 unfoldable pub bytes : String → List ℕ
@@ -50,10 +51,6 @@ All P (x ∷ xs) = P x × All P xs
 -- the last byte, 0 where there is none
 abbrev pub last : List ℕ → ℕ
 last s = getD s (length s - 1) 0
-
--- the bytes from a to before e
-abbrev pub part : List ℕ → ℕ → ℕ → List ℕ
-part s a e = take (e - a) (drop a s)
 
 -- the bytes before the first that the test picks out
 abbrev pub upTo : (ℕ → Bool) → List ℕ → List ℕ

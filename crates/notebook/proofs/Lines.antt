@@ -6,12 +6,15 @@ use mathlib.Core.Bool.{Bool, true}
 use mathlib.Core.List.{List, [], _∷_, _++_, append-assoc, tail-eq-of-cons-eq}
 use lib.ListN.{length, getD, take, drop, length-append, length-drop}
 use lib.Seq.{getD-drop, take-append-seam, getD-append-seam, getD-append-add}
-use Rattle.lists.specs.Lists.{part, unless}
+use Rattle.lists.specs.Lists.{unless}
+use Rattle.lists.specs.Searching.{part}
 use Rattle.lists.proofs.Tests.{same-true, or-zero, unless-zero}
 use Rattle.characters.specs.Text.{allChars, text}
-use Rattle.characters.specs.Rows.{rows, flat, isLine, lineEnd, WholeLine}
+use Rattle.characters.specs.Rows.{rows, flat, isLine, lineEnd}
+use Rattle.characters.specs.Scanning.{WholeLine}
 use Rattle.characters.proofs.RowLaws.{flat-rows, text-clean, text-of, whole-at}
-use Rattle.records.specs.Records.{Record, recordOf, faultFrom, lineFault, readLine}
+use Rattle.records.specs.Records.{Record, recordOf, faultFrom, lineFault}
+use Rattle.records.specs.Reading.{readLine}
 use Rattle.records.specs.Split.{itemsOf}
 use Rattle.records.proofs.LineLaws.{reads}
 use Rattle.order.specs.declared.State.{State}

@@ -9,10 +9,12 @@ use mathlib.Core.List.{List, [], _∷_, _++_}
 use lib.ListN.{length, take, drop, length-append}
 use lib.Seq.{take-at, drop-at}
 use Rattle.lists.specs.Lists.{All, ok}
-use Rattle.characters.specs.Text.{clean, text}
+use Rattle.characters.specs.Text.{text}
+use Rattle.characters.specs.Scanning.{clean}
 use Rattle.characters.specs.Rows.{rows, flat, lineEnd}
 use Rattle.characters.proofs.RowLaws.{flat-rows, line-is, line-text}
-use Rattle.records.specs.Records.{Record, ok as read, readLine, recordOf, lineFault, write}
+use Rattle.records.specs.Records.{Record, recordOf, lineFault, write}
+use Rattle.records.specs.Reading.{ok as read, readLine}
 use Rattle.records.proofs.LineLaws.{reads, read-is}
 use Rattle.records.proofs.TheLanguage.{round, short, clear}
 use Rattle.notebook.specs.Notebook.{Notebook, readFile}

@@ -1,3 +1,4 @@
+-- Definitions, to be believed.
 -- The call canonical. Document 01, "Same notebook, canonical file": "D in the era form, P without hyphen, R without leading zeros, no 1Ah,
 -- all else kept"; "Index and canonical: 1–16, then 20".
 use Prim.Native.Nat.{ℕ}

@@ -1,3 +1,4 @@
+-- Definitions, to be believed.
 -- The call check: the counts of an accepted file, or its refusal, 1 to 16. Document 01, "Index": "Check returns the counts of records,
 -- groups and 201s".
 use Prim.Native.Nat.{ℕ, _+_}

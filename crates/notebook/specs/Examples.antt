@@ -1,3 +1,4 @@
+-- Examples, computed.
 -- A small notebook in direction 2 with what specs/Groups.antt says of it: a 1 and a 4, a group with an 11, a group without one, and 701s.
 -- Written from document 01; proofs/AllExamples.antt computes it by the definitions.
 use Prim.Native.Nat.{ℕ}

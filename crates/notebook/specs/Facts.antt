@@ -1,3 +1,4 @@
+-- Definitions, to be believed.
 -- What the order of records looks at in a record. Document 01, "Order of records" and "Pairs" name these and no
 -- others, so a respelled file takes the same steps.
 use Prim.Native.Nat.{ℕ}

@@ -1,3 +1,4 @@
+-- Definitions, to be believed.
 -- The call index. Document 01, "Index": "Six u32 per record after line 1"; "Index and canonical: 1–16, then 20".
 use Prim.Native.Nat.{ℕ, _+_}
 use mathlib.Core.Bool.{Bool, cond, true}

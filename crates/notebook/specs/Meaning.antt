@@ -1,3 +1,4 @@
+-- A second statement, proved equal.
 -- What the laws of the index (proofs/IndexLaws.antt) say of its entries, without the reader's state: how many have a number, which line
 -- an entry cuts out of the file, and the last entry of a number and group among those before another.
 use Prim.Native.Nat.{ℕ, _+_}
@@ -5,9 +6,10 @@ use mathlib.Core.Path.{_≡_}
 use mathlib.Core.Bool.{Bool, true, cond, _&&_}
 use mathlib.Core.List.{List, [], _∷_}
 use lib.Dec.{eqb}
-use Rattle.lists.specs.Lists.{part}
-use Rattle.characters.specs.Rows.{WholeLine}
-use Rattle.records.specs.Records.{Record, Read, readLine}
+use Rattle.lists.specs.Searching.{part}
+use Rattle.characters.specs.Scanning.{WholeLine}
+use Rattle.records.specs.Records.{Record}
+use Rattle.records.specs.Reading.{Read, readLine}
 use Rattle.notebook.specs.Index.{Entry}
 
 -- how many entries have the number

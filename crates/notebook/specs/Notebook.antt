@@ -1,3 +1,4 @@
+-- Definitions, to be believed.
 -- A file read to a notebook, or its one refusal. Document 01, "Lines and characters", "Same notebook", and what it says of refusals:
 -- "Number 1 comes first, with line 0. Then the first faulty line; within it the lowest number". 15-106 3.2.1, 3.2.7, 3.2.8.
 use Prim.Native.Nat.{ℕ, _+_}

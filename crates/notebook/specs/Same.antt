@@ -1,3 +1,4 @@
+-- Definitions, to be believed.
 -- When two files carry the same notebook. Document 01, "Same notebook, canonical file".
 use Prim.Native.Nat.{ℕ}
 use mathlib.Core.Path.{_≡_}

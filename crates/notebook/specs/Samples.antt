@@ -1,3 +1,4 @@
+-- Examples, computed.
 -- Document 01's small file, which its cases and those of other crates start from.
 use Prim.Native.Nat.{ℕ}
 use mathlib.Core.List.{List, _++_}

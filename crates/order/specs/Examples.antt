@@ -1,3 +1,4 @@
+-- Examples, computed.
 -- Worked examples of the order of records: small files as lists of records, each with the refusal and line that document 01 gives; and the
 -- doctor of each record. Written from the paper; proofs/Examples.antt computes them by the definitions.
 use Prim.Native.Nat.{ℕ}

@@ -1,3 +1,4 @@
+-- Definitions, to be believed.
 -- The answers to what the rules of order ask (rules, specs/Questions.antt), from the state and the record. All comparing of values is here.
 use Prim.Native.Nat.{ℕ, _+_}
 use mathlib.Core.List.{[], _∷_}

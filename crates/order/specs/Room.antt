@@ -1,4 +1,5 @@
--- Vocabulary of the code: what a step asks, so that its counts fit.
+-- Vocabulary of the code.
+-- What a step asks, so that its counts fit.
 use Prim.Native.Nat.{_≤_, _<_}
 use Rattle.order.specs.declared.State.{State}
 

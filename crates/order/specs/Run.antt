@@ -1,3 +1,4 @@
+-- A second statement, proved equal.
 -- The records of a whole file in turn: "the first faulty line; within it the lowest number", or the last state.
 use Prim.Native.Nat.{ℕ, _+_}
 use mathlib.Core.List.{List, [], _∷_}

@@ -1,3 +1,4 @@
+-- Definitions, to be believed.
 -- The pattern state of document 01, "Each record moves the reader from one place of this pattern to the next": the state before the first
 -- record, the state after one more, and a step.
 --

@@ -11,7 +11,8 @@ use native.Mathlib.Nat.{le-refl}
 use borrow.Author.Tests.{leb-true, leb-false, le-leb, lt-leb, ltb-true, ltb-false}
 use lib.Dec.{leb, ltb}
 use lib.ListN.{length}
-use Rattle.packing.specs.Packing.{total, concat, put, pack, Fits}
+use Rattle.packing.specs.Packing.{total, put, pack}
+use Rattle.packing.specs.Divisions.{concat, Fits}
 
 -- a way through the things, from piece j with v taken to piece n: the form of a division that an induction can follow
 pub data Way {A : Type 0} (len : A → ℕ) (o : ℕ → ℕ) (c : ℕ) : ℕ → ℕ → List A → ℕ → Type 0 where

@@ -14,7 +14,8 @@ use lib.ListN.{length}
 use Rattle.lists.proofs.Tests.{both}
 use Rattle.digits.specs.Digits.{spell, digitCount}
 use Rattle.digits.proofs.Numbers.{length-spell, count-4, count-most, count-up, some-digit, to-999}
-use Rattle.packing.specs.Packing.{total, concat, pack, Fits}
+use Rattle.packing.specs.Packing.{total, pack}
+use Rattle.packing.specs.Divisions.{concat, Fits}
 use Rattle.packing.specs.Widths.{over, Plan, whole, split, fails, serves, tries, plan}
 use Rattle.packing.proofs.Packing.{Way, Found, lighter, ahead, pack-good, Taken, Good, way-of, pairs-same, pack-none}
 

@@ -1,21 +1,16 @@
+-- Definitions, to be believed.
 -- Packing things of a length into numbered pieces of a capacity. Document 01, "Cutting and joining": "Records are packed as many as fit,
 -- in order." Nothing here is about bytes or records: `len` is a thing's length, `o k` is what piece k holds besides its things.
-use Prim.Native.Nat.{ℕ, zero, suc, _+_, _≤_}
-use mathlib.Core.Path.{_≡_}
-use mathlib.Core.Bool.{Bool, true, false, cond}
+use Prim.Native.Nat.{ℕ, suc, _+_}
+use mathlib.Core.Bool.{cond}
 use mathlib.Core.Option.{Option, none, some, Option·map}
-use mathlib.Core.List.{List, [], _∷_, _++_}
+use mathlib.Core.List.{List, [], _∷_}
 use lib.Dec.{leb}
 
 -- the length of all
 unfoldable pub total : {A : Type 0} → (A → ℕ) → List A → ℕ
 total len [] = 0
 total len (r ∷ rs) = len r + total len rs
-
--- all that the runs hold, in order
-unfoldable pub concat : {A : Type 0} → List (List A) → List A
-concat [] = []
-concat (x ∷ xs) = x ++ concat xs
 
 -- a thing more at the front of the first run
 unfoldable pub put : {A : Type 0} → A → List (List A) → List (List A)
@@ -29,10 +24,3 @@ pack len o c k u [] = some ([] ∷ [])
 pack len o c k u (r ∷ rs) =
     cond (leb (u + len r) c) (Option·map (put r) (pack len o c k (u + len r) rs))
     (cond (leb (o (suc k) + len r) c) (Option·map (λ xs. [] ∷ put r xs) (pack len o c (suc k) (o (suc k) + len r) rs)) none)
-
--- ---- any division into runs, for the law that none has fewer
-
--- the runs fit, as pieces k, k + 1, ..
-unfoldable pub Fits : {A : Type 0} → (A → ℕ) → (ℕ → ℕ) → ℕ → ℕ → List (List A) → Type 0
-Fits len o c k [] = Unit {0}
-Fits len o c k (x ∷ xs) = (o k + total len x ≤ c) × Fits len o c (suc k) xs

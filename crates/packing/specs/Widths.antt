@@ -1,3 +1,4 @@
+-- Definitions, to be believed.
 -- The plan of a cutting: one piece where all fits, else the first width of the count that serves. Document 01, "Cutting and joining":
 -- "Numbers n of one, two, three digits are tried in turn until one width serves: every record finds a piece and the count of pieces has
 -- that many digits."

@@ -9,7 +9,8 @@ use borrow.Author.Tests.{eq-eqb, ne-eqb, eqb-true, lt-leb, not-true, not-false}
 use lib.Dec.{eqb}
 use lib.ListN.{length, take, drop, getD}
 use lib.Seq.{take-nil}
-use Rattle.lists.specs.Lists.{all, same, part}
+use Rattle.lists.specs.Lists.{all, same}
+use Rattle.lists.specs.Searching.{part}
 use Rattle.lists.specs.Searching.{findFrom}
 use Rattle.lists.proofs.Tests.{both, same-true}
 use Rattle.lists.proofs.Parts.{part-length}

@@ -8,13 +8,15 @@ use borrow.Author.Tests.{ne-eqb, eqb-true, eqb-false, leb-true, leb-false, not-f
 use lib.Dec.{leb, eqb}
 use lib.ListN.{length, take, drop, getD, length-take, length-drop, length-append}
 use lib.Seq.{take-at, getD-take, getD-drop}
-use Rattle.lists.specs.Lists.{same, part, upTo, is}
+use Rattle.lists.specs.Lists.{same, upTo, is}
+use Rattle.lists.specs.Searching.{part}
 use Rattle.lists.specs.Searching.{findFrom}
 use Rattle.lists.proofs.Tests.{same-true}
 use Rattle.lists.proofs.Cuts.{upTo-hit, upTo-go, upTo-out, upTo-le}
 use Rattle.lists.proofs.Loops.{same-length}
 use Rattle.characters.specs.Text.{isStop, text, allChars}
-use Rattle.characters.specs.Rows.{rows, flat, lineEnd, isLine, WholeLine}
+use Rattle.characters.specs.Rows.{rows, flat, lineEnd, isLine}
+use Rattle.characters.specs.Scanning.{WholeLine}
 use Rattle.characters.proofs.RowLaws.{flat-rows, line-is, whole-at}
 use Rattle.notebook.specs.Canonical.{headRow}
 use Rattle.notebook.proofs.Accepted.{head-length}

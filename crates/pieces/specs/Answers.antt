@@ -1,3 +1,4 @@
+-- Vocabulary of the code.
 -- What the code of this crate answers, in the words of Marks.antt and Pieces.antt: the row at a position, a row's kind, a record 911.
 use Prim.Native.Nat.{ℕ, _+_, _≤_, _<_}
 use mathlib.Core.Path.{_≡_}
@@ -5,7 +6,8 @@ use mathlib.Core.Bool.{Bool, true, cond, _&&_}
 use mathlib.Core.Option.{Option, none, some}
 use mathlib.Core.List.{List, _∷_}
 use lib.ListN.{length, drop, getD}
-use Rattle.lists.specs.Lists.{same, part}
+use Rattle.lists.specs.Lists.{same}
+use Rattle.lists.specs.Searching.{part}
 use Rattle.characters.specs.Rows.{rows}
 use Rattle.records.specs.Positions.{itemsFrom}
 use Rattle.records.specs.Records.{t911}

@@ -21,9 +21,11 @@ use Rattle.calendar.proofs.Laws.{Plain}
 use Rattle.records.specs.Table.{table}
 use Rattle.records.specs.Split.{itemsOf, joined}
 use Rattle.records.specs.Items.{edge, oneWidth, prefecture, decimal, sized, fault, value}
-use Rattle.records.specs.Records.{Record, Read, itemFault, itemValue, itemsFault, itemsValue, rowIn, rowOf, codePair, formPair, pairs, t911, recordFrom}
+use Rattle.records.specs.Records.{Record, itemFault, itemValue, itemsFault, itemsValue, rowIn, rowOf, codePair, formPair, pairs, t911, recordFrom}
+use Rattle.records.specs.Reading.{Read}
 use Rattle.records.specs.Records.{faultFrom}
-use Rattle.records.specs.Records.{lineFault, recordOf, readLine}
+use Rattle.records.specs.Records.{lineFault, recordOf}
+use Rattle.records.specs.Reading.{readLine}
 use Rattle.order.specs.declared.Facts.{Facts}
 use Rattle.notebook.specs.Facts.{factsOf}
 use Rattle.lists.proofs.Tests.{both}

@@ -1,3 +1,4 @@
+-- A second statement, proved equal.
 -- The lines before a refused one: something can follow them so that the file is accepted, exactly unless a record that direction 1 asks for can
 -- no longer come. Document 01 gives such a fault at the line that closes the part ("a record required in the part that this line or the end
 -- closes"), which may stand lines behind the place where it became too late. Names of proofs/PrefixLaws.antt have the types: `goes-on` over

@@ -12,7 +12,8 @@ use lib.ListN.{length, length-append}
 use Rattle.lists.specs.Lists.{same}
 use Rattle.lists.proofs.Tests.{below, below-at, same-true}
 use Rattle.digits.specs.Digits.{spell}
-use Rattle.printing.specs.Printed.{digitsOf, decimal, Decimal-digits}
+use Rattle.printing.specs.Printed.{digitsOf, decimal}
+use Rattle.printing.specs.Digits.{Decimal-digits}
 
 none-of-zero : (k : ℕ) → digitsOf k 0 ≡ []
 unfolding digitsOf

@@ -1,3 +1,4 @@
+-- Examples, computed.
 -- Replies and the lines that document 01 gives for them, and numbers in decimal. proofs/AllExamples.antt computes them.
 use Prim.Native.Nat.{ℕ}
 use mathlib.Core.List.{List, [], _∷_, _++_, map}

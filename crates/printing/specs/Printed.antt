@@ -1,10 +1,11 @@
+-- Definitions, to be believed.
 -- The line that a program prints of a reply. Document 01, Cases: "prints `ok 1 0 0` (records, groups, drugs) and 0Ah; a refusal prints `no`,
 -- number, line, with single spaces, and 0Ah." The names here: decimal, numbers, line, printed; Decimal-digits says what decimal is.
 use Prim.Native.Nat.{ℕ, zero, suc, _+_, _/_, _%_}
 use mathlib.Core.Path.{_≡_}
 use mathlib.Core.Bool.{cond}
 use mathlib.Core.List.{List, [], _∷_, _++_}
-use lib.Dec.{leb, eqb}
+use lib.Dec.{eqb}
 use lib.ListN.{length, take, drop}
 use Rattle.lists.specs.Lists.{bytes}
 use Rattle.replies.specs.declared.Reply.{Reply}
@@ -19,10 +20,6 @@ digitsOf (suc k) (suc n) = digitsOf k (suc n / 10) ++ ((48 + suc n % 10) ∷ [])
 unfoldable pub decimal : ℕ → List ℕ
 decimal zero = 48 ∷ []
 decimal (suc n) = digitsOf (suc n) (suc n)
-
--- the same without k: one digit; or n / 10 in decimal, then the last digit
-abbrev pub Decimal-digits : Type 0
-Decimal-digits = (n : ℕ) → decimal n ≡ cond (leb n 9) ((48 + n) ∷ []) (decimal (n / 10) ++ ((48 + n % 10) ∷ []))
 
 -- "with single spaces": one before each number
 unfoldable pub numbers : List ℕ → List ℕ

@@ -13,12 +13,14 @@ use lib.ListN.{length}
 use Rattle.lists.specs.Lists.{All, same, _orElse_, unless}
 use Rattle.lists.proofs.Tests.{all-both, same-true, or-zero, both-zero, unless-zero, zero-unless, cond-case, or-first, or-second, not-true′}
 use Rattle.digits.specs.Digits.{spell}
-use Rattle.characters.specs.Text.{allChars, clean}
+use Rattle.characters.specs.Text.{allChars}
+use Rattle.characters.specs.Scanning.{clean}
 use Rattle.characters.proofs.CharLaws.{chars-clean}
 use Rattle.records.specs.Split.{itemsOf, joined}
 use Rattle.records.specs.Table.{Item, Row, table}
 use Rattle.records.specs.Items.{Value, writeValue}
-use Rattle.records.specs.Records.{Record, Read, ok, faulty, noRow, rowIn, rowOf, pairs, itemsFault, itemsValue, recordFrom, faultFrom, lineFault, recordOf, readLine, t911, write}
+use Rattle.records.specs.Records.{Record, noRow, rowIn, rowOf, pairs, itemsFault, itemsValue, recordFrom, faultFrom, lineFault, recordOf, t911, write}
+use Rattle.records.specs.Reading.{Read, ok, faulty, readLine}
 use Rattle.records.proofs.Splits.{NoComma, AllChars, Split, split, weight, items-joined, joined-length, chars-parts, chars-joined}
 use Rattle.records.proofs.ItemLaws.{Fine, written, Written, items-written}
 

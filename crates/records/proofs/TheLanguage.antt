@@ -8,10 +8,11 @@ use lib.ListN.{length}
 use Rattle.lists.specs.Lists.{bytes, same}
 use Rattle.lists.proofs.Tests.{same-true}
 use Rattle.digits.specs.Digits.{spell}
-use Rattle.characters.specs.Text.{clean}
+use Rattle.characters.specs.Scanning.{clean}
 use Rattle.records.specs.Split.{itemsOf}
 use Rattle.records.specs.Table.{table}
-use Rattle.records.specs.Records.{Record, Read, ok, readLine, write, lineFault, faultFrom, rowOf, rowIn, t911, firstOf, isMark, header}
+use Rattle.records.specs.Records.{Record, write, lineFault, faultFrom, rowOf, rowIn, t911, firstOf, isMark, header}
+use Rattle.records.specs.Reading.{Read, ok, readLine}
 use Rattle.records.specs.Language.{Language}
 use Rattle.records.proofs.LineLaws.{Good, line-read, read-is, reads}
 

@@ -1,3 +1,4 @@
+-- Examples, computed.
 -- Items, record lines and lines 1, each with its fault as document 01 gives it ("Lines and characters", "Items", "Records", "Pairs", refusal 10,
 -- "Mistakes to exclude"). Written from the paper; proofs/Cases.antt computes them by the definitions. Days and doses are in division, specs/Cases.antt.
 use Prim.Native.Nat.{ℕ}

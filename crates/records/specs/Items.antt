@@ -1,3 +1,4 @@
+-- Definitions, to be believed.
 -- What an item of each kind may be, and what it is read to. Document 01, "Items"; refusals 8 to 11; 15-106 3.2.2, 3.2.5, 3.2.9.
 -- A fault is a number of document 01's table, 0 for none; a value is told of every item and means something where the fault is 0.
 use Prim.Native.Nat.{ℕ, zero, _-_}

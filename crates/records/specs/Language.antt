@@ -1,3 +1,4 @@
+-- Vocabulary of the proofs.
 -- What the cutting and joining of files needs to know of records, and nothing more: records are read and written, and four laws.
 -- proofs/TheLanguage.antt shows them of the records of this crate.
 use Prim.Native.Nat.{ℕ, _≤_}
@@ -6,8 +7,9 @@ use mathlib.Core.Bool.{Bool, false, true}
 use mathlib.Core.List.{List}
 use lib.ListN.{length}
 use Rattle.lists.specs.Lists.{same}
-use Rattle.characters.specs.Text.{clean}
-use Rattle.records.specs.Records.{Read, ok, isMark, header}
+use Rattle.characters.specs.Scanning.{clean}
+use Rattle.records.specs.Records.{isMark, header}
+use Rattle.records.specs.Reading.{Read, ok}
 
 pub record Language : Type 1 where
   pub Rec : Type 0

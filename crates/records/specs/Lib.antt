@@ -6,3 +6,4 @@ pub mod Records
 pub mod Language
 pub mod Paper
 pub mod Cases
+pub mod Reading

@@ -1,3 +1,4 @@
+-- A second statement, proved equal.
 -- The table printed as document 01 prints it, and compared with the paper's own text: nobody compares by eye.
 use Prim.Native.Nat.{ℕ}
 use Prim.Native.String.{String}

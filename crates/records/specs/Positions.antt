@@ -1,4 +1,5 @@
--- Vocabulary of the code: the items of a line by positions.
+-- Vocabulary of the code.
+-- The items of a line by positions.
 use Prim.Native.Nat.{ℕ}
 use mathlib.Core.Bool.{cond}
 use mathlib.Core.List.{List, []}

@@ -1,22 +1,18 @@
+-- Definitions, to be believed.
 -- One record line: its fault (refusals 4 to 12 in the priority of document 01's table), the record that it is read to, and how a
 -- record is written. Document 01, "Items", "Records", "Pairs", "Same notebook, canonical file"; 15-106 3.2.9.
 -- provider: the direction is 1, provider to patient.
-use Prim.Native.Nat.{ℕ, zero, suc, _-_}
+use Prim.Native.Nat.{ℕ, _-_}
 use mathlib.Core.Bool.{Bool, true, false, cond, not, _&&_, _||_, Bool·beq}
-use mathlib.Core.List.{List, [], _∷_, _++_, map}
+use mathlib.Core.List.{List, [], _∷_, map}
 use lib.Dec.{leb, eqb}
 use lib.ListN.{length, getD}
 use Rattle.lists.specs.Lists.{bytes, empty, same, _orElse_, unless}
 use Rattle.digits.specs.Digits.{spell}
 use Rattle.characters.specs.Text.{allChars}
 use Rattle.records.specs.Split.{itemsOf, joined}
-use Rattle.records.specs.Table.{Kind, Item, Row, row, table, required}
+use Rattle.records.specs.Table.{Item, Row, row, table, required}
 use Rattle.records.specs.Items.{Value, text, num, day, writeValue, oneOf, fault, value}
-
--- what a line is read to, or its fault
-pub data Read (A : Type 0) : Type 0 where
-  ok : A → Read A
-  faulty : ℕ → Read A
 
 pub record Record : Type 0 where
   pub number : ℕ
@@ -155,9 +151,6 @@ lineFault provider l = unless (allChars l) 4 orElse faultFrom provider (itemsOf 
 
 unfoldable pub recordOf : List ℕ → Record
 recordOf l = recordFrom (itemsOf l)
-
-unfoldable pub readLine : Bool → List ℕ → Read Record
-readLine provider l = cond (eqb (lineFault provider l) 0) (ok (recordOf l)) (faulty (lineFault provider l))
 
 -- ---- writing
 

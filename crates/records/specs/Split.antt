@@ -1,3 +1,4 @@
+-- Definitions, to be believed.
 -- A line cut into items at each 2Ch, and items joined again. Document 01, "Lines and characters": "a number, then items, separated by
 -- 2Ch"; 15-106 3.2.1, 3.2.4.
 use Prim.Native.Nat.{ℕ}

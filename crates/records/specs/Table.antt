@@ -1,3 +1,4 @@
+-- Definitions, to be believed.
 -- Document 01, "Items", "Records": the table as data, a row a record. Paper.antt prints it and compares it with the paper's own text.
 -- 15-106 3.2.9.
 use Prim.Native.Nat.{ℕ}

@@ -8,7 +8,8 @@ use lib.Dec.{eqb}
 use lib.ListN.{length}
 use Rattle.lists.specs.Lists.{All}
 use Rattle.lists.proofs.Tests.{neither}
-use Rattle.characters.specs.Text.{isStop, clean, text}
+use Rattle.characters.specs.Text.{isStop, text}
+use Rattle.characters.specs.Scanning.{clean}
 use Rattle.characters.specs.Rows.{flat, lineEnd}
 use Rattle.characters.proofs.RowLaws.{text-clean}
 use Rattle.notebook.proofs.Accepted.{IsLine, line-bytes}

@@ -1,3 +1,4 @@
+-- Examples, computed.
 -- Inputs whose refusal and line reach the ends of the claim, written from document 01: for each call an input for every number that it gives but 1
 -- (which is `Large-first`), with its line and the line ends of the bytes given. proofs/AllExamples.antt computes them.
 use Prim.Native.Nat.{ℕ}

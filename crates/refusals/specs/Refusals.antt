@@ -1,3 +1,4 @@
+-- Promises, to be believed.
 -- DEMAND 1, as statements about the definitions that the contracts of the exported calls cite: "The answer to every input, of any length and content,
 -- is a result or one refusal from document 01 with its line. It always comes, and a refusal leaves all lent memory as lent." One statement for all
 -- calls: `Always-answered`, `Refusal-keeps`, `Zero-is-a-result`, `Large-first`. proofs/Promises.antt proves each.

@@ -11,7 +11,8 @@ use Rattle.lists.specs.Lists.{Res, ok, refused}
 use Rattle.buffers.specs.Buffers.{Room, Wrote}
 use Rattle.buffers.proofs.Runs.{sets-all}
 use Rattle.replies.specs.declared.Answer.the-variants.{Done, Refused}
-use Rattle.replies.specs.Results.{Result, writes, answerIn, outputOf, Gives}
+use Rattle.replies.specs.Results.{Result, writes, answerIn, outputOf}
+use Rattle.replies.specs.Contracts.{Gives}
 
 module _ {x : Res Result} (d : List ℕ) where
   pub gives-refusal : {n line : ℕ} → x ≡ refused n line → Gives x d d (Refused n line)

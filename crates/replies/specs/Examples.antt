@@ -1,3 +1,4 @@
+-- Examples, computed.
 -- A result of two numbers, and a refusal, with outputs of none to three numbers. proofs/AllExamples.antt computes them.
 use Prim.Native.Nat.{ℕ}
 use mathlib.Core.List.{List, [], _∷_}

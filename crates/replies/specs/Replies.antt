@@ -1,3 +1,4 @@
+-- Definitions, to be believed.
 -- The reply to an answer, in document 01's numbers: the refusal and its line, or 0 and the values of the call's result. Fields that a
 -- reply does not use are 0.
 use Prim.Native.Nat.{ℕ}

@@ -1,7 +1,7 @@
+-- Definitions, to be believed.
 -- What every call makes of its result: its answer and its reply, and its output at exit. A call's own definition says only what it has to give,
 -- as `Res Result`: notebook, specs/Check.antt, Index.antt, Canonical.antt; division, specs/Cut.antt, Join.antt.
 use Prim.Native.Nat.{ℕ}
-use mathlib.Core.Path.{_≡_}
 use mathlib.Core.Bool.{Bool, cond}
 use mathlib.Core.List.{List, _++_}
 use lib.Dec.{leb}
@@ -50,8 +50,3 @@ replyTo x d = replyOf (answerIn x d)
 
 unfoldable pub outputOf : Res Result → List ℕ → List ℕ
 outputOf x d = left (λ (r : Result). r .written) (fitting x d) d
-
--- both, of a function that answers r and leaves d′
-pub record Gives (x : Res Result) (d d′ : List ℕ) (r : Answer) : Type 0 where
-  pub answer : r ≡ answerIn x d
-  pub output : d′ ≡ outputOf x d

@@ -1,3 +1,4 @@
+-- Examples, computed.
 -- Worked examples of one line and of the end, written from document 01: what the reader has seen, the record that comes, and the number of its
 -- refusal, 0 where it is good. proofs/AllExamples.antt computes them by the rules. Whole files stand in order, specs/Examples.antt.
 use Prim.Native.Nat.{ℕ}

@@ -1,3 +1,4 @@
+-- Definitions, to be believed.
 -- What the rules of order ask, as answers: the rules (Rules.antt) see a place, a number and Booleans only. `order` compares the values
 -- (its specs/Questions.antt).
 use Prim.Native.Nat.{ℕ}

@@ -1,3 +1,4 @@
+-- Definitions, to be believed.
 -- The refusals 12 to 16 of one line, and what is missing at the end (14), with document 01's sentences; clauses are of 15-106.
 use Prim.Native.Nat.{ℕ}
 use mathlib.Core.Bool.{Bool, not, cond, _&&_, _||_}

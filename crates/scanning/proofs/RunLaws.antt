@@ -9,13 +9,14 @@ use borrow.Author.Tests.{ne-eqb}
 use lib.Dec.{eqb}
 use lib.ListN.{length, drop, getD, set, length-append, take-append-drop}
 use lib.Seq.{drop-drop}
-use Rattle.lists.specs.Lists.{part}
+use Rattle.lists.specs.Searching.{part}
 use Rattle.lists.proofs.Parts.{part-length, part-none, part-join}
 use Rattle.lists.proofs.Cuts.{drop-step, drop-end, two-on, last-on}
 use Rattle.characters.specs.Cells.{isOne, isPair}
 use Rattle.characters.specs.declared.Char.{Char}
 use Rattle.characters.specs.declared.Char.the-variants.{One, Two, Bad}
-use Rattle.characters.specs.Text.{allChars, isStop, clean, text}
+use Rattle.characters.specs.Text.{allChars, isStop, text}
+use Rattle.characters.specs.Scanning.{clean}
 use Rattle.characters.specs.Scanning.{charOf, charAt, commaCount, commasFrom}
 use Rattle.scanning.specs.Scans.{ScanOf, RunOf, RunEnds, Finished}
 use Rattle.scanning.proofs.TextLaws.{one-char, no-comma, lead-from-81, trail-from-40, lead-no-one, kept, Scanned, scan-start, scan-comma, scan-more, scan-stop, scan-bad, scan-end}

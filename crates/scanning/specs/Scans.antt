@@ -1,3 +1,4 @@
+-- Vocabulary of the code.
 -- What a scan finds, as the code answers it: the text from a position on, its commas and their places, and what stands where a row begins.
 use Prim.Native.Nat.{ℕ, _+_, _≤_, _<_}
 use mathlib.Core.Path.{_≡_}
@@ -5,11 +6,12 @@ use mathlib.Core.Bool.{Bool, true}
 use mathlib.Core.Logic.{_⊎_}
 use mathlib.Core.List.{List, [], _∷_}
 use lib.ListN.{length, drop, getD}
-use Rattle.lists.specs.Lists.{part}
+use Rattle.lists.specs.Searching.{part}
 use Rattle.characters.specs.declared.Char.the-variants.{Bad}
 use Rattle.characters.specs.Text.{allChars, text}
 use Rattle.characters.specs.Scanning.{charAt, commaCount, commasFrom}
-use Rattle.characters.specs.Rows.{rows, endMark, WholeLine}
+use Rattle.characters.specs.Rows.{rows, endMark}
+use Rattle.characters.specs.Scanning.{WholeLine}
 use Rattle.characters.specs.Scanning.{BrokenRow}
 use Rattle.scanning.specs.declared.Scan.{Scan}
 use Rattle.scanning.specs.declared.Line.{Line}

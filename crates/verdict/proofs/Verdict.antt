@@ -10,7 +10,8 @@ use lib.ListN.{length}
 use borrow.Author.Tests.{eqb-true, le-leb, leb-true}
 use Rattle.lists.specs.Lists.{bytes, same, Res, ok, refused, mapRes}
 use Rattle.lists.proofs.Tests.{both, same-true, same-refl}
-use Rattle.characters.specs.Text.{text, clean}
+use Rattle.characters.specs.Text.{text}
+use Rattle.characters.specs.Scanning.{clean}
 use Rattle.characters.specs.Rows.{rows, flat, isLine, lineEnd, endMark}
 use Rattle.characters.proofs.RowLaws.{flat-rows, line-is, line-text, line-no-mark}
 use Rattle.records.specs.Records.{Record, lineFault, recordOf, header}

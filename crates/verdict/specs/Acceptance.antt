@@ -1,3 +1,4 @@
+-- A second statement, proved equal.
 -- What is claimed: that a file is accepted exactly when it meets document 01's clauses, the order of its records by the grammar. Each claim is a
 -- type here, and a name of proofs/Verdict.antt has that type: `machine-is-grammar`, `file-is-grammar`, `check-is-grammar`.
 use Prim.Native.Nat.{ℕ, _≤_}
@@ -8,7 +9,8 @@ use mathlib.Core.List.{List, [], _∷_, _++_, map}
 use lib.ListN.{length}
 use Rattle.lists.specs.Lists.{ok}
 use Rattle.characters.specs.Rows.{lineEnd, endMark}
-use Rattle.records.specs.Records.{Record, Read, readLine, header}
+use Rattle.records.specs.Records.{Record, header}
+use Rattle.records.specs.Reading.{Read, readLine}
 use Rattle.order.specs.declared.State.{State}
 use Rattle.order.specs.declared.Facts.{Facts}
 use Rattle.order.specs.State.{start}

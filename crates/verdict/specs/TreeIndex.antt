@@ -1,3 +1,4 @@
+-- A second statement, proved equal.
 -- What is claimed of the index: it is the one read off the tree of a file's records (grammar, specs/TreeRows.antt), and no two groups share a
 -- doctor. Names of proofs/TreeIndexLaws.antt have the types: `index-is-the-trees`, `tree-shares-none`, `no-shared-doctor`.
 use Prim.Native.Nat.{ℕ}
