@@ -16,10 +16,9 @@ use Rattle.eras.specs.declared.Era.{Era}
 use Rattle.calendar.specs.declared.Day.{Day}
 use Rattle.calendar.specs.declared.DateRead.{DateRead}
 use Rattle.calendar.specs.declared.DateRead.the-variants.{Date, NotADate}
-use Rattle.eras.specs.Era.{sixDigits}
+use Rattle.eras.specs.Era.{sixDigits, era, noEra, eraOf, eraOn, writeDay}
 use Rattle.eras.specs.Day.{isDay}
 use Rattle.calendar.specs.Day.{gregorian}
-use Rattle.eras.specs.Era.{era, noEra, eraOf, eraOn, writeDay}
 use Rattle.calendar.specs.Era.{inEra, fromEra, readDay}
 
 not-date : {d : Day} → _≡_ {A = DateRead} NotADate (Date d) → ⊥

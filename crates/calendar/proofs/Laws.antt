@@ -15,10 +15,9 @@ use Rattle.eras.specs.declared.Era.{Era}
 use Rattle.calendar.specs.declared.Day.{Day}
 use Rattle.calendar.specs.declared.DateRead.{DateRead}
 use Rattle.calendar.specs.declared.DateRead.the-variants.{Date, NotADate}
-use Rattle.eras.specs.Era.{sixDigits}
+use Rattle.eras.specs.Era.{sixDigits, eraOf, eraOn, writeDay}
 use Rattle.eras.specs.Day.{firstDay, lastDay, isDay}
 use Rattle.calendar.specs.Day.{gregorian}
-use Rattle.eras.specs.Era.{eraOf, eraOn, writeDay}
 use Rattle.calendar.specs.Era.{inEra, fromEra, readDay}
 use Rattle.eras.proofs.Eras.{Good, good-day, before-le, Named, day-named, and-l, and-r}
 

@@ -294,11 +294,11 @@ pub ruleset own-laws = (own-number, own-other)
 pub own-plain : (c : ℕ) (s : List ℕ) → Spellable c s → c / 4 % 16 ≡ 7 → (getD s 0 0 ≡ 48 → ⊥) → itemBytes c s ≡ s
 own-plain c s g e h = own-number c s g e refl .own (ne-eqb (getD s 0 0) 48 h)
 
--- it is known by the byte behind its comma at p
-pub stays-number : (c : ℕ) (s : List ℕ) (p : ℕ) {b : ℕ} → c / 4 % 16 ≡ 7 → b ≡ getD s (p + 1) 0 → Stays (not (eqb b 48)) c s p
+-- it is known by the byte that it begins with
+pub stays-number : (c : ℕ) (s : List ℕ) (p : ℕ) {b : ℕ} → c / 4 % 16 ≡ 7 → b ≡ getD s p 0 → Stays (not (eqb b 48)) c s p
 stays-number c s p {b} e q = record { kind = λ f. e; first = λ f z. go (eqb b 48) refl f z }
   where
-    go : (x : Bool) → eqb b 48 ≡ x → not x ≡ true → getD s (p + 1) 0 ≡ 48 → ⊥
+    go : (x : Bool) → eqb b 48 ≡ x → not x ≡ true → getD s p 0 ≡ 48 → ⊥
     go true h f z = false≢true f
     go false h f z = eqb-false _ _ h (q ∙ z)
 

@@ -1,5 +1,5 @@
 pub mod RunLaws
-pub mod SpotLaws
+pub mod PassLaws
 pub mod ItemLaws
 pub mod LineLaws
 pub mod FileLaws

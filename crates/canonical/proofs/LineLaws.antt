@@ -22,18 +22,18 @@ use Rattle.records.specs.Records.{itemValue, itemFault, itemsFault, itemsValue,
 use Rattle.records.proofs.LineLaws.{row-spelled, Good, line-good}
 use Rattle.items.specs.Codes.{itemOf}
 use Rattle.codes.specs.Codes.{codes, RowCode, places, placeIn, sliceOf, placeOf, Lent, InCodes}
-use Rattle.lines.specs.Codes.{Commas}
-use Rattle.lines.proofs.SplitLaws.{items-count}
+use Rattle.lines.specs.Codes.{commaAt, Commas, LineIn, ItemOf}
+use Rattle.lines.proofs.SplitLaws.{items-count, comma-le, stop-last, number-part}
 use Rattle.codes.proofs.TableLaws.{RowAt, row-of, slice-length, codes-length}
 use Rattle.lines.proofs.WalkLaws.{left, left-all, left-first}
 use Rattle.buffers.specs.Buffers.{Room, Wrote}
 use Rattle.buffers.proofs.Runs.{carry}
 use Rattle.notebook.specs.Canonical.{recordRow}
 use Rattle.canonical.specs.declared.Run.{Run}
-use Rattle.canonical.specs.Writing.{itemBytes, Spellable, oneSpelling, ahead, reach, Ready, Passed, spot, tailOf, AllSpellable, Items, spotsFrom, spotsOf, Sound, LineIn, begins, itemAt, tailAt, ItemOf, Ended}
+use Rattle.canonical.specs.Writing.{itemBytes, Spellable, oneSpelling, ahead, reach, Ready, Passed, tailOf, AllSpellable, Items, spotsFrom, spotsOf, Sound, begins, ends, itemAt, tailAt, Ended}
 use Rattle.lists.proofs.Parts.{part-length, part-part}
 use Rattle.canonical.proofs.RunLaws.{passes, waits}
-use Rattle.canonical.proofs.SpotLaws.{spot-sum, spot-first, last-spot, pass-own}
+use Rattle.canonical.proofs.PassLaws.{pass-own}
 use Rattle.canonical.proofs.ItemLaws.{own-kind}
 
 -- ---- the items
@@ -147,7 +147,7 @@ pub record Turning (cs : List ℕ) (place n : ℕ) (s : List ℕ) (at e end k j 
   pub size : length d′ ≡ length d
 
 turning-start : (cs : List ℕ) (place n : ℕ) (s : List ℕ) (at e : ℕ) (start : Run) (d : List ℕ) → Lent cs → InCodes place → Items place n (part s at e)
-    → Ready d start (at + spot (part s at e) 1) (tailOf (sliceOf place) (drop 1 (itemsOf (part s at e))))
+    → Ready d start (at + commaAt (part s at e) 0) (tailOf (sliceOf place) (drop 1 (itemsOf (part s at e))))
     → Turning cs place n s at e (place / 16 + place % 16) (place / 16) 1 start d d start
 turning-start cs place n s at e start d l p i r = record {
   writing = writing-start cs place n (part s at e) (ahead s d start (begins s at e 1)) (reach start (begins s at e 1)) l p i
@@ -170,21 +170,24 @@ module _ {cs : List ℕ} {place n : ℕ} {s : List ℕ} {at e end k j : ℕ} {st
   turning-spellable : k < end → Spellable (getD cs k 0) (getD (itemsOf (take (e - at) (drop at s))) j [])
   turning-spellable h = writing-spellable (t .writing) counted h
 
-  turning-ready : k < end → Ready d′ run (at + spot (take (e - at) (drop at s)) j) (0x2c ∷ itemBytes (getD cs k 0) (getD (itemsOf (take (e - at) (drop at s))) j []))
+  turning-ready : k < end → Ready d′ run (at + commaAt (take (e - at) (drop at s)) (j - 1)) (0x2c ∷ itemBytes (getD cs k 0) (getD (itemsOf (take (e - at) (drop at s))) j []))
   turning-ready h = record {
     low = t .low;
     room = omega (arith, writing-room (t .writing) counted h, length-sets d′ (run .at) (part s (run .from) (begins s at e j)));
   }
 
   turning-next : k < end → {d″ : List ℕ} {r : Run}
-      → Passed s d′ d″ run r (at + spot (take (e - at) (drop at s)) j) (at + spot (take (e - at) (drop at s)) (j + 1)) (0x2c ∷ itemBytes (getD cs k 0) (getD (itemsOf (take (e - at) (drop at s))) j []))
+      → Passed s d′ d″ run r (at + commaAt (take (e - at) (drop at s)) (j - 1)) (at + commaAt (take (e - at) (drop at s)) j) (0x2c ∷ itemBytes (getD cs k 0) (getD (itemsOf (take (e - at) (drop at s))) j []))
       → Turning cs place n s at e end (k + 1) (j + 1) start d d″ r
-  turning-next h x = record { writing = writing-next (t .writing) counted h (x .wrote); low = x .low; size = x .size ∙ t .size }
+  turning-next h {d″} {r} x =
+      let z : j ≡ j + 1 - 1 = omega arith in
+      let y : Passed s d′ d″ run r (begins s at e j) (begins s at e (j + 1)) (0x2c ∷ itemBytes (getD cs k 0) (itemAt s at e j)) =
+      subst (λ (i : ℕ). Passed s d′ d″ run r (begins s at e j) (at + commaAt (part s at e) i) (0x2c ∷ itemBytes (getD cs k 0) (itemAt s at e j))) z x in
+      record { writing = writing-next (t .writing) counted h (y .wrote); low = y .low; size = y .size ∙ t .size }
 
-  turning-done : end ≤ k → Passed s d d′ start run (at + spot (take (e - at) (drop at s)) 1) e (tailOf (sliceOf place) (drop 1 (itemsOf (take (e - at) (drop at s)))))
+  turning-done : end ≤ k → Passed s d d′ start run (at + commaAt (take (e - at) (drop at s)) 0) e (tailOf (sliceOf place) (drop 1 (itemsOf (take (e - at) (drop at s)))))
   turning-done h =
-      let y : j ≡ n + 1 = omega (arith, t .writing .few) in
-      let z : begins s at e j ≡ e = omega (arith, last-spot (v .spans) n (omega arith), ap (spot (part s at e)) y, part-length s at e (v .low) (v .high), v .low) in
+      let z : begins s at e j ≡ e = omega (arith, stop-last (v .spans) (j - 1) (omega (arith, t .writing .few)), part-length s at e (v .low) (v .high), v .low) in
       record { wrote = subst (λ (x : ℕ). Wrote (ahead s d start (begins s at e 1)) (ahead s d′ run x) (reach start (begins s at e 1)) (reach run x) (whole place (part s at e))) z (writing-done (t .writing) h); low = omega (arith, t .low, z); size = t .size }
 
 -- ---- the loop over the items that may have another spelling
@@ -254,7 +257,7 @@ record Found (place n : ℕ) (s : List ℕ) (at e : ℕ) (start : Run) (d d′ :
   small : getD codes k 0 ≤ 63
 
 pub spotting-start : (number n : ℕ) (s : List ℕ) (at e : ℕ) (start : Run) (d : List ℕ) {w : ℕ} → w ≡ spotsOf number → Items (placeOf number) n (part s at e)
-    → Ready d start (at + spot (take (e - at) (drop at s)) 1) (tailOf (sliceOf (placeOf number)) (drop 1 (itemsOf (take (e - at) (drop at s)))))
+    → Ready d start (at + commaAt (take (e - at) (drop at s)) 0) (tailOf (sliceOf (placeOf number)) (drop 1 (itemsOf (take (e - at) (drop at s)))))
     → Spotting (placeOf number) n s at e start d d start w
 unfolding spotsOf
 spotting-start number n s at e start d q i r =
@@ -315,7 +318,7 @@ module _ {place n : ℕ} {s : List ℕ} {at e : ℕ} {start : Run} {d d′ : Lis
       go false f i = absurd (omega (arith, spots-new j (getD codes k 0) (codesFrom (k + 1) (place / 16 + place % 16)) f, step, t .writing .some))
 
 module _ {place n : ℕ} {s : List ℕ} {at e : ℕ} {start : Run} {d d′ : List ℕ} {run : Run} {w : ℕ} (t : Spotting place n s at e start d d′ run w) {stops : List ℕ} (v : LineIn s at e stops n) where
-  pub spotting-done : w ≡ 0 → Passed s d d′ start run (at + spot (take (e - at) (drop at s)) 1) e (tailOf (sliceOf place) (drop 1 (itemsOf (take (e - at) (drop at s)))))
+  pub spotting-done : w ≡ 0 → Passed s d d′ start run (at + commaAt (take (e - at) (drop at s)) 0) e (tailOf (sliceOf place) (drop 1 (itemsOf (take (e - at) (drop at s)))))
   spotting-done z = over v (place / 16 + place % 16 - t .k) (t .k) (t .j) (t .turning) refl (sym (t .spots) ∙ z)
 
   module _ (h : w ≡ 0 → ⊥) where
@@ -342,18 +345,18 @@ module _ {place n : ℕ} {s : List ℕ} {at e : ℕ} {start : Run} {d d′ : Lis
         subst (λ (c : ℕ). Spellable c (itemAt s at e (w % 1024 % 16))) (sym code-is)
         (subst (λ (j : ℕ). Spellable (getD codes (here .k) 0) (itemAt s at e j)) (sym number-is) (turning-spellable (here .turning) v (here .more)))
 
-    pub spotting-ready : Ready d′ run (at + spot (take (e - at) (drop at s)) (w % 1024 % 16)) (0x2c ∷ itemBytes (w % 1024 / 16) (getD (itemsOf (take (e - at) (drop at s))) (w % 1024 % 16) []))
+    pub spotting-ready : Ready d′ run (at + commaAt (take (e - at) (drop at s)) (w % 1024 % 16 - 1)) (0x2c ∷ itemBytes (w % 1024 / 16) (getD (itemsOf (take (e - at) (drop at s))) (w % 1024 % 16) []))
     spotting-ready =
         subst (λ (c : ℕ). Ready d′ run (begins s at e (w % 1024 % 16)) (0x2c ∷ itemBytes c (itemAt s at e (w % 1024 % 16)))) (sym code-is)
         (subst (λ (j : ℕ). Ready d′ run (begins s at e j) (0x2c ∷ itemBytes (getD codes (here .k) 0) (itemAt s at e j))) (sym number-is) (turning-ready (here .turning) v (here .more)))
 
     pub spotting-next : {d″ : List ℕ} {r : Run}
-        → Passed s d′ d″ run r (at + spot (take (e - at) (drop at s)) (w % 1024 % 16)) (at + spot (take (e - at) (drop at s)) (w % 1024 % 16 + 1)) (0x2c ∷ itemBytes (w % 1024 / 16) (getD (itemsOf (take (e - at) (drop at s))) (w % 1024 % 16) []))
+        → Passed s d′ d″ run r (at + commaAt (take (e - at) (drop at s)) (w % 1024 % 16 - 1)) (at + commaAt (take (e - at) (drop at s)) (w % 1024 % 16)) (0x2c ∷ itemBytes (w % 1024 / 16) (getD (itemsOf (take (e - at) (drop at s))) (w % 1024 % 16) []))
         → Spotting place n s at e start d d″ r (w / 1024)
     spotting-next {d″} {r} x =
-        let y : Passed s d′ d″ run r (begins s at e (here .j)) (begins s at e (here .j + 1)) (0x2c ∷ itemBytes (getD codes (here .k) 0) (itemAt s at e (here .j))) =
-        subst (λ (j : ℕ). Passed s d′ d″ run r (begins s at e j) (begins s at e (j + 1)) (0x2c ∷ itemBytes (getD codes (here .k) 0) (itemAt s at e j))) number-is
-        (subst (λ (c : ℕ). Passed s d′ d″ run r (begins s at e (w % 1024 % 16)) (begins s at e (w % 1024 % 16 + 1)) (0x2c ∷ itemBytes c (itemAt s at e (w % 1024 % 16)))) code-is x) in
+        let y : Passed s d′ d″ run r (begins s at e (here .j)) (ends s at e (here .j)) (0x2c ∷ itemBytes (getD codes (here .k) 0) (itemAt s at e (here .j))) =
+        subst (λ (j : ℕ). Passed s d′ d″ run r (begins s at e j) (ends s at e j) (0x2c ∷ itemBytes (getD codes (here .k) 0) (itemAt s at e j))) number-is
+        (subst (λ (c : ℕ). Passed s d′ d″ run r (begins s at e (w % 1024 % 16)) (ends s at e (w % 1024 % 16)) (0x2c ∷ itemBytes c (itemAt s at e (w % 1024 % 16)))) code-is x) in
         record { k = here .k + 1; j = here .j + 1; turning = turning-next (here .turning) v (here .more) y; spots = others }
 
 pub ruleset spotting-laws = (spotting-start, spotting-done, spotting-next)
@@ -446,30 +449,30 @@ module _ (s : List ℕ) (at e : ℕ) {number : ℕ} (v : Sound number (take (e -
     record-line t z i = record { spans = record { places = t; commas = k; few = omega (arith, commas-are); size = z }; low = i .low; high = omega (arith, i .high) }
 
   module _ {d : List ℕ} {run : Run} (i : Ended s at e) (r : Ready d run at (recordRow (recordOf (take (e - at) (drop at s))))) where
-    first-is : part s at (at + spot line 1) ≡ front
+    first-is : part s at (at + commaAt line 0) ≡ front
     unfolding line front
     first-is =
         let z : at + 0 ≡ at = omega arith in
-        ap (λ (x : ℕ). part s x (at + spot line 1)) (sym z)
-        ∙ sym (part-part s at e 0 (spot line 1) (omega arith) (omega (arith, spot-sum line 1 (omega arith), part-length s at e (i .low) (omega (arith, i .high)), i .low)))
-        ∙ spot-first line (own-parts .head) (own-parts .rest) (own-parts .cut)
+        ap (λ (x : ℕ). part s x (at + commaAt line 0)) (sym z)
+        ∙ sym (part-part s at e 0 (commaAt line 0) (omega arith) (omega (arith, comma-le line 0, part-length s at e (i .low) (omega (arith, i .high)), i .low)))
+        ∙ sym (number-part line) ∙ ap (λ (x : List (List ℕ)). getD x 0 []) (own-parts .cut)
 
-    first-high : at + spot line 1 ≤ e
+    first-high : at + commaAt line 0 ≤ e
     unfolding line
-    first-high = omega (arith, spot-sum line 1 (omega arith), part-length s at e (i .low) (omega (arith, i .high)), i .low)
+    first-high = omega (arith, comma-le line 0, part-length s at e (i .low) (omega (arith, i .high)), i .low)
 
-    first-length : length front ≡ spot line 1
-    first-length = sym (ap length first-is) ∙ part-length s at (at + spot line 1) (omega arith) (omega (arith, first-high, i .high)) ∙ omega arith
+    first-length : length front ≡ commaAt line 0
+    first-length = sym (ap length first-is) ∙ part-length s at (at + commaAt line 0) (omega arith) (omega (arith, first-high, i .high)) ∙ omega arith
 
-    first-passed : Passed s d d run run at (at + spot line 1) front
+    first-passed : Passed s d d run run at (at + commaAt line 0) front
     unfolding line
-    first-passed = waits s d run at (at + spot line 1) front (omega arith) (omega (arith, first-high, i .high)) first-is (record { low = r .low; room = omega (arith, r .room, sizes) })
+    first-passed = waits s d run at (at + commaAt line 0) front (omega arith) (omega (arith, first-high, i .high)) first-is (record { low = r .low; room = omega (arith, r .room, sizes) })
 
-    pub record-ready : Ready d run (at + spot (take (e - at) (drop at s)) 1) (tailOf (sliceOf (placeOf number)) (drop 1 (itemsOf (take (e - at) (drop at s)))))
+    pub record-ready : Ready d run (at + commaAt (take (e - at) (drop at s)) 0) (tailOf (sliceOf (placeOf number)) (drop 1 (itemsOf (take (e - at) (drop at s)))))
     unfolding line items place
     record-ready = record { low = omega (arith, r .low); room = omega (arith, r .low, r .room, sizes, first-length) }
 
-    pub record-passed : {d₁ : List ℕ} {q : Run} → Passed s d d₁ run q (at + spot (take (e - at) (drop at s)) 1) e (tailOf (sliceOf (placeOf number)) (drop 1 (itemsOf (take (e - at) (drop at s)))))
+    pub record-passed : {d₁ : List ℕ} {q : Run} → Passed s d d₁ run q (at + commaAt (take (e - at) (drop at s)) 0) e (tailOf (sliceOf (placeOf number)) (drop 1 (itemsOf (take (e - at) (drop at s)))))
         → Passed s d d₁ run q at (e + 2) (recordRow (recordOf (take (e - at) (drop at s))))
     unfolding line items place
     record-passed {d₁} {q} x =

@@ -10,7 +10,7 @@ use Rattle.lists.specs.Searching.{part}
 use Rattle.buffers.specs.Buffers.{Room, Wrote}
 use Rattle.buffers.proofs.Runs.{sets-append, then}
 use Rattle.canonical.specs.declared.Run.{Run}
-use Rattle.canonical.specs.Writing.{itemBytes, OwnUnless, ahead, reach, Ready, Passed, Stands}
+use Rattle.canonical.specs.Writing.{itemBytes, OwnUnless, ahead, reach, Ready, Passed, Lies}
 use Rattle.lists.proofs.Parts.{part-length, part-none, part-join}
 
 -- one after another
@@ -53,33 +53,26 @@ copied s {d} {d₁} {d₂} run p e {a} {b} {w} l h x y =
       size = y .size ∙ x .size;
     }
 
--- ---- an item behind its comma
+-- ---- one item
 
-module _ (s d : List ℕ) (run : Run) (p e c : ℕ) (t : Stands s p e) (r : Ready d run p (0x2c ∷ itemBytes c (take (e - (p + 1)) (drop (p + 1) s)))) where
-  spelling : List ℕ
-  spelling = itemBytes c (part s (p + 1) e)
+module _ (s d : List ℕ) (run : Run) (a e c : ℕ) (t : Lies s a e) (r : Ready d run a (itemBytes c (take (e - a) (drop a s)))) where
+  pub respell-from : run .from ≤ a
+  respell-from = r .low
 
-  pub respell-from : run .from ≤ p + 1
-  respell-from = omega (arith, r .low)
+  pub respell-own : {b : Bool} → OwnUnless b c (take (e - a) (drop a s)) → b ≡ false → Passed s d d run run a e (itemBytes c (take (e - a) (drop a s)))
+  respell-own o f = waits s d run a e _ (t .low) (t .high) (sym (o .own f)) r
 
-  pub respell-own : {b : Bool} → OwnUnless b c (take (e - (p + 1)) (drop (p + 1) s)) → b ≡ false → Passed s d d run run p e (0x2c ∷ itemBytes c (take (e - (p + 1)) (drop (p + 1) s)))
-  respell-own o f =
-      let q : part s p e ≡ 0x2c ∷ itemBytes c (part s (p + 1) e) =
-      sym (part-join s p (p + 1) e (omega arith) (omega (arith, t .low))) ∙ ap (λ (x : List ℕ). x ++ part s (p + 1) e) (t .comma) ∙ ap (λ (x : List ℕ). 0x2c ∷ x) (sym (o .own f)) in
-      waits s d run p e _ (omega (arith, t .low)) (t .high) q r
+  run-length : length (part s (run .from) a) ≡ a - run .from
+  run-length = part-length s (run .from) a (r .low) (omega (arith, t .low, t .high))
 
-  pub respell-room : Room d (run .at) (take (p + 1 - run .from) (drop (run .from) s))
-  respell-room = omega (arith, r .low, r .room, part-length s (run .from) (p + 1) (omega (arith, r .low)) (omega (arith, t .low, t .high)))
+  pub respell-room : Room d (run .at) (take (a - run .from) (drop (run .from) s))
+  respell-room = omega (arith, r .room, run-length)
 
-  module _ {d₁ : List ℕ} {a : ℕ} (x : Wrote d d₁ (run .at) a (take (p + 1 - run .from) (drop (run .from) s))) where
-    pub respell-item-room : Room d₁ a (itemBytes c (take (e - (p + 1)) (drop (p + 1) s)))
-    respell-item-room = omega (arith, r .low, r .room, x .next, x .size, part-length s (run .from) (p + 1) (omega (arith, r .low)) (omega (arith, t .low, t .high)))
+  module _ {d₁ : List ℕ} {n : ℕ} (x : Wrote d d₁ (run .at) n (take (a - run .from) (drop (run .from) s))) where
+    pub respell-item-room : Room d₁ n (itemBytes c (take (e - a) (drop a s)))
+    respell-item-room = omega (arith, r .room, x .next, x .size, run-length)
 
-    pub respell-done : {d₂ : List ℕ} {b : ℕ} → Wrote d₁ d₂ a b (itemBytes c (take (e - (p + 1)) (drop (p + 1) s)))
-        → Passed s d d₂ run (record { from = e; at = b }) p e (0x2c ∷ itemBytes c (take (e - (p + 1)) (drop (p + 1) s)))
-    respell-done y =
-        passes
-        (waits s d run p (p + 1) (0x2c ∷ []) (omega arith) (omega (arith, t .low, t .high)) (t .comma) (record { low = r .low; room = omega (arith, r .room) }))
-        (copied s run (p + 1) e (omega (arith, r .low)) (omega (arith, t .low, t .high)) x y)
+    pub respell-done : {d₂ : List ℕ} {b : ℕ} → Wrote d₁ d₂ n b (itemBytes c (take (e - a) (drop a s))) → Passed s d d₂ run (record { from = e; at = b }) a e (itemBytes c (take (e - a) (drop a s)))
+    respell-done y = copied s run a e (r .low) (omega (arith, t .low, t .high)) x y
 
 pub ruleset respell-laws = (respell-from, respell-own, respell-room, respell-item-room, respell-done)

@@ -21,7 +21,7 @@ use Rattle.order.specs.declared.State.{State}
 use Rattle.order.specs.State.{finishOf}
 use Rattle.items.specs.Codes.{itemOf}
 use Rattle.codes.specs.Codes.{codes, placeOf, sliceOf}
-use Rattle.lines.specs.Codes.{Spanned}
+use Rattle.lines.specs.Codes.{commaAt}
 use Rattle.buffers.specs.Buffers.{Wrote}
 use Rattle.replies.specs.declared.Answer.{Answer}
 use Rattle.replies.specs.declared.Answer.the-variants.{Done, Refused}
@@ -78,22 +78,12 @@ pub record Passed (s d d′ : List ℕ) (run r : Run) (p e : ℕ) (w : List ℕ)
   pub low : r .from ≤ e
   pub size : length d′ ≡ length d
 
--- an item stands behind its comma at p, up to e
-pub record Stands (s : List ℕ) (p e : ℕ) : Type 0 where
-  pub comma : part s p (p + 1) ≡ 0x2c ∷ []
-  pub low : p < e
+-- bytes of a file from a to e
+pub record Lies (s : List ℕ) (a e : ℕ) : Type 0 where
+  pub low : a ≤ e
   pub high : e ≤ length s
 
 -- ---- the items of a line behind its number, each with its comma
-
--- as they are spelled
-unfoldable pub spelledTail : List (List ℕ) → List ℕ
-spelledTail [] = []
-spelledTail (s ∷ ss) = 0x2c ∷ (s ++ spelledTail ss)
-
--- where the comma before item number j of a line stands; the line's end, where there is none
-unfoldable pub spot : List ℕ → ℕ → ℕ
-spot l j = length l - length (spelledTail (drop j (itemsOf l)))
 
 -- each in its one spelling
 
@@ -130,15 +120,12 @@ pub record Sound (n : ℕ) (s : List ℕ) : Type 0 where
   pub good : lineFault provider s ≡ 0
   pub number : n ≡ (recordOf s) .number
 
--- a line from at to e of a file, its commas and their places
-pub record LineIn (s : List ℕ) (at e : ℕ) (stops : List ℕ) (n : ℕ) : Type 0 where
-  pub spans : Spanned (part s at e) stops n
-  pub low : at ≤ e
-  pub high : e ≤ length s
-
--- where its item number j begins, with its comma; and the item
+-- item number j of the line from at to e: where its comma stands, where it ends, and its bytes
 abbrev pub begins : List ℕ → ℕ → ℕ → ℕ → ℕ
-begins s at e j = at + spot (part s at e) j
+begins s at e j = at + commaAt (part s at e) (j - 1)
+
+abbrev pub ends : List ℕ → ℕ → ℕ → ℕ → ℕ
+ends s at e j = at + commaAt (part s at e) j
 
 abbrev pub itemAt : List ℕ → ℕ → ℕ → ℕ → List ℕ
 itemAt s at e j = getD (itemsOf (part s at e)) j []
@@ -147,15 +134,10 @@ itemAt s at e j = getD (itemsOf (part s at e)) j []
 abbrev pub tailAt : ℕ → List ℕ → ℕ → ℕ → List ℕ
 tailAt place s at e = tailOf (sliceOf place) (drop 1 (itemsOf (part s at e)))
 
--- j is the number of an item behind the record's number
-pub record ItemOf (j n : ℕ) : Type 0 where
-  pub low : 1 ≤ j
-  pub high : j ≤ n
-
--- where r says so, an item behind its comma at p is a number, and no zero stands behind the comma
-pub record Stays (r : Bool) (c : ℕ) (s : List ℕ) (p : ℕ) : Type 0 where
+-- where r says so, an item from a on is a number, and no zero stands there
+pub record Stays (r : Bool) (c : ℕ) (s : List ℕ) (a : ℕ) : Type 0 where
   pub kind : r ≡ true → c / 4 % 16 ≡ 7
-  pub first : r ≡ true → getD s (p + 1) 0 ≡ 0x30 → ⊥
+  pub first : r ≡ true → getD s a 0 ≡ 0x30 → ⊥
 
 -- a line from at to e of a file, and its line end
 pub record Ended (s : List ℕ) (at e : ℕ) : Type 0 where

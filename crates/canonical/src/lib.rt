@@ -3,7 +3,7 @@
 // Definitions: notebook, specs/Canonical.antt; the same as the code writes it: specs/Writing.antt.
 ghost use mathlib.Core.Path.{_≡_};
 ghost use mathlib.Core.List.{[], _∷_};
-ghost use Prim.Native.Nat.{_+_, _≤_, _<_};
+ghost use Prim.Native.Nat.{_+_, _≤_};
 ghost use lib.ListN.{length, drop};
 ghost use lib.Seq.{sets};
 ghost use Rattle.lists.specs.Searching.{part};
@@ -12,7 +12,7 @@ ghost use Rattle.scanning.specs.Scans.{Stops, Sixteen};
 ghost use Rattle.records.specs.Records.{recordOf};
 ghost use Rattle.order.specs.State.{start};
 ghost use Rattle.codes.specs.Codes.{placeOf, Lent};
-ghost use Rattle.lines.specs.Codes.{Commas, Spanned};
+ghost use Rattle.lines.specs.Codes.{Commas, LineIn, ItemOf};
 ghost use Rattle.buffers.specs.Buffers.{Room, Wrote};
 ghost use Rattle.notebook.specs.Notebook.{recordsFrom};
 ghost use Rattle.checking.specs.Walking.{Closing};
@@ -20,8 +20,7 @@ ghost use Rattle.checking.specs.Opening.{Behind};
 ghost use Rattle.notebook.specs.Canonical.{recordRow, canonicalFile, canonicalResult};
 ghost use Rattle.replies.specs.Contracts.{Gives};
 ghost use Rattle.canonical.specs.Writing.{postalBytes, numberBytes, dayBytes, itemBytes, Spellable, OwnUnless, Items, Sound};
-ghost use Rattle.canonical.specs.Writing.{spot, Stands, Ready, Passed, spotsOf, LineIn, begins, itemAt, tailAt, ItemOf, Stays, Ended};
-ghost use Rattle.canonical.specs.Writing.{reach, Finished, poured, Poured, closing, MadeOf, Holds};
+ghost use Rattle.canonical.specs.Writing.{Lies, Ready, Passed, spotsOf, begins, ends, itemAt, tailAt, Stays, Ended, reach, Finished, poured, Poured, closing, MadeOf, Holds};
 use replies::Answer;
 
 // ---- one item
@@ -101,14 +100,13 @@ pub struct Run {
     pub at: usize,
 }
 
-// An item behind its comma at p, up to e: its spelling behind the run before it; or nothing, where its bytes are its spelling.
-fn respell(c: usize, s: &[u8], p: usize, e: usize, out: &mut [u8], run: Run) -> Run
-    requires { ⌜ Stands (now s) p e ⌝ }
-    requires { ⌜ Spellable c (part (now s) (p + 1) e) ⌝ }
-    requires { ⌜ Ready (now out) run p (0x2c ∷ itemBytes c (part (now s) (p + 1) e)) ⌝ }
-    ensures { λ r. ⌜ Passed (now (s .entry)) (now (out .entry)) (now (out .exit)) run r p e (0x2c ∷ itemBytes c (part (now (s .entry)) (p + 1) e)) ⌝ }
+// An item from a to e: its spelling behind the run before it; or nothing, where its bytes are its spelling.
+fn respell(c: usize, s: &[u8], a: usize, e: usize, out: &mut [u8], run: Run) -> Run
+    requires { ⌜ Lies (now s) a e ⌝ }
+    requires { ⌜ Spellable c (part (now s) a e) ⌝ }
+    requires { ⌜ Ready (now out) run a (itemBytes c (part (now s) a e)) ⌝ }
+    ensures { λ r. ⌜ Passed (now (s .entry)) (now (out .entry)) (now (out .exit)) run r a e (itemBytes c (part (now (s .entry)) a e)) ⌝ }
 {
-    let a = p + 1;
     if respelled(c, &s[a..e]) {
         let from = run.from;
         let at = run.at;
@@ -124,26 +122,13 @@ fn respell(c: usize, s: &[u8], p: usize, e: usize, out: &mut [u8], run: Run) -> 
 
 // ---- one line
 
-// Where comma number i of a line stands, from 0; the line's end where there is none.
-fn comma_at(stops: &[usize; 16], n: usize, line: &[u8], i: usize) -> usize
-    requires { ⌜ Spanned (now line) (now stops) n ⌝ }
-    requires { ⌜ i ≤ n ⌝ }
-    ensures { λ r. ⌜ r ≡ spot (now (line .entry)) (i + 1) ⌝ }
-{
-    if i < n {
-        return stops[i];
-    }
-    line.len()
-}
-
-// Whether an item behind its comma at p is surely its own spelling: a number that begins with no zero. So most numbers are passed, and where
-// they end need not be known: behind the comma of an empty one stands the next comma or the line's end, which is no zero.
-fn stays(c: usize, s: &[u8], p: usize) -> bool
-    requires { ⌜ p < length (now s) ⌝ }
-    ensures { λ r. ⌜ Stays r c (now (s .entry)) p ⌝ }
+// Whether an item from a on is surely its own spelling: a number that begins with no zero. So most numbers are passed, and where they end
+// need not be known: where an empty one would stand is the next comma or the line's end, which is no zero.
+fn stays(c: usize, s: &[u8], a: usize) -> bool
+    ensures { λ r. ⌜ Stays r c (now (s .entry)) a ⌝ }
 {
     if c / 4 % 16 == 7 {
-        let first = lists::byte_at(s, p + 1);
+        let first = lists::byte_at(s, a);
         return first != 0x30;
     }
     false
@@ -165,15 +150,15 @@ fn pass_item(
     requires { ⌜ ItemOf j n ⌝ }
     requires { ⌜ Spellable c (itemAt (now s) at end j) ⌝ }
     requires { ⌜ Ready (now out) run (begins (now s) at end j) (0x2c ∷ itemBytes c (itemAt (now s) at end j)) ⌝ }
-    ensures { λ r. ⌜ Passed (now (s .entry)) (now (out .entry)) (now (out .exit)) run r (begins (now (s .entry)) at end j) (begins (now (s .entry)) at end (j + 1)) (0x2c ∷ itemBytes c (itemAt (now (s .entry)) at end j)) ⌝ }
+    ensures { λ r. ⌜ Passed (now (s .entry)) (now (out .entry)) (now (out .exit)) run r (begins (now (s .entry)) at end j) (ends (now (s .entry)) at end j) (0x2c ∷ itemBytes c (itemAt (now (s .entry)) at end j)) ⌝ }
 {
-    let before = j - 1;
-    let p = at + comma_at(stops, n, &s[at..end], before);
-    if stays(c, s, p) {
+    let item = lines::item_in(stops, n, s, at, end, j);
+    let a = item.from;
+    let e = item.to;
+    if stays(c, s, a) {
         return run;
     }
-    let e = at + comma_at(stops, n, &s[at..end], j);
-    respell(c, s, p, e, out, run)
+    respell(c, s, a, e, out, run)
 }
 
 // The items of a record's row that may have another spelling, of kinds P, R and D: 16 times the item of the table plus its number, each
@@ -353,19 +338,26 @@ fn canonical_by(s: &[u8], file: &mut [u8], out: &mut [u8]) -> Answer
     }
 }
 
-// The same with an array of its own, of a length that the file asks for: clearing one for any file takes longer than to read a short one.
+// The lengths of an array for the canonical file of a short, a middling and any file: clearing the last takes longer than to read a short file.
+pub const SHORT: usize = 2048;
+
+pub const MIDDLING: usize = 16384;
+
+pub const ANY: usize = 65536;
+
+// The same with an array of its own.
 pub fn canonical_file(s: &[u8], out: &mut [u8]) -> Answer
     ensures { λ r. ⌜ Gives (canonicalResult (now (s .entry))) (now (out .entry)) (now (out .exit)) r ⌝ }
 {
     let len = s.len();
-    if len <= 2048 {
-        let mut file = [0u8; 2048];
+    if len <= SHORT {
+        let mut file = [0u8; SHORT];
         return canonical_by(s, &mut file, out);
     }
-    if len <= 16384 {
-        let mut file = [0u8; 16384];
+    if len <= MIDDLING {
+        let mut file = [0u8; MIDDLING];
         return canonical_by(s, &mut file, out);
     }
-    let mut file = [0u8; 65536];
+    let mut file = [0u8; ANY];
     canonical_by(s, &mut file, out)
 }

@@ -15,10 +15,8 @@ use Rattle.lists.specs.Searching.{part}
 use Rattle.lists.proofs.Tests.{both, neither, same-refl, same-true}
 use Rattle.lists.proofs.Cuts.{drop-step, drop-end, two-on, last-on, take-upTo, upTo-le, upTo-split}
 use Rattle.characters.specs.Text.{allChars, isStop, text}
-use Rattle.characters.specs.Scanning.{clean}
+use Rattle.characters.specs.Scanning.{clean, WholeLine, BrokenRow}
 use Rattle.characters.specs.Rows.{consRow, rows, flat, lineEnd, isLine, endMark}
-use Rattle.characters.specs.Scanning.{WholeLine}
-use Rattle.characters.specs.Scanning.{BrokenRow}
 
 -- ---- rows are the file
 

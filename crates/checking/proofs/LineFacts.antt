@@ -13,11 +13,9 @@ use Rattle.lists.specs.Lists.{Res, refused}
 use Rattle.lists.specs.Searching.{part}
 use Rattle.scanning.specs.declared.Line.{Line}
 use Rattle.scanning.specs.declared.Line.the-variants.{Whole, Mark, End, Broken}
-use Rattle.scanning.specs.Scans.{Stops, Sixteen}
+use Rattle.scanning.specs.Scans.{Stops, Sixteen, ScannedLine, LineMeans, LineOf}
 use Rattle.characters.specs.Rows.{rows}
-use Rattle.characters.specs.Scanning.{WholeLine}
-use Rattle.characters.specs.Scanning.{BrokenRow}
-use Rattle.scanning.specs.Scans.{ScannedLine, LineMeans, LineOf}
+use Rattle.characters.specs.Scanning.{WholeLine, BrokenRow}
 use Rattle.characters.proofs.RowLaws.{line-is, line-text, line-no-mark}
 use Rattle.records.specs.Records.{Record, recordOf}
 use Rattle.order.specs.declared.State.{State}

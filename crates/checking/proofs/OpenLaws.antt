@@ -15,8 +15,7 @@ use Rattle.lists.proofs.Tests.{same-true, same-refl}
 use Rattle.scanning.specs.declared.Line.{Line}
 use Rattle.scanning.specs.declared.Line.the-variants.{Whole, Mark, End, Broken}
 use Rattle.characters.specs.Rows.{rows, flat, isLine, lineEnd}
-use Rattle.characters.specs.Scanning.{WholeLine}
-use Rattle.characters.specs.Scanning.{BrokenRow}
+use Rattle.characters.specs.Scanning.{WholeLine, BrokenRow}
 use Rattle.scanning.specs.Scans.{Sixteen, LineMeans, LineOf}
 use Rattle.characters.proofs.RowLaws.{line-is, line-text, flat-rows}
 use Rattle.records.specs.Records.{header}

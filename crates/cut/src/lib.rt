@@ -219,19 +219,19 @@ fn cut_by(file: &[u8], bytes: &mut [u8], capacity: u64, id: &[u8], out: &mut [u8
     }
 }
 
-// The same with an array of its own, of a length that the file asks for.
+// The same with an array of its own.
 pub fn cut(file: &[u8], capacity: u64, id: &[u8], out: &mut [u8]) -> Answer
     ensures { λ r. ⌜ Gives (cutResult (now (file .entry)) capacity (now (id .entry))) (now (out .entry)) (now (out .exit)) r ⌝ }
 {
     let len = file.len();
-    if len <= 2048 {
-        let mut bytes = [0u8; 2048];
+    if len <= canonical::SHORT {
+        let mut bytes = [0u8; canonical::SHORT];
         return cut_by(file, &mut bytes, capacity, id, out);
     }
-    if len <= 16384 {
-        let mut bytes = [0u8; 16384];
+    if len <= canonical::MIDDLING {
+        let mut bytes = [0u8; canonical::MIDDLING];
         return cut_by(file, &mut bytes, capacity, id, out);
     }
-    let mut bytes = [0u8; 65536];
+    let mut bytes = [0u8; canonical::ANY];
     cut_by(file, &mut bytes, capacity, id, out)
 }

@@ -15,8 +15,7 @@ use lib.Seq.{sets, length-take-le}
 use Rattle.lists.specs.Searching.{part}
 use Rattle.scanning.specs.declared.Line.the-variants.{Whole, Mark, End, Broken}
 use Rattle.characters.specs.Rows.{rows, isLine, lineEnd}
-use Rattle.characters.specs.Scanning.{WholeLine}
-use Rattle.characters.specs.Scanning.{BrokenRow}
+use Rattle.characters.specs.Scanning.{WholeLine, BrokenRow}
 use Rattle.scanning.specs.Scans.{LineOf}
 use Rattle.characters.proofs.RowLaws.{line-is, line-text}
 use Rattle.records.specs.Records.{lineFault, recordOf}

@@ -26,10 +26,10 @@ use Rattle.codes.proofs.TableLaws.{rowBy, allRows, listed-row}
 
 -- ---- values by their place
 
-blank : Item
+pub blank : Item
 blank = record { kind = N 0; need = optional }
 
-value-at : (is : List Item) (ss : List (List ℕ)) (j : ℕ) → length ss ≡ length is → j < length is → getD (itemsValue is ss) j (text []) ≡ itemValue (getD is j blank) (getD ss j [])
+pub value-at : (is : List Item) (ss : List (List ℕ)) (j : ℕ) → length ss ≡ length is → j < length is → getD (itemsValue is ss) j (text []) ≡ itemValue (getD is j blank) (getD ss j [])
 unfolding itemsValue
 value-at [] ss j n h = absurd (omega arith)
 value-at (i ∷ is) [] j n h = absurd (omega arith)

@@ -3,6 +3,7 @@ pub mod WalkLaws
 pub mod PairLaws
 pub mod DetailLaws
 pub mod FactLaws
+pub mod ItemLaws
 pub mod LineLaws
 pub mod FindLaws
 pub mod QuickLaws

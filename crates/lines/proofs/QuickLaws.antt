@@ -17,8 +17,7 @@ use Rattle.digits.specs.Short.{plainNumber}
 use Rattle.scanning.specs.declared.Line.{Line}
 use Rattle.scanning.specs.declared.Line.the-variants.{Whole as WholeLine}
 use Rattle.characters.specs.Text.{isStop}
-use Rattle.scanning.specs.Scans.{Sixteen, RunOf, ScanOf}
-use Rattle.scanning.specs.Scans.{LineOf}
+use Rattle.scanning.specs.Scans.{Sixteen, RunOf, ScanOf, LineOf}
 use Rattle.scanning.proofs.TextLaws.{Scanned, scan-start, scan-comma, scan-stop}
 use Rattle.scanning.proofs.LineLaws.{line-whole}
 use Rattle.scanning.proofs.RunLaws.{run-scanned}

@@ -6,13 +6,13 @@ use mathlib.Core.Bool.{Bool, true, false, cond}
 use mathlib.Core.List.{List, [], _∷_, _++_, map}
 use native.Mathlib.Omega.{arith}
 use native.Mathlib.Decide.{decLt}
-use borrow.Author.Tests.{le-leb, lt-leb, leb-true, leb-false}
-use lib.Dec.{leb, eqb, leb·zero}
+use borrow.Author.Tests.{le-leb, lt-leb, eqb-true}
+use lib.Dec.{leb·zero}
 use lib.ListN.{length, take, drop, getD, length-map}
 use lib.Seq.{drop-drop}
 use Rattle.lists.specs.Lists.{upTo}
-use Rattle.lists.specs.Searching.{part}
-use Rattle.lists.specs.Searching.{findFrom}
+use Rattle.lists.specs.Searching.{part, findFrom}
+use Rattle.lists.proofs.Parts.{part-length, part-at, part-part}
 use Rattle.lists.proofs.Cuts.{drop-step, drop-end, take-upTo}
 use Rattle.lists.proofs.Loops.{find-low, find-high}
 use Rattle.characters.specs.Scanning.{commaCount, commasFrom}
@@ -21,7 +21,7 @@ use Rattle.scanning.proofs.TextLaws.{count-places}
 use Rattle.records.specs.Split.{isComma, consItem, itemsOf}
 use Rattle.records.specs.Positions.{itemsFrom, itemEnd}
 use Rattle.lines.specs.declared.Span.{Span}
-use Rattle.lines.specs.Codes.{Commas, Spanned, SpanAt}
+use Rattle.lines.specs.Codes.{commaAt, Commas, Spanned, SpanAt, Between, LineIn, ItemOf, ItemIn}
 
 -- the items after the first one, from the byte that ends it
 tailItems : List ℕ → List (List ℕ)
@@ -106,9 +106,6 @@ startOf : List ℕ → ℕ → ℕ
 startOf ps zero = 0
 startOf ps (suc j) = suc (getD ps j 0)
 
-endOf : List ℕ → ℕ → ℕ → ℕ
-endOf ps n j = cond (leb (suc j) (length ps)) (getD ps j 0) n
-
 comma-shift : (k : ℕ) (l : List ℕ) → commasFrom (suc k) l ≡ map suc (commasFrom k l)
 comma-shift k [] = refl
 comma-shift k (a ∷ l) = go (isComma a) (comma-shift (suc k) l)
@@ -123,21 +120,10 @@ getD-suc [] j h = absurd (omega arith)
 getD-suc (p ∷ ps) zero h = refl
 getD-suc (p ∷ ps) (suc j) h = getD-suc ps j (omega arith)
 
-end-shift : (ps : List ℕ) (n j : ℕ) → endOf (map suc ps) (suc n) j ≡ suc (endOf ps n j)
-unfolding endOf
-end-shift ps n j = rw (length-map ps suc) (go (leb (suc j) (length ps)) refl)
-  where
-    go : (b : Bool) → leb (suc j) (length ps) ≡ b → cond b (getD (map suc ps) j 0) (suc n) ≡ suc (cond b (getD ps j 0) n)
-    go true e = getD-suc ps j (leb-true (suc j) (length ps) e)
-    go false e = refl
-
-end-behind : (p : ℕ) (ps : List ℕ) (n j : ℕ) → endOf (p ∷ ps) n (suc j) ≡ endOf ps n j
-unfolding endOf
-end-behind p ps n j = go (leb (suc j) (length ps)) refl
-  where
-    go : (b : Bool) → leb (suc j) (length ps) ≡ b → cond (leb (suc (suc j)) (suc (length ps))) (getD ps j 0) n ≡ cond b (getD ps j 0) n
-    go true e = rw (le-leb (suc (suc j)) (suc (length ps)) (omega (arith, leb-true (suc j) (length ps) e)))
-    go false e = rw (lt-leb (suc (suc j)) (suc (length ps)) (omega (arith, leb-false (suc j) (length ps) e)))
+end-shift : (ps : List ℕ) (n j : ℕ) → getD (map suc ps) j (suc n) ≡ suc (getD ps j n)
+end-shift [] n j = refl
+end-shift (p ∷ ps) n zero = refl
+end-shift (p ∷ ps) n (suc j) = end-shift ps n j
 
 part-shift : (a : ℕ) (l : List ℕ) (x e : ℕ) → part (a ∷ l) (suc x) (suc e) ≡ part l x e
 part-shift a l x e = let z : suc e - suc x ≡ e - x = omega arith in ap (λ (k : ℕ). take k (drop x l)) z
@@ -148,12 +134,12 @@ cons-first a l = rw (items-cut l)
 cons-later : (a j : ℕ) (l : List ℕ) → getD (consItem a (itemsOf l)) (suc j) [] ≡ getD (itemsOf l) (suc j) []
 cons-later a j l = rw (items-cut l)
 
-item-by : (l : List ℕ) (j : ℕ) → j ≤ commaCount l → getD (itemsOf l) j [] ≡ part l (startOf (commasFrom 0 l) j) (endOf (commasFrom 0 l) (length l) j)
-unfolding startOf endOf
+item-by : (l : List ℕ) (j : ℕ) → j ≤ commaCount l → getD (itemsOf l) j [] ≡ part l (startOf (commasFrom 0 l) j) (getD (commasFrom 0 l) j (length l))
+unfolding startOf
 item-by [] zero h = refl
 item-by [] (suc j) h = absurd (omega arith)
 item-by (a ∷ l) j h =
-    subst (λ (qs : List ℕ). getD (cond (isComma a) ([] ∷ itemsOf l) (consItem a (itemsOf l))) j [] ≡ part (a ∷ l) (startOf (cond (isComma a) (0 ∷ qs) qs) j) (endOf (cond (isComma a) (0 ∷ qs) qs) (suc (length l)) j))
+    subst (λ (qs : List ℕ). getD (cond (isComma a) ([] ∷ itemsOf l) (consItem a (itemsOf l))) j [] ≡ part (a ∷ l) (startOf (cond (isComma a) (0 ∷ qs) qs) j) (getD (cond (isComma a) (0 ∷ qs) qs) j (suc (length l))))
     (sym (comma-shift 0 l)) (go (isComma a) (item-by l) j h)
   where
     ps : List ℕ
@@ -166,23 +152,23 @@ item-by (a ∷ l) j h =
     starts zero k = refl
     starts (suc j) k = getD-suc ps j (omega (arith, count-places 0 l))
 
-    go : (b : Bool) → ((j : ℕ) → j ≤ commaCount l → getD (itemsOf l) j [] ≡ part l (startOf ps j) (endOf ps (length l) j))
+    go : (b : Bool) → ((j : ℕ) → j ≤ commaCount l → getD (itemsOf l) j [] ≡ part l (startOf ps j) (getD ps j (length l)))
         → (j : ℕ) → j ≤ cond b 1 0 + commaCount l
         → getD (cond b ([] ∷ itemsOf l) (consItem a (itemsOf l))) j []
-        ≡ part (a ∷ l) (startOf (cond b (0 ∷ map suc ps) (map suc ps)) j) (endOf (cond b (0 ∷ map suc ps) (map suc ps)) (suc (length l)) j)
-    go true i zero h = rw (le-leb 1 (suc (length (map suc ps))) (omega arith))
+        ≡ part (a ∷ l) (startOf (cond b (0 ∷ map suc ps) (map suc ps)) j) (getD (cond b (0 ∷ map suc ps) (map suc ps)) j (suc (length l)))
+    go true i zero h = refl
     go true i (suc j) h =
         i j (omega arith)
-        ∙ sym (part-shift a l (startOf ps j) (endOf ps (length l) j))
-        ∙ ap₂ (λ (x e : ℕ). part (a ∷ l) (suc x) e) (sym (starts j (omega arith))) (sym (end-behind 0 (map suc ps) (suc (length l)) j ∙ end-shift ps (length l) j))
+        ∙ sym (part-shift a l (startOf ps j) (getD ps j (length l)))
+        ∙ ap₂ (λ (x e : ℕ). part (a ∷ l) (suc x) e) (sym (starts j (omega arith))) (sym (end-shift ps (length l) j))
     go false i zero h =
-        let z : endOf ps (length l) 0 - 0 ≡ endOf ps (length l) 0 = omega arith in
-        let y : suc (endOf ps (length l) 0) - 0 ≡ suc (endOf ps (length l) 0) = omega arith in
+        let z : getD ps 0 (length l) - 0 ≡ getD ps 0 (length l) = omega arith in
+        let y : suc (getD ps 0 (length l)) - 0 ≡ suc (getD ps 0 (length l)) = omega arith in
         cons-first a l ∙ ap (λ (x : List ℕ). a ∷ x) (i 0 (omega arith) ∙ ap (λ (k : ℕ). take k l) z)
         ∙ ap (λ (k : ℕ). take k (a ∷ l)) (sym y) ∙ ap (λ (e : ℕ). part (a ∷ l) 0 e) (sym (end-shift ps (length l) 0))
     go false i (suc j) h =
         cons-later a j l ∙ i (suc j) (omega arith)
-        ∙ sym (part-shift a l (startOf ps (suc j)) (endOf ps (length l) (suc j)))
+        ∙ sym (part-shift a l (startOf ps (suc j)) (getD ps (suc j) (length l)))
         ∙ ap₂ (λ (x e : ℕ). part (a ∷ l) (suc x) e) (sym (behind j (omega (arith, count-places 0 l)))) (sym (end-shift ps (length l) (suc j)))
 
 -- a comma stands inside, and those before it earlier
@@ -207,6 +193,81 @@ comma-order (a ∷ l) j h = go (isComma a) (comma-order l) j h
         rw (comma-shift 0 l, getD-suc (commasFrom 0 l) j (omega (arith, count-places 0 l)), getD-suc (commasFrom 0 l) (suc j) (omega (arith, count-places 0 l))) (omega (arith, i j (omega arith)))
     go false i j h =
         rw (comma-shift 0 l, getD-suc (commasFrom 0 l) j (omega (arith, count-places 0 l)), getD-suc (commasFrom 0 l) (suc j) (omega (arith, count-places 0 l))) (omega (arith, i j (omega arith)))
+
+-- at its place stands a comma
+comma-here : (l : List ℕ) (j : ℕ) → j < commaCount l → getD l (getD (commasFrom 0 l) j 0) 0 ≡ 0x2c
+comma-here [] j h = absurd (omega arith)
+comma-here (a ∷ l) j h = go (isComma a) refl (comma-here l) j h
+  where
+    go : (b : Bool) → isComma a ≡ b → ((j : ℕ) → j < commaCount l → getD l (getD (commasFrom 0 l) j 0) 0 ≡ 0x2c) → (j : ℕ) → j < cond b 1 0 + commaCount l
+        → getD (a ∷ l) (getD (cond b (0 ∷ commasFrom 1 l) (commasFrom 1 l)) j 0) 0 ≡ 0x2c
+    go true q i zero h = eqb-true a 0x2c q
+    go true q i (suc j) h = rw (comma-shift 0 l, getD-suc (commasFrom 0 l) j (omega (arith, count-places 0 l))) (i j (omega arith))
+    go false q i j h = rw (comma-shift 0 l, getD-suc (commasFrom 0 l) j (omega (arith, count-places 0 l))) (i j (omega arith))
+
+-- ---- the same by `commaAt`
+
+getD-any : (ps : List ℕ) (j x y : ℕ) → j < length ps → getD ps j x ≡ getD ps j y
+getD-any [] j x y h = absurd (omega arith)
+getD-any (p ∷ ps) zero x y h = refl
+getD-any (p ∷ ps) (suc j) x y h = getD-any ps j x y (omega arith)
+
+getD-past : (ps : List ℕ) (j x : ℕ) → length ps ≤ j → getD ps j x ≡ x
+getD-past [] j x h = refl
+getD-past (p ∷ ps) zero x h = absurd (omega arith)
+getD-past (p ∷ ps) (suc j) x h = getD-past ps j x (omega arith)
+
+module _ (l : List ℕ) where
+  pub comma-last : (j : ℕ) → commaCount l ≤ j → commaAt l j ≡ length l
+  unfolding commaAt
+  comma-last j h = getD-past (commasFrom 0 l) j (length l) (omega (arith, count-places 0 l))
+
+  comma-is : (j : ℕ) → j < commaCount l → commaAt l j ≡ getD (commasFrom 0 l) j 0
+  unfolding commaAt
+  comma-is j h = getD-any (commasFrom 0 l) j (length l) 0 (omega (arith, count-places 0 l))
+
+  pub comma-less : (j : ℕ) → j < commaCount l → commaAt l j < length l
+  comma-less j h = omega (arith, comma-is j h, comma-inside l j h)
+
+  pub comma-le : (j : ℕ) → commaAt l j ≤ length l
+  comma-le j = go (decLt j (commaCount l))
+    where
+      go : Dec (j < commaCount l) → commaAt l j ≤ length l
+      go (yes k) = omega (arith, comma-less j k)
+      go (no k) = omega (arith, comma-last j (omega arith))
+
+  pub comma-byte : (j : ℕ) → j < commaCount l → getD l (commaAt l j) 0 ≡ 0x2c
+  comma-byte j h = ap (λ (i : ℕ). getD l i 0) (comma-is j h) ∙ comma-here l j h
+
+  -- the record's number
+  pub number-part : getD (itemsOf l) 0 [] ≡ part l 0 (commaAt l 0)
+  unfolding commaAt startOf
+  number-part = item-by l 0 (omega arith)
+
+  -- item number j behind it
+  module _ (j : ℕ) (h : 1 ≤ j) (k : j ≤ commaCount l) where
+    pub comma-next : commaAt l (j - 1) < commaAt l j
+    comma-next = go (decLt j (commaCount l))
+      where
+        z : suc (j - 1) ≡ j
+        z = omega arith
+
+        go : Dec (j < commaCount l) → commaAt l (j - 1) < commaAt l j
+        go (yes m) =
+            let o : getD (commasFrom 0 l) (j - 1) 0 < getD (commasFrom 0 l) j 0 =
+            subst (λ (x : ℕ). getD (commasFrom 0 l) (j - 1) 0 < getD (commasFrom 0 l) x 0) z (comma-order l (j - 1) (omega arith)) in
+            omega (arith, comma-is (j - 1) (omega arith), comma-is j m, o)
+        go (no m) = omega (arith, comma-less (j - 1) (omega arith), comma-last j (omega arith))
+
+    pub item-part : getD (itemsOf l) j [] ≡ part l (commaAt l (j - 1) + 1) (commaAt l j)
+    unfolding commaAt startOf
+    item-part = item-by l j k ∙ ap (λ (x : ℕ). part l x (getD (commasFrom 0 l) j (length l))) (go j h k)
+      where
+        go : (j : ℕ) → 1 ≤ j → j ≤ commaCount l → startOf (commasFrom 0 l) j ≡ getD (commasFrom 0 l) (j - 1) (length l) + 1
+        go zero h k = absurd (omega arith)
+        go (suc j) h k =
+            let z : suc j - 1 ≡ j = omega arith in
+            omega (arith, getD-any (commasFrom 0 l) j 0 (length l) (omega (arith, count-places 0 l)), ap (λ (x : ℕ). getD (commasFrom 0 l) x (length l)) z)
 
 -- ---- the ways through number_end
 
@@ -247,55 +308,61 @@ module _ {s stops : List ℕ} {n : ℕ} (v : Spanned s stops n) where
   pub span-none : (j : ℕ) → n < j → SpanAt s j (record { from = 0; to = 0 })
   span-none j h = record { says = sym (no-item (itemsOf s) j (omega (arith, items-count s, v .commas .is))); low = omega arith; high = omega arith }
 
+  -- the places that the code has
+  pub stop-is : (j : ℕ) → j < n → getD stops j 0 ≡ commaAt s j
+  stop-is j h = v .places .here j (omega (arith, count-places 0 s, v .commas .is)) (omega (arith, v .few)) ∙ sym (comma-is s j (omega (arith, v .commas .is)))
+
+  pub stop-last : (j : ℕ) → n ≤ j → commaAt s j ≡ length s
+  stop-last j h = comma-last s j (omega (arith, v .commas .is))
+
   module _ (j : ℕ) (h : 1 ≤ j) (k : j ≤ n) where
-    in-front : (j - 1 < length (commasFrom 0 s)) × (j - 1 < 16)
-    in-front = (omega (arith, count-places 0 s, v .commas .is), omega (arith, v .few))
-
-    front-is : getD stops (j - 1) 0 ≡ getD (commasFrom 0 s) (j - 1) 0
-    front-is = v .places .here (j - 1) (in-front .0) (in-front .1)
-
     pub front-inside : getD stops (j - 1) 0 < length s
-    front-inside = omega (arith, front-is, comma-inside s (j - 1) (omega (arith, v .commas .is)))
+    front-inside = omega (arith, stop-is (j - 1) (omega arith), comma-less s (j - 1) (omega (arith, v .commas .is)))
 
     pub span-index : j - 1 < length stops
     span-index = omega (arith, v .few, v .size .is)
 
-    start-is : startOf (commasFrom 0 s) j ≡ getD stops (j - 1) 0 + 1
-    unfolding startOf
-    start-is = go j h front-is
-      where
-        go : (j : ℕ) → 1 ≤ j → getD stops (j - 1) 0 ≡ getD (commasFrom 0 s) (j - 1) 0 → startOf (commasFrom 0 s) j ≡ getD stops (j - 1) 0 + 1
-        go zero h e = absurd (omega arith)
-        go (suc j) h e =
-            let z : suc j - 1 ≡ j = omega arith in
-            let y : getD stops (suc j - 1) 0 ≡ getD (commasFrom 0 s) j 0 = e ∙ ap (λ (k : ℕ). getD (commasFrom 0 s) k 0) z in
-            omega (arith, y)
-
-    item-is : getD (itemsOf s) j [] ≡ part s (getD stops (j - 1) 0 + 1) (endOf (commasFrom 0 s) (length s) j)
-    item-is = item-by s j (omega (arith, v .commas .is)) ∙ ap (λ (x : ℕ). part s x (endOf (commasFrom 0 s) (length s) j)) start-is
+    spanned : {a e : ℕ} → a ≡ commaAt s (j - 1) → e ≡ commaAt s j → SpanAt s j (record { from = a + 1; to = e })
+    spanned p q =
+        let c : j ≤ commaCount s = omega (arith, v .commas .is) in
+        record {
+          says = ap₂ (λ (x y : ℕ). part s (x + 1) y) p q ∙ sym (item-part s j h c);
+          low = omega (arith, p, q, comma-next s j h c);
+          high = omega (arith, q, comma-le s j);
+        }
 
     pub span-mid : j < n → SpanAt s j (record { from = getD stops (j - 1) 0 + 1; to = getD stops j 0 })
-    unfolding endOf
-    span-mid m =
-        let q : j < length (commasFrom 0 s) = omega (arith, count-places 0 s, v .commas .is) in
-        let e : getD stops j 0 ≡ getD (commasFrom 0 s) j 0 = v .places .here j q (omega (arith, v .few)) in
-        let z : suc (j - 1) ≡ j = omega arith in
-        let o : getD (commasFrom 0 s) (j - 1) 0 < getD (commasFrom 0 s) j 0 =
-        subst (λ (x : ℕ). getD (commasFrom 0 s) (j - 1) 0 < getD (commasFrom 0 s) x 0) z (comma-order s (j - 1) (omega (arith, v .commas .is))) in
-        record {
-          says = sym (item-is ∙ ap (λ (x : ℕ). part s (getD stops (j - 1) 0 + 1) x) (rw (le-leb (suc j) (length (commasFrom 0 s)) q) (sym e)));
-          low = omega (arith, front-is, e, o);
-          high = omega (arith, e, comma-inside s j (omega (arith, v .commas .is)));
-        }
+    span-mid m = spanned (stop-is (j - 1) (omega arith)) (stop-is j m)
 
     pub span-last : n ≤ j → SpanAt s j (record { from = getD stops (j - 1) 0 + 1; to = length s })
-    unfolding endOf
-    span-last m =
-        let q : length (commasFrom 0 s) < suc j = omega (arith, count-places 0 s, v .commas .is) in
-        record {
-          says = sym (item-is ∙ ap (λ (x : ℕ). part s (getD stops (j - 1) 0 + 1) x) (rw (lt-leb (suc j) (length (commasFrom 0 s)) q)));
-          low = omega (arith, front-inside);
-          high = omega arith;
-        }
+    span-last m = spanned (stop-is (j - 1) (omega arith)) (sym (stop-last j m))
 
-pub ruleset span-laws = (span-none, span-index, span-mid, span-last)
+    pub between-mid : j < n → Between s j (record { from = getD stops (j - 1) 0 + 1; to = getD stops j 0 })
+    between-mid m = record { begins = omega (arith, stop-is (j - 1) (omega arith)); ends = stop-is j m }
+
+    pub between-last : n ≤ j → Between s j (record { from = getD stops (j - 1) 0 + 1; to = length s })
+    between-last m = record { begins = omega (arith, stop-is (j - 1) (omega arith)); ends = sym (stop-last j m) }
+
+pub ruleset span-laws = (span-none, span-index, span-mid, span-last, between-mid, between-last)
+
+-- ---- an item as a span of the file
+
+pub item-in : (s : List ℕ) (at e j : ℕ) {stops : List ℕ} {n : ℕ} {r : Span} → LineIn s at e stops n → SpanAt (take (e - at) (drop at s)) j r → Between (take (e - at) (drop at s)) j r
+    → ItemIn s at e j (record { from = at + r .from; to = at + r .to })
+item-in s at e j {stops} {n} {r} v x y =
+    let h : at + r .to ≤ e = omega (arith, x .high, part-length s at e (v .low) (v .high), v .low) in
+    record {
+      says = sym (part-part s at e (r .from) (r .to) (x .low) h) ∙ x .says;
+      begins = ap (λ (k : ℕ). at + k) (y .begins);
+      ends = ap (λ (k : ℕ). at + k) (y .ends);
+      low = omega (arith, x .low);
+      high = h;
+    }
+
+-- before it stands its comma
+pub item-comma : {s stops : List ℕ} {at e n : ℕ} → LineIn s at e stops n → (j : ℕ) → ItemOf j n → {r : Span} → ItemIn s at e j r → getD s (r .from - 1) 0 ≡ 0x2c
+item-comma {s} {stops} {at} {e} v j k {r} x =
+    let c : j - 1 < commaCount (part s at e) = omega (arith, v .spans .commas .is, k .low, k .high) in
+    let i : commaAt (part s at e) (j - 1) < length (part s at e) = comma-less (part s at e) (j - 1) c in
+    let z : r .from - 1 ≡ at + commaAt (part s at e) (j - 1) = omega (arith, x .begins) in
+    ap (λ (p : ℕ). getD s p 0) z ∙ sym (part-at s at e (commaAt (part s at e) (j - 1)) (omega (arith, i, part-length s at e (v .low) (v .high)))) ∙ comma-byte (part s at e) (j - 1) c

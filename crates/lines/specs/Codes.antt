@@ -1,6 +1,6 @@
 -- Vocabulary of the code.
 -- A line by its items at positions, and its pairs and facts by the bytes of the items: what the functions of src/lib.rt take and answer.
-use Prim.Native.Nat.{ℕ, _≤_}
+use Prim.Native.Nat.{ℕ, _+_, _-_, _≤_}
 use mathlib.Core.Path.{_≡_}
 use mathlib.Core.Bool.{Bool, true, false, cond, not, _&&_}
 use mathlib.Core.List.{List, [], _∷_}
@@ -9,7 +9,7 @@ use lib.ListN.{length, getD}
 use Rattle.lists.specs.Lists.{empty, member}
 use Rattle.lists.specs.Searching.{part}
 use Rattle.digits.specs.Digits.{number}
-use Rattle.characters.specs.Scanning.{commaCount}
+use Rattle.characters.specs.Scanning.{commaCount, commasFrom}
 use Rattle.scanning.specs.Scans.{Stops, Sixteen}
 use Rattle.calendar.specs.Era.{readDay}
 use Rattle.order.specs.declared.Facts.{Facts}
@@ -23,6 +23,10 @@ use Rattle.lines.specs.declared.Usage.{Usage}
 use Rattle.lines.specs.declared.Details.{Details}
 
 -- ---- items at positions
+
+-- where comma number j of a line stands, from 0; its end where there is none
+unfoldable pub commaAt : List ℕ → ℕ → ℕ
+commaAt l j = getD (commasFrom 0 l) j (length l)
 
 -- n is the number of commas of a line
 pub record Commas (s : List ℕ) (n : ℕ) : Type 0 where
@@ -40,6 +44,30 @@ pub record SpanAt (s : List ℕ) (j : ℕ) (r : Span) : Type 0 where
   pub says : part s (r .from) (r .to) ≡ getD (itemsOf s) j []
   pub low : r .from ≤ r .to
   pub high : r .to ≤ length s
+
+-- it goes from behind its comma to the next one or the end
+pub record Between (s : List ℕ) (j : ℕ) (r : Span) : Type 0 where
+  pub begins : r .from ≡ commaAt s (j - 1) + 1
+  pub ends : r .to ≡ commaAt s j
+
+-- a line from at to e of a file, its commas and their places
+pub record LineIn (s : List ℕ) (at e : ℕ) (stops : List ℕ) (n : ℕ) : Type 0 where
+  pub spans : Spanned (part s at e) stops n
+  pub low : at ≤ e
+  pub high : e ≤ length s
+
+-- j is the number of an item behind the record's number
+pub record ItemOf (j n : ℕ) : Type 0 where
+  pub low : 1 ≤ j
+  pub high : j ≤ n
+
+-- r is item number j of that line as a span of the file
+pub record ItemIn (s : List ℕ) (at e j : ℕ) (r : Span) : Type 0 where
+  pub says : part s (r .from) (r .to) ≡ getD (itemsOf (part s at e)) j []
+  pub begins : r .from ≡ at + (commaAt (part s at e) (j - 1) + 1)
+  pub ends : r .to ≡ at + commaAt (part s at e) j
+  pub low : r .from ≤ r .to
+  pub high : r .to ≤ e
 
 -- ---- pairs and facts by the bytes of the items behind the number
 

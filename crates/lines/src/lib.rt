@@ -12,7 +12,7 @@ ghost use Rattle.scanning.specs.Scans.{Stops, Sixteen, RunOf};
 ghost use Rattle.records.specs.Records.{orEmpty, isNum, itemsFault};
 ghost use Rattle.lines.specs.Found.{NumberedAs, LineEndsIf, QuickItems, QuickOf, FoundOf, ReadOf};
 ghost use Rattle.codes.specs.Codes.{Lent, InCodes, sliceOf};
-ghost use Rattle.lines.specs.Codes.{Commas, Spanned, SpanAt, quantity, codeRaw, formRaw, rpRaw, dayRaw, detailsRaw, bareDetails, otherDetails, usageRaw};
+ghost use Rattle.lines.specs.Codes.{Commas, Spanned, SpanAt, Between, LineIn, ItemOf, ItemIn, quantity, codeRaw, formRaw, rpRaw, dayRaw, detailsRaw, bareDetails, otherDetails, usageRaw};
 
 // ---- items at positions
 
@@ -22,11 +22,12 @@ pub struct Span {
 }
 
 // Item number j of a line, from 1 behind the record's number. n: the line's commas; stops: their places.
-pub fn span_within(stops: &[usize; 16], n: usize, s: &[u8], j: usize) -> Span
+fn span_within(stops: &[usize; 16], n: usize, s: &[u8], j: usize) -> Span
     requires { ⌜ Spanned (now s) (now stops) n ⌝ }
     requires { ⌜ 1 ≤ j ⌝ }
     requires { ⌜ j ≤ n ⌝ }
-    ensures { λ r. ⌜ SpanAt (now (s .entry)) j r ⌝ }
+    ensures span { λ r. ⌜ SpanAt (now (s .entry)) j r ⌝ }
+    ensures places { λ r. ⌜ Between (now (s .entry)) j r ⌝ }
 {
     let before = j - 1;
     let from = stops[before] + 1;
@@ -39,7 +40,7 @@ pub fn span_within(stops: &[usize; 16], n: usize, s: &[u8], j: usize) -> Span
 }
 
 // The same, and nothing where there is none.
-pub fn item_span(stops: &[usize; 16], n: usize, s: &[u8], j: usize) -> Span
+fn item_span(stops: &[usize; 16], n: usize, s: &[u8], j: usize) -> Span
     requires { ⌜ Spanned (now s) (now stops) n ⌝ }
     requires { ⌜ 1 ≤ j ⌝ }
     ensures { λ r. ⌜ SpanAt (now (s .entry)) j r ⌝ }
@@ -48,6 +49,19 @@ pub fn item_span(stops: &[usize; 16], n: usize, s: &[u8], j: usize) -> Span
         return Span { from: 0, to: 0 };
     }
     span_within(stops, n, s, j)
+}
+
+// Item number j of the line from at to end of a file, as a span of the file.
+pub fn item_in(stops: &[usize; 16], n: usize, s: &[u8], at: usize, end: usize, j: usize) -> Span
+    requires { ⌜ LineIn (now s) at end (now stops) n ⌝ }
+    requires { ⌜ ItemOf j n ⌝ }
+    ensures { λ r. ⌜ ItemIn (now (s .entry)) at end j r ⌝ }
+{
+    let item = span_within(stops, n, &s[at..end], j);
+    Span {
+        from: at + item.from,
+        to: at + item.to,
+    }
 }
 
 // Where the record's number ends: at the first comma, or at the end.

@@ -10,8 +10,7 @@ use lib.Dec.{eqb}
 use lib.ListN.{length, take, drop, getD}
 use lib.Seq.{take-nil}
 use Rattle.lists.specs.Lists.{all, same}
-use Rattle.lists.specs.Searching.{part}
-use Rattle.lists.specs.Searching.{findFrom}
+use Rattle.lists.specs.Searching.{part, findFrom}
 use Rattle.lists.proofs.Tests.{both, same-true}
 use Rattle.lists.proofs.Parts.{part-length}
 use Rattle.lists.proofs.Loops.{find-low, find-high}

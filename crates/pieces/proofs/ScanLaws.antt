@@ -9,8 +9,7 @@ use lib.Dec.{leb, eqb}
 use lib.ListN.{length, take, drop, getD, length-take, length-drop, length-append}
 use lib.Seq.{take-at, getD-take, getD-drop}
 use Rattle.lists.specs.Lists.{same, upTo, is}
-use Rattle.lists.specs.Searching.{part}
-use Rattle.lists.specs.Searching.{findFrom}
+use Rattle.lists.specs.Searching.{part, findFrom}
 use Rattle.lists.proofs.Tests.{same-true}
 use Rattle.lists.proofs.Cuts.{upTo-hit, upTo-go, upTo-out, upTo-le}
 use Rattle.lists.proofs.Loops.{same-length}

@@ -21,16 +21,12 @@ use Rattle.calendar.proofs.Laws.{Plain}
 use Rattle.records.specs.Table.{table}
 use Rattle.records.specs.Split.{itemsOf, joined}
 use Rattle.records.specs.Items.{edge, oneWidth, prefecture, decimal, sized, fault, value}
-use Rattle.records.specs.Records.{Record, itemFault, itemValue, itemsFault, itemsValue, rowIn, rowOf, codePair, formPair, pairs, t911, recordFrom}
-use Rattle.records.specs.Reading.{Read}
-use Rattle.records.specs.Records.{faultFrom}
-use Rattle.records.specs.Records.{lineFault, recordOf}
-use Rattle.records.specs.Reading.{readLine}
+use Rattle.records.specs.Records.{Record, itemFault, itemValue, itemsFault, itemsValue, rowIn, rowOf, codePair, formPair, pairs, t911, recordFrom, faultFrom, lineFault, recordOf, 日分}
+use Rattle.records.specs.Reading.{Read, readLine}
 use Rattle.order.specs.declared.Facts.{Facts}
 use Rattle.notebook.specs.Facts.{factsOf}
 use Rattle.lists.proofs.Tests.{both}
 use Rattle.digits.proofs.Numbers.{digit-is, number-is}
-use Rattle.records.specs.Records.{日分}
 use Rattle.records.proofs.Splits.{NoComma, items-joined, weight, joined-length, AllChars, chars-joined, plain-chars, plain-no-comma}
 use Rattle.records.proofs.LineLaws.{reads}
 use Rattle.characters.specs.Rows.{lineEnd}

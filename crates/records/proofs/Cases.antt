@@ -6,8 +6,7 @@ use Rattle.characters.specs.Cells.{fullRow, partRow, allowed, isPair}
 use Rattle.calendar.specs.Era.{readDay}
 use Rattle.records.specs.Table.{table}
 use Rattle.records.specs.Items.{edge, oneWidth, seven, postal, prefecture, decimal, sized, fault, value as valueOf}
-use Rattle.records.specs.Records.{itemFault, itemValue, itemsFault, itemsValue, rowIn, rowOf, codePair, formPair, pairs}
-use Rattle.records.specs.Records.{t911, recordFrom, faultFrom, lineFault, header, isMark}
+use Rattle.records.specs.Records.{itemFault, itemValue, itemsFault, itemsValue, rowIn, rowOf, codePair, formPair, pairs, t911, recordFrom, faultFrom, lineFault, header, isMark}
 use Rattle.records.specs.Cases.{cases, allHold}
 
 pub cases-hold : T (allHold cases)

@@ -24,8 +24,7 @@ use Rattle.division.specs.Marks.{validID}
 use Rattle.division.specs.Cut.{cutting, listed, found, cutList, cutResult}
 use Rattle.division.specs.Join.{joinedFile, joinFile, joinResult}
 use Rattle.refusals.specs.Refusals.{Call, check, index, canonical, cut, join, resultOf, lent, limit, checkNumbers, writingNumbers, cutNumbers, joinNumbers, numbersOf}
-use Rattle.refusals.specs.Refusals.{given, Given, Answer, gives, refuses, IsResult}
-use Rattle.refusals.specs.Refusals.{Always-answered, Refusal-keeps, Zero-is-a-result, Large-first}
+use Rattle.refusals.specs.Refusals.{given, Given, Answer, gives, refuses, IsResult, Always-answered, Refusal-keeps, Zero-is-a-result, Large-first}
 use Rattle.refusals.proofs.Reading.{Refuses, without-line, file-refuses}
 use Rattle.refusals.proofs.Joining.{join-refuses}
 

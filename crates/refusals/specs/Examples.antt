@@ -9,8 +9,7 @@ use Rattle.lists.specs.Lists.{bytes, all, member}
 use Rattle.characters.specs.Rows.{endMark}
 use Rattle.notebook.specs.Samples.{smallFile}
 use Rattle.division.specs.Examples.{lines, ident}
-use Rattle.refusals.specs.Refusals.{Call, check, index, canonical, cut, join, replyOf, given, lineEnds}
-use Rattle.refusals.specs.Refusals.{checkNumbers, writingNumbers, cutNumbers, joinNumbers}
+use Rattle.refusals.specs.Refusals.{Call, check, index, canonical, cut, join, replyOf, given, lineEnds, checkNumbers, writingNumbers, cutNumbers, joinNumbers}
 
 -- ---- files, with the refusal that they have in every call
 

@@ -16,8 +16,7 @@ use Rattle.characters.specs.Cells.{isOne, isPair}
 use Rattle.characters.specs.declared.Char.{Char}
 use Rattle.characters.specs.declared.Char.the-variants.{One, Two, Bad}
 use Rattle.characters.specs.Text.{allChars, isStop, text}
-use Rattle.characters.specs.Scanning.{clean}
-use Rattle.characters.specs.Scanning.{charOf, charAt, commaCount, commasFrom}
+use Rattle.characters.specs.Scanning.{clean, charOf, charAt, commaCount, commasFrom}
 use Rattle.scanning.specs.Scans.{ScanOf, RunOf, RunEnds, Finished}
 use Rattle.scanning.proofs.TextLaws.{one-char, no-comma, lead-from-81, trail-from-40, lead-no-one, kept, Scanned, scan-start, scan-comma, scan-more, scan-stop, scan-bad, scan-end}
 use Rattle.characters.proofs.CharLaws.{chars-clean, pair-parts}

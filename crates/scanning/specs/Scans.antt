@@ -9,10 +9,8 @@ use lib.ListN.{length, drop, getD}
 use Rattle.lists.specs.Searching.{part}
 use Rattle.characters.specs.declared.Char.the-variants.{Bad}
 use Rattle.characters.specs.Text.{allChars, text}
-use Rattle.characters.specs.Scanning.{charAt, commaCount, commasFrom}
+use Rattle.characters.specs.Scanning.{charAt, commaCount, commasFrom, WholeLine, BrokenRow}
 use Rattle.characters.specs.Rows.{rows, endMark}
-use Rattle.characters.specs.Scanning.{WholeLine}
-use Rattle.characters.specs.Scanning.{BrokenRow}
 use Rattle.scanning.specs.declared.Scan.{Scan}
 use Rattle.scanning.specs.declared.Line.{Line}
 use Rattle.scanning.specs.declared.Line.the-variants.{Whole, Mark, End, Broken}

@@ -2,13 +2,12 @@
 use mathlib.Core.Path.{_≡_, refl, sym, ap, _∙_}
 use mathlib.Core.Bool.{Bool, true, false, not, false≢true}
 use mathlib.Core.List.{List, [], _∷_}
-use Rattle.lists.specs.Lists.{All}
+use Rattle.lists.specs.Lists.{All, bytes}
 use Rattle.lists.proofs.Tests.{both}
 use Rattle.order.specs.declared.Facts.{Facts}
 use Rattle.rules.specs.Places.{inGroup, mayFollow}
 use Rattle.rules.specs.Rules.{pairBroken, misplaced, continues, closesRp, lacking, missing, valueWrong, newerGroup, refusal, unfinished}
-use Rattle.order.specs.State.{none, start, hadAfter, advance, refusalOf, finishOf}
-use Rattle.lists.specs.Lists.{bytes}
+use Rattle.order.specs.State.{none, start, hadAfter, advance, refusalOf, finishOf, stepOf}
 use Rattle.digits.specs.Digits.{value as digitsValue, spell}
 use Rattle.characters.specs.Rows.{isLine}
 use Rattle.eras.specs.Day.{leap, monthLength, isReal, isDay}
@@ -17,9 +16,7 @@ use Rattle.eras.specs.Era.{eraOf, eraOn}
 use Rattle.calendar.specs.Era.{inEra, fromEra, readDay}
 use Rattle.records.specs.Table.{table}
 use Rattle.records.specs.Items.{edge, oneWidth, decimal, sized, fault, value}
-use Rattle.records.specs.Records.{itemFault, itemValue, itemsFault, itemsValue, rowIn, rowOf, pairs, t911, recordFrom, faultFrom, lineFault}
-use Rattle.records.specs.Records.{recordOf, header}
-use Rattle.order.specs.State.{stepOf}
+use Rattle.records.specs.Records.{itemFault, itemValue, itemsFault, itemsValue, rowIn, rowOf, pairs, t911, recordFrom, faultFrom, lineFault, recordOf, header}
 use Rattle.notebook.specs.Facts.{factsOf}
 use Rattle.notebook.specs.Notebook.{stepLine, closed, onward, recordsFrom, readRows, readFile}
 use Rattle.notebook.specs.Check.{count, checkResult}

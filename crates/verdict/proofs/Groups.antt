@@ -10,14 +10,12 @@ use lib.Dec.{leb, ltb, eqb}
 use borrow.Author.Tests.{le-leb, lt-leb, leb-true, leb-false}
 use Rattle.lists.proofs.Tests.{member-left, both}
 use Rattle.order.specs.declared.Facts.{Facts}
-use Rattle.rules.specs.Places.{inRp}
+use Rattle.rules.specs.Places.{inRp, inGroup, mayFollow}
 use Rattle.order.specs.State.{none as noHad, start}
-use Rattle.rules.specs.Places.{inGroup, mayFollow}
 use Rattle.rules.specs.Rules.{pairBroken, misplaced, continues, closesRp, lacking, missing, valueWrong, newerGroup, refusal, unfinished}
 use Rattle.grammar.specs.Grammar.{Details, Prescriptions, withoutDoctors, withDoctors, Group, Tree, rec, opt, any, plainRecords, laterRecords}
 use Rattle.grammar.specs.Grammar.{prescriptionsRecords, restRecords, groupsRecords, records, all, empty, stands, _⇒_, laterOnes, rps, no55}
-use Rattle.grammar.specs.Grammar.{scheduleOf, usageNamed, allNamed, names, oneValue, valuesFrom, values, noneNewer, days, each301, fromProvider}
-use Rattle.grammar.specs.Grammar.{common, also, good, Grammatical}
+use Rattle.grammar.specs.Grammar.{scheduleOf, usageNamed, allNamed, names, oneValue, valuesFrom, values, noneNewer, days, each301, fromProvider, common, also, good, Grammatical}
 use Rattle.verdict.proofs.Computed.{taut, In, here, there, at-each, among}
 use Rattle.verdict.proofs.Machine.{before, taken, runs, step, finish, accepts, coreOf, machine-core}
 use Rattle.verdict.proofs.Steps.{st, hd, frontPlaces, to401, to411, to501, to601, toEnd, headPlaces, rpOver, lacks, mayClose, treats, oneStood}

@@ -11,10 +11,8 @@ use borrow.Author.Tests.{ne-eqb, eqb-true}
 use Rattle.lists.proofs.Tests.{both, and-same}
 use Rattle.order.specs.declared.Facts.{Facts}
 use Rattle.rules.specs.Places.{inRp, inDrugs}
-use Rattle.grammar.specs.Grammar.{Details, Drug, Usage, Prescription, Later, rec, any, opt, drugsRecords, usageRecords, rpRecords, plainRecords}
-use Rattle.grammar.specs.Grammar.{laterRecords}
-use Rattle.grammar.specs.Grammar.{all, stands, _⇒_, laterOnes, nameAsked, usageNamed, allNamed, valued, drugValued, usageValued, oneValue}
-use Rattle.grammar.specs.Grammar.{valuesFrom, each301}
+use Rattle.grammar.specs.Grammar.{Details, Drug, Usage, Prescription, Later, rec, any, opt, drugsRecords, usageRecords, rpRecords, plainRecords, laterRecords}
+use Rattle.grammar.specs.Grammar.{all, stands, _⇒_, laterOnes, nameAsked, usageNamed, allNamed, valued, drugValued, usageValued, oneValue, valuesFrom, each301}
 use Rattle.verdict.proofs.Computed.{taut, In, here, there, every-at, among}
 use Rattle.verdict.proofs.Machine.{runs, step}
 use Rattle.verdict.proofs.Steps.{st, rpPlaces, drugPlaces, to401, treats, at-55, at-201, at-281, at-291, at-301, at-311, at-391}

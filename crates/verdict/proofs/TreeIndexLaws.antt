@@ -20,16 +20,13 @@ use Rattle.order.proofs.Laws.{taken}
 use Rattle.notebook.specs.Facts.{factsOf}
 use Rattle.notebook.specs.Index.{Entry, entryOf}
 use Rattle.notebook.proofs.Walk.{Walk, over, more, accepted}
-use Rattle.grammar.specs.Grammar.{Details, Drug, Usage, Prescription, Later, Prescriptions, withoutDoctors, withDoctors, Group, Tree, rec, opt, any}
-use Rattle.grammar.specs.Grammar.{drugRecords}
-use Rattle.grammar.specs.Grammar.{drugsRecords, usageRecords, rpRecords, plainRecords, laterRecords, prescriptionsRecords, restRecords, groupRecords}
-use Rattle.grammar.specs.Grammar.{groupsRecords, records}
+use Rattle.grammar.specs.Grammar.{Details, Drug, Usage, Prescription, Later, Prescriptions, withoutDoctors, withDoctors, Group, Tree, rec, opt, any, drugRecords}
+use Rattle.grammar.specs.Grammar.{drugsRecords, usageRecords, rpRecords, plainRecords, laterRecords, prescriptionsRecords, restRecords, groupRecords, groupsRecords, records}
 use Rattle.grammar.specs.TreeRows.{Row, row, bare, optRows, anyRows, drugRows, drugsRows, usageRows, rpRows, plainRows, underRows, laterRows}
-use Rattle.verdict.specs.TreeIndex.{Among, here, there, TreeSharesNone}
+use Rattle.verdict.specs.TreeIndex.{Among, here, there, TreeSharesNone, rowOf, IndexIsTheTrees, IsEntry, NoSharedDoctor}
 use Rattle.verdict.proofs.Computed.{taut}
 use Rattle.verdict.proofs.Verdict.{file-is-grammar}
 use Rattle.grammar.specs.TreeRows.{prescriptionsRows, restRows, groupRows, groupsRows, treeRows}
-use Rattle.verdict.specs.TreeIndex.{rowOf, IndexIsTheTrees, IsEntry, NoSharedDoctor}
 
 -- ---- the machine's rows, by the line, the count of groups, the doctor and the drug before a record
 

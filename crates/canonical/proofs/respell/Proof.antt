@@ -10,9 +10,6 @@ use Rattle.buffers.proofs.put_all.Reads as put-all-reads
 use Rattle.canonical.proofs.put_item.Reads as put-item-reads
 use Rattle.canonical.proofs.respelled.Reads as respelled-reads
 
-add-a : tie.Need-add-a
-add-a c = search needs
-
 sub-respelled : tie.Need-sub-respelled
 sub-respelled c = search needs
 
@@ -26,16 +23,16 @@ respelled-requires : tie.Need-respelled-requires
 respelled-requires c κs = search needs
 
 sub-put-all : tie.Need-sub-put-all
-sub-put-all c = search (needs, respell-laws)
+sub-put-all c = search needs
 
 part-put-all-start : tie.Need-part-put-all-start
-part-put-all-start c = search (needs, respell-laws)
+part-put-all-start c = search needs
 
 part-put-all-end : tie.Need-part-put-all-end
-part-put-all-end c = search (needs, respell-laws)
+part-put-all-end c = search needs
 
 put-all-requires : tie.Need-put-all-requires
-put-all-requires c κs = search (needs, respell-laws)
+put-all-requires c κs = search needs
 
 sub-put-item : tie.Need-sub-put-item
 sub-put-item c = search needs
@@ -62,7 +59,6 @@ pub respell-spec : {M : Type 1} → statement M
 respell-spec =
     tie.close
     (tie.spec
-    add-a
     sub-respelled
     part-respelled-start
     part-respelled-end

@@ -8,9 +8,6 @@ use Rattle.canonical.proofs.stays.Reads as reads
 use Rattle.canonical.proofs.stays.Lts as lts
 use Rattle.lists.proofs.byte_at.Reads as byte-at-reads
 
-add-byte-at : tie.Need-add-byte-at
-add-byte-at c = search needs
-
 byte-at-requires : tie.Need-byte-at-requires
 byte-at-requires c κs = search needs
 
@@ -21,4 +18,4 @@ returns-2 : tie.Need-returns-2
 returns-2 c = search (needs, stays-laws)
 
 pub stays-spec : {M : Type 1} → statement M
-stays-spec = tie.close (tie.spec add-byte-at byte-at-requires returns returns-2)
+stays-spec = tie.close (tie.spec byte-at-requires returns returns-2)

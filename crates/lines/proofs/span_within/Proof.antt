@@ -27,10 +27,10 @@ element-copy-out-to : tie.Need-element-copy-out-to
 element-copy-out-to c = search needs
 
 returns : tie.Need-returns
-returns c = search (needs, span-laws)
+returns c = (search (needs, span-laws), search (needs, span-laws))
 
 returns-2 : tie.Need-returns-2
-returns-2 c = search (needs, span-laws)
+returns-2 c = (search (needs, span-laws), search (needs, span-laws))
 
 pub span-within-spec : {M : Type 1} → statement M
 span-within-spec =
