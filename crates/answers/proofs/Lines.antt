@@ -14,7 +14,7 @@ use Rattle.lists.specs.Lists.{bytes}
 use Rattle.buffers.specs.Buffers.{Wrote}
 use Rattle.buffers.proofs.Runs.{sets-all, then}
 use Rattle.replies.specs.declared.Reply.{Reply}
-use Rattle.printing.specs.Printed.{decimal, numbers, line, printed, Prints}
+use Rattle.printing.specs.Printed.{decimal, spaced, line, printed, Prints}
 use Rattle.printing.proofs.Decimal.{decimal-one, decimal-more, decimal-twenty}
 
 -- the fewest digits that hold a number are its digits in decimal
@@ -52,36 +52,36 @@ module _ {d d₁ : List ℕ} {at r : ℕ} (n : ℕ) where
   room-left k h w g = omega (arith, decimal-twenty n h, w .next, w .size)
 
   -- one number more
-  number-more : {d₂ : List ℕ} {e : ℕ} (ns : List ℕ) → Wrote d d₁ at r (0x20 ∷ decimal n) → Wrote d₁ d₂ r e (numbers ns)
-      → Wrote d d₂ at e (numbers (n ∷ ns))
-  unfolding numbers
+  number-more : {d₂ : List ℕ} {e : ℕ} (ns : List ℕ) → Wrote d d₁ at r (0x20 ∷ decimal n) → Wrote d₁ d₂ r e (spaced ns)
+      → Wrote d d₂ at e (spaced (n ∷ ns))
+  unfolding spaced
   number-more ns x y = then x y
 
-no-number : {d : List ℕ} {at : ℕ} → at ≤ length d → Wrote d d at at (numbers [])
-unfolding numbers
+no-number : {d : List ℕ} {at : ℕ} → at ≤ length d → Wrote d d at at (spaced [])
+unfolding spaced
 no-number h = record { next = omega arith; list = refl; size = refl; high = h }
 
 module _ (a b c : ℕ) where
   pub none-wrote : (count : ℕ) {d : List ℕ} {at : ℕ} → count < 1 → at + 63 ≤ length d
-      → Wrote d d at at (numbers (take count (a ∷ b ∷ c ∷ [])))
+      → Wrote d d at at (spaced (take count (a ∷ b ∷ c ∷ [])))
   none-wrote zero h g = no-number (omega arith)
   none-wrote (suc count) h g = absurd (omega arith)
 
   module _ {d d₁ : List ℕ} {at i : ℕ} (x : Wrote d d₁ at i (0x20 ∷ decimal a)) where
-    pub one-wrote : (count : ℕ) → 1 ≤ count → count < 2 → Wrote d d₁ at i (numbers (take count (a ∷ b ∷ c ∷ [])))
+    pub one-wrote : (count : ℕ) → 1 ≤ count → count < 2 → Wrote d d₁ at i (spaced (take count (a ∷ b ∷ c ∷ [])))
     one-wrote zero h g = absurd (omega arith)
     one-wrote (suc zero) h g = number-more a [] x (no-number (omega (arith, x .high, x .size)))
     one-wrote (suc (suc count)) h g = absurd (omega arith)
 
     module _ {d₂ : List ℕ} {j : ℕ} (y : Wrote d₁ d₂ i j (0x20 ∷ decimal b)) where
-      pub two-wrote : (count : ℕ) → 2 ≤ count → count < 3 → Wrote d d₂ at j (numbers (take count (a ∷ b ∷ c ∷ [])))
+      pub two-wrote : (count : ℕ) → 2 ≤ count → count < 3 → Wrote d d₂ at j (spaced (take count (a ∷ b ∷ c ∷ [])))
       two-wrote zero h g = absurd (omega arith)
       two-wrote (suc zero) h g = absurd (omega arith)
       two-wrote (suc (suc zero)) h g = number-more a (b ∷ []) x (number-more b [] y (no-number (omega (arith, y .high, y .size))))
       two-wrote (suc (suc (suc count))) h g = absurd (omega arith)
 
       pub three-wrote : (count : ℕ) {d₃ : List ℕ} {k : ℕ} → 3 ≤ count → Wrote d₂ d₃ j k (0x20 ∷ decimal c)
-          → Wrote d d₃ at k (numbers (take count (a ∷ b ∷ c ∷ [])))
+          → Wrote d d₃ at k (spaced (take count (a ∷ b ∷ c ∷ [])))
       three-wrote zero h z = absurd (omega arith)
       three-wrote (suc zero) h z = absurd (omega arith)
       three-wrote (suc (suc zero)) h z = absurd (omega arith)
@@ -91,8 +91,8 @@ module _ (a b c : ℕ) where
           number-more a (b ∷ c ∷ []) x (number-more b (c ∷ []) y (number-more c [] z (no-number (omega (arith, z .high, z .size)))))
 
   module _ (p : a ≤ 18446744073709551615) (q : b ≤ 18446744073709551615) (r : c ≤ 18446744073709551615) where
-    pub numbers-short : (count : ℕ) → length (numbers (take count (a ∷ b ∷ c ∷ []))) ≤ 63
-    unfolding numbers
+    pub numbers-short : (count : ℕ) → length (spaced (take count (a ∷ b ∷ c ∷ []))) ≤ 63
+    unfolding spaced
     numbers-short zero = omega arith
     numbers-short (suc zero) = rw length-append (omega (arith, decimal-twenty a p))
     numbers-short (suc (suc zero)) = simp length-append (omega (arith, decimal-twenty a p, decimal-twenty b q))
@@ -101,8 +101,8 @@ module _ (a b c : ℕ) where
 
 -- ---- a line
 
-module _ {d d₁ d₂ : List ℕ} {i j : ℕ} {word : List ℕ} (ns : List ℕ) (x : Wrote d d₁ 0 i word) (y : Wrote d₁ d₂ i j (numbers ns)) where
-  pub end-room : length word ≡ 2 → length (numbers ns) ≤ 63 → 66 ≤ length d → j + 1 ≤ length d₂
+module _ {d d₁ d₂ : List ℕ} {i j : ℕ} {word : List ℕ} (ns : List ℕ) (x : Wrote d d₁ 0 i word) (y : Wrote d₁ d₂ i j (spaced ns)) where
+  pub end-room : length word ≡ 2 → length (spaced ns) ≤ 63 → 66 ≤ length d → j + 1 ≤ length d₂
   end-room w h g = omega (arith, x .next, x .size, y .next, y .size)
 
   pub line-wrote : {d₃ : List ℕ} {k : ℕ} → Wrote d₂ d₃ j k (0x0a ∷ []) → Wrote d d₃ 0 k (line word ns)

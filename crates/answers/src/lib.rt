@@ -5,7 +5,7 @@ ghost use Prim.Native.Nat.{_+_, _≤_};
 ghost use lib.ListN.{length, take};
 ghost use Rattle.io.specs.Counts.{Counts};
 ghost use Rattle.buffers.specs.Buffers.{Wrote};
-ghost use Rattle.printing.specs.Printed.{decimal, numbers, line, Prints};
+ghost use Rattle.printing.specs.Printed.{decimal, spaced, line, Prints};
 use libc::STDOUT_FILENO;
 use replies::Reply;
 
@@ -23,7 +23,7 @@ fn put_number(out: &mut [u8], at: usize, n: u64) -> usize
 // The first of three numbers, as many as are asked for.
 fn put_numbers(out: &mut [u8], at: usize, count: usize, a: u64, b: u64, c: u64) -> usize
     requires { ⌜ at + 63 ≤ length (now out) ⌝ }
-    ensures { λ r. ⌜ Wrote (now (out .entry)) (now (out .exit)) at r (numbers (take count (a ∷ b ∷ c ∷ []))) ⌝ }
+    ensures { λ r. ⌜ Wrote (now (out .entry)) (now (out .exit)) at r (spaced (take count (a ∷ b ∷ c ∷ []))) ⌝ }
 {
     if count < 1 {
         return at;

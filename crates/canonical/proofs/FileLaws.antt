@@ -24,7 +24,7 @@ use Rattle.records.specs.Records.{Record, recordOf, lineFault, write}
 use Rattle.records.proofs.LineLaws.{line-good}
 use Rattle.order.specs.declared.State.{State}
 use Rattle.order.specs.declared.Moved.{Moved}
-use Rattle.order.specs.declared.Moved.the-variants.{Refused as StepRefused, On}
+use Rattle.order.specs.declared.Moved.the-variants.{Fault as StepRefused, On}
 use Rattle.order.specs.State.{start, finishOf}
 use Rattle.order.specs.Room.{Room as Countable}
 use Rattle.order.proofs.Laws.{next-line, room, room-start, line-start}

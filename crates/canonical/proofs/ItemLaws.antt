@@ -21,7 +21,7 @@ use Rattle.calendar.specs.declared.Day.{Day}
 use Rattle.calendar.specs.Era.{readDay}
 use Rattle.eras.specs.Era.{writeDay}
 use Rattle.records.specs.Table.{Kind, N, U, X, A, F, C, P, R, W, Q, D, among}
-use Rattle.records.specs.Items.{text, writeValue, numberFault, numberValue, dayFault, dayValue, unhyphened, seven, postal, fault, value}
+use Rattle.records.specs.Items.{raw, writeValue, numberFault, numberValue, dayFault, dayValue, unhyphened, seven, postal, fault, valueOf}
 use Rattle.records.specs.Records.{itemValue}
 use Rattle.items.specs.Codes.{setOf, kindOf}
 use Rattle.buffers.specs.Buffers.{Room, Wrote}
@@ -122,7 +122,7 @@ pub ruleset day-laws = (day-room, day-wrote, day-empty)
 
 -- a kind that has one spelling
 record OneSpelling (s : List ℕ) (k : Kind) : Type 0 where
-  is : value k s ≡ text s
+  is : valueOf k s ≡ raw s
 
 either-kind : {s : List ℕ} {x y : Kind} (b : Bool) → OneSpelling s x → OneSpelling s y → OneSpelling s (cond b x y)
 either-kind true p q = p
@@ -130,18 +130,18 @@ either-kind false p q = q
 
 -- all kinds but P, R and D
 one-spelling : (s : List ℕ) (k m : ℕ) → (k ≡ 6 → ⊥) → (k ≡ 7 → ⊥) → (k ≡ 10 → ⊥) → OneSpelling s (kindOf k m)
-unfolding kindOf value
+unfolding kindOf valueOf
 one-spelling s k m p r d =
     rw (ne-eqb k 6 p, ne-eqb k 7 r, ne-eqb k 10 d)
     (either-kind (eqb k 0) (kept (N m) refl) (either-kind (eqb k 1) (kept (U m) refl) (either-kind (eqb k 2) (kept (X m) refl)
     (either-kind (eqb k 3) (kept A refl) (either-kind (eqb k 4) (kept F refl) (either-kind (eqb k 5) (kept C refl)
     (either-kind (eqb k 8) (kept W refl) (either-kind (eqb k 9) (kept Q refl) (kept (among (setOf m)) refl)))))))))
   where
-    kept : (x : Kind) → value x s ≡ text s → OneSpelling s x
+    kept : (x : Kind) → valueOf x s ≡ raw s → OneSpelling s x
     kept x e = record { is = e }
 
 -- an item that is empty is written as nothing
-by-kind : (c : ℕ) (s w : List ℕ) → (empty s ≡ true → w ≡ []) → (empty s ≡ false → writeValue (value (kindOf (c / 4 % 16) (c / 64)) s) ≡ w) → itemBytes c s ≡ w
+by-kind : (c : ℕ) (s w : List ℕ) → (empty s ≡ true → w ≡ []) → (empty s ≡ false → writeValue (valueOf (kindOf (c / 4 % 16) (c / 64)) s) ≡ w) → itemBytes c s ≡ w
 unfolding itemBytes itemValue
 by-kind c [] w h g = sym (h refl)
 by-kind c (x ∷ s) w h g = g refl
@@ -193,16 +193,16 @@ kind-day k m e = rw e
 
 module _ (c : ℕ) (s : List ℕ) where
   item-postal : Spellable c s → c / 4 % 16 ≡ 6 → itemBytes c s ≡ postalBytes s
-  unfolding fault value
+  unfolding fault valueOf
   item-postal g e =
       by-kind c s (postalBytes s) (postal-empty s) (λ h. rw (kind-postal (c / 4 % 16) (c / 64) e) (postal-spelled s (unless-zero (postal s) 10 (rw (kind-postal (c / 4 % 16) (c / 64) e) at (g .good h)))))
 
   item-number : c / 4 % 16 ≡ 7 → itemBytes c s ≡ numberBytes s
-  unfolding value numberBytes
+  unfolding valueOf numberBytes
   item-number e = by-kind c s (numberBytes s) (number-blank s) (λ h. rw (kind-number (c / 4 % 16) (c / 64) e))
 
   item-day : c / 4 % 16 ≡ 10 → itemBytes c s ≡ dayBytes s
-  unfolding value dayBytes
+  unfolding valueOf dayBytes
   item-day e = by-kind c s (dayBytes s) (day-blank s) (λ h. rw (kind-day (c / 4 % 16) (c / 64) e))
 
   item-kept : (c / 4 % 16 ≡ 6 → ⊥) → (c / 4 % 16 ≡ 7 → ⊥) → (c / 4 % 16 ≡ 10 → ⊥) → itemBytes c s ≡ s

@@ -18,7 +18,7 @@ use Rattle.characters.specs.Rows.{lineEnd}
 use Rattle.records.specs.Table.{Item, table}
 use Rattle.records.specs.Split.{itemsOf, joined}
 use Rattle.records.specs.Items.{writeValue}
-use Rattle.records.specs.Records.{itemValue, itemFault, itemsFault, itemsValue, rowOf, recordFrom, recordOf, write}
+use Rattle.records.specs.Records.{itemValue, itemFault, itemsFault, itemsValue, tableRow, recordFrom, recordOf, write}
 use Rattle.records.proofs.LineLaws.{row-spelled, Good, line-good}
 use Rattle.items.specs.Codes.{itemOf}
 use Rattle.codes.specs.Codes.{codes, RowCode, places, placeIn, sliceOf, placeOf, Lent, InCodes}
@@ -389,25 +389,25 @@ record Parts (number : ℕ) (s : List ℕ) (place : ℕ) : Type 0 where
   row : write (recordOf s) ≡ head ++ tailOf (sliceOf place) rest
 
 parts : (number : ℕ) (s : List ℕ) {place : ℕ} → Sound number s → place ≡ placeOf number → InCodes place → Parts number s place
-unfolding recordOf recordFrom write rowOf
+unfolding recordOf recordFrom write tableRow
 parts number s {place} v p c =
     let g : Good (v .provider) s (recordOf s) = line-good (v .provider) s (v .good) in
     let h : List ℕ = g .head in
-    let t : RowAt (plainNumber h) (rowOf h) (placeOf (plainNumber h)) = row-of h in
-    let l : leb 1 ((rowOf h) .number) ≡ true = g .sound .listed in
-    let m : (rowOf h) .number ≡ plainNumber h = t .number (sym (t .listed) ∙ l) in
-    let n : (recordOf s) .number ≡ (rowOf h) .number = ap (λ (x : List (List ℕ)). recordFrom x .number) (g .cut) in
+    let t : RowAt (plainNumber h) (tableRow h) (placeOf (plainNumber h)) = row-of h in
+    let l : leb 1 ((tableRow h) .number) ≡ true = g .sound .listed in
+    let m : (tableRow h) .number ≡ plainNumber h = t .number (sym (t .listed) ∙ l) in
+    let n : (recordOf s) .number ≡ (tableRow h) .number = ap (λ (x : List (List ℕ)). recordFrom x .number) (g .cut) in
     let q : placeOf (plainNumber h) ≡ place = ap placeOf (sym (v .number ∙ n ∙ m)) ∙ sym p in
-    let i : (rowOf h) .items ≡ sliceOf place = t .items ∙ ap sliceOf q in
+    let i : (tableRow h) .items ≡ sliceOf place = t .items ∙ ap sliceOf q in
     record {
       head = h;
       rest = g .rest;
       cut = g .cut;
       count = g .sound .count ∙ ap length i ∙ slice-length place c;
-      items = subst (λ (x : List Item). AllSpellable x (g .rest)) i (all-spellable (v .provider) ((rowOf h) .items) (g .rest) (g .sound .items));
+      items = subst (λ (x : List Item). AllSpellable x (g .rest)) i (all-spellable (v .provider) ((tableRow h) .items) (g .rest) (g .sound .items));
       row = ap (λ (x : List (List ℕ)). write (recordFrom x)) (g .cut)
-          ∙ ap (λ (x : List ℕ). joined x (map writeValue (itemsValue ((rowOf h) .items) (g .rest)))) (sym (row-spelled h table l))
-          ∙ values-tail h ((rowOf h) .items) (g .rest) ∙ ap (λ (x : List Item). h ++ tailOf x (g .rest)) i;
+          ∙ ap (λ (x : List ℕ). joined x (map writeValue (itemsValue ((tableRow h) .items) (g .rest)))) (sym (row-spelled h table l))
+          ∙ values-tail h ((tableRow h) .items) (g .rest) ∙ ap (λ (x : List Item). h ++ tailOf x (g .rest)) i;
     }
 
 module _ (s : List ℕ) (at e : ℕ) {number : ℕ} (v : Sound number (take (e - at) (drop at s))) where

@@ -24,7 +24,7 @@ use Rattle.characters.proofs.RowLaws.{line-is, line-text, line-no-mark}
 use Rattle.records.specs.Records.{Record, recordOf}
 use Rattle.order.specs.declared.State.{State}
 use Rattle.order.specs.declared.Moved.{Moved}
-use Rattle.order.specs.declared.Moved.the-variants.{Refused as StepRefused, On}
+use Rattle.order.specs.declared.Moved.the-variants.{Fault as StepRefused, On}
 use Rattle.order.specs.State.{start, finishOf, advance}
 use Rattle.order.specs.Room.{Room}
 use Rattle.order.proofs.Laws.{next-line, room, room-start, line-start}

@@ -13,7 +13,7 @@ use Rattle.records.specs.Records.{lineFault}
 use Rattle.order.specs.declared.State.{State}
 use Rattle.order.specs.declared.Facts.{Facts}
 use Rattle.order.specs.declared.Moved.{Moved}
-use Rattle.order.specs.declared.Moved.the-variants.{Refused as StepRefused, On as StepOn}
+use Rattle.order.specs.declared.Moved.the-variants.{Fault as StepRefused, On as StepOn}
 use Rattle.order.specs.State.{stepOf}
 use Rattle.notebook.specs.Notebook.{stepLine}
 use Rattle.lines.specs.Codes.{Commas}

@@ -9,7 +9,7 @@ use Rattle.scanning.specs.declared.Line.the-variants.{Whole, Broken}
 use Rattle.scanning.specs.Scans.{Sixteen, LineOf}
 use Rattle.order.specs.declared.State.{State}
 use Rattle.order.specs.declared.Moved.{Moved}
-use Rattle.order.specs.declared.Moved.the-variants.{Refused as StepRefused, On as StepOn}
+use Rattle.order.specs.declared.Moved.the-variants.{Fault as StepRefused, On as StepOn}
 use Rattle.checking.specs.declared.Turn.{Turn}
 use Rattle.checking.specs.declared.Turn.the-variants.{On, Refused, Over}
 use Rattle.notebook.specs.Notebook.{stepLine}

@@ -85,7 +85,7 @@ pub fn read_record(
         lines::LineRead::Over => Turn::Over,
         lines::LineRead::Fault(n) => Turn::Refused(n),
         lines::LineRead::Record(facts, end, commas) => match st.step(facts) {
-            order::Moved::Refused(n) => Turn::Refused(n),
+            order::Moved::Fault(n) => Turn::Refused(n),
             order::Moved::On(next, rp, doctor) => Turn::On(next, rp, doctor, end, commas),
         },
     }

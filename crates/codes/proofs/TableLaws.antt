@@ -12,7 +12,7 @@ use Rattle.lists.proofs.Tests.{both}
 use Rattle.digits.specs.Short.{plainNumber}
 use Rattle.digits.proofs.Spelling.{same-spell}
 use Rattle.records.specs.Table.{Row, table}
-use Rattle.records.specs.Records.{rowIn, rowOf, noRow}
+use Rattle.records.specs.Records.{rowIn, tableRow, noRow}
 use Rattle.items.specs.Codes.{itemOf, kindOf}
 use Rattle.items.proofs.SetLaws.{small, small-is}
 use Rattle.codes.specs.Codes.{codes, sliceOf, RowCode, places, placeIn, placeOf, InCodes}
@@ -42,8 +42,8 @@ small-rows : allRows smallRow table ≡ true
 unfolding allRows table
 small-rows = refl
 
-pub row-of-number : (s : List ℕ) → rowOf s ≡ rowBy table (plainNumber s)
-unfolding rowOf
+pub row-of-number : (s : List ℕ) → tableRow s ≡ rowBy table (plainNumber s)
+unfolding tableRow
 row-of-number s = row-by table s small-rows
 
 -- the rows' numbers and items are those of the codes
@@ -78,7 +78,7 @@ row-at (r ∷ rs) (c ∷ cs) n (e, i, l, h) = go (eqb n (r .number)) refl (eqb n
     go false p false q v = v
 
 -- the row of a spelling, by the code's numbers
-pub row-of : (s : List ℕ) → RowAt (plainNumber s) (rowOf s) (placeOf (plainNumber s))
+pub row-of : (s : List ℕ) → RowAt (plainNumber s) (tableRow s) (placeOf (plainNumber s))
 unfolding placeOf
 row-of s = rw (row-of-number s) (row-at table places (plainNumber s) coded)
 

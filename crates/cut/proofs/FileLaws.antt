@@ -23,7 +23,7 @@ use Rattle.replies.proofs.Results.{gives-refusal}
 use Rattle.notebook.specs.Canonical.{headRow, recordRows, canonicalBytes, canonicalFile}
 use Rattle.canonical.specs.Writing.{MadeMeans, MadeOf}
 use Rattle.notebook.proofs.CanonicalLaws.{canonical-head, canonical-rows, canonical-small, canonical-long}
-use Rattle.packing.specs.Widths.{Plan, whole, split, fails, plan}
+use Rattle.packing.specs.Widths.{Plan, inOne, inRuns, noPlan, plan}
 use Rattle.division.specs.Marks.{validID, markRow}
 use Rattle.division.specs.Cut.{pieceBytes, numbered, planned, cutting, listed, found, cutList, writesPieces, cutResult}
 use Rattle.cut.specs.Loops.{numberedAs, plannedAs, cuttingOf, Given, cutOfBytes}
@@ -40,10 +40,10 @@ numbered-as provider id n k (x ∷ xs) =
 module _ (f : List ℕ) (b : Notebook) (e : readFile f ≡ ok b) (id : List ℕ) where
   planned-as : (p : Plan (List ℕ)) → plannedAs id (canonicalBytes b) p ≡ planned id (arrange b) p
   unfolding canonicalBytes
-  planned-as whole = refl
-  planned-as (split xs) =
+  planned-as inOne = refl
+  planned-as (inRuns xs) =
       ap (λ (h : List ℕ). some (numberedAs h id (length xs) 1 xs)) (canonical-head f b e) ∙ ap some (numbered-as (arrange b .provider) id (length xs) 1 xs)
-  planned-as fails = refl
+  planned-as noPlan = refl
 
   pub cutting-as : (c : ℕ) → cuttingOf id c (canonicalBytes b) ≡ cutting id c (arrange b)
   unfolding cuttingOf cutting

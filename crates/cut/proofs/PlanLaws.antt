@@ -13,7 +13,7 @@ use Rattle.packing.specs.Packing.{total, pack}
 use Rattle.packing.specs.Divisions.{concat}
 use Rattle.digits.specs.Digits.{digitCount}
 use Rattle.digits.proofs.Numbers.{to-999}
-use Rattle.packing.specs.Widths.{Plan, whole, split, fails, over, serves, tries, plan}
+use Rattle.packing.specs.Widths.{Plan, inOne, inRuns, noPlan, over, serves, tries, plan}
 use Rattle.packing.proofs.Widths.{Divides, Planned, plan-good, plan-whole, over-counts, over-most, serves-digits}
 use Rattle.division.specs.Marks.{markRow}
 use Rattle.cut.specs.declared.Chosen.the-variants.{Count, NoWidth}
@@ -63,24 +63,24 @@ overheads-most w (suc n) h = omega (arith, overheads-most w n h, over-most w (su
 -- ---- the plan
 
 -- the runs of a plan are the packing for the width of their count
-tried : (c : ℕ) (rs : List (List ℕ)) (xs : List (List (List ℕ))) (f w : ℕ) → tries length c f w rs ≡ split xs
+tried : (c : ℕ) (rs : List (List ℕ)) (xs : List (List (List ℕ))) (f w : ℕ) → tries length c f w rs ≡ inRuns xs
     → pack length (over (digitCount (length xs))) c 1 (over (digitCount (length xs)) 1) rs ≡ some xs
 unfolding tries
 tried c rs xs zero w e = let z : _≡_ {A = ℕ} 0 1 = cc in absurd (omega arith)
 tried c rs xs (suc f) w e = go (pack length (over w) c 1 (over w 1) rs) refl (tried c rs xs f (suc w))
   where
     at : (ys : List (List (List ℕ))) → pack length (over w) c 1 (over w 1) rs ≡ some ys → (b : Bool) → serves w (length ys) ≡ b
-        → (tries length c f (suc w) rs ≡ split xs → pack length (over (digitCount (length xs))) c 1 (over (digitCount (length xs)) 1) rs ≡ some xs)
+        → (tries length c f (suc w) rs ≡ inRuns xs → pack length (over (digitCount (length xs))) c 1 (over (digitCount (length xs)) 1) rs ≡ some xs)
         → pack length (over (digitCount (length xs))) c 1 (over (digitCount (length xs)) 1) rs ≡ some xs
     at ys p true q ih =
-        let r : split ys ≡ split xs = rw (tries, p, q) at e in
+        let r : inRuns ys ≡ inRuns xs = rw (tries, p, q) at e in
         let z : ys ≡ xs = cc in
         let d : digitCount (length xs) ≡ w = rw z at (serves-digits w (length ys) q .0) in
         rw d (rw z at p)
     at ys p false q ih = ih (rw (tries, p, q) at e)
 
     go : (m : Option (List (List (List ℕ)))) → pack length (over w) c 1 (over w 1) rs ≡ m
-        → (tries length c f (suc w) rs ≡ split xs → pack length (over (digitCount (length xs))) c 1 (over (digitCount (length xs)) 1) rs ≡ some xs)
+        → (tries length c f (suc w) rs ≡ inRuns xs → pack length (over (digitCount (length xs))) c 1 (over (digitCount (length xs)) 1) rs ≡ some xs)
         → pack length (over (digitCount (length xs))) c 1 (over (digitCount (length xs)) 1) rs ≡ some xs
     go none p ih = ih (rw (tries, p) at e)
     go (some ys) p ih = at ys p (serves w (length ys)) refl ih
@@ -88,7 +88,7 @@ tried c rs xs (suc f) w e = go (pack length (over w) c 1 (over w 1) rs) refl (tr
 -- what a found width says
 pub record Found (s : List ℕ) (c w n t : ℕ) : Type 0 where
   pub runs : List (List (List ℕ))
-  pub is : plan length c (rows (drop 13 s)) ≡ split runs
+  pub is : plan length c (rows (drop 13 s)) ≡ inRuns runs
   pub packs : runsAt s c w 1 13 ≡ some runs
   pub divides : Divides length c (rows (drop 13 s)) runs
   pub count : length runs ≡ n
@@ -96,7 +96,7 @@ pub record Found (s : List ℕ) (c w n t : ℕ) : Type 0 where
   pub sum : t ≡ overheads w n
 
 module _ (s : List ℕ) (c : ℕ) (h : 13 ≤ length s) where
-  pub plan-fits : length s ≤ c → plan length c (rows (drop 13 s)) ≡ whole
+  pub plan-fits : length s ≤ c → plan length c (rows (drop 13 s)) ≡ inOne
   plan-fits g = plan-whole length c (rows (drop 13 s)) (omega (arith, file-total s h))
 
   module _ (g : c < length s) where
@@ -108,14 +108,14 @@ module _ (s : List ℕ) (c : ℕ) (h : 13 ≤ length s) where
     unfolding chosen chosenFrom
     chosen-is = ap chosenBy (sym plan-is)
 
-    pub plan-fails : chosen s c ≡ NoWidth → plan length c (rows (drop 13 s)) ≡ fails
+    pub plan-fails : chosen s c ≡ NoWidth → plan length c (rows (drop 13 s)) ≡ noPlan
     plan-fails e = go (plan length c (rows (drop 13 s))) refl (plan-good length c (rows (drop 13 s))) (sym chosen-is ∙ e)
       where
         go : (p : Plan (List ℕ)) → plan length c (rows (drop 13 s)) ≡ p → Planned length c (rows (drop 13 s)) p → chosenBy p ≡ NoWidth
-            → plan length c (rows (drop 13 s)) ≡ fails
-        go whole q f z = absurd (omega (arith, file-total s h))
-        go (split xs) q f z = let y : _≡_ {A = ℕ} 0 1 = cc in absurd (omega arith)
-        go fails q f z = q
+            → plan length c (rows (drop 13 s)) ≡ noPlan
+        go inOne q f z = absurd (omega (arith, file-total s h))
+        go (inRuns xs) q f z = let y : _≡_ {A = ℕ} 0 1 = cc in absurd (omega arith)
+        go noPlan q f z = q
 
     pub plan-found : (w n t : ℕ) → chosen s c ≡ Count w n t → Found s c w n t
     unfolding runsAt
@@ -123,8 +123,8 @@ module _ (s : List ℕ) (c : ℕ) (h : 13 ≤ length s) where
       where
         go : (p : Plan (List ℕ)) → plan length c (rows (drop 13 s)) ≡ p → Planned length c (rows (drop 13 s)) p → chosenBy p ≡ Count w n t
             → Found s c w n t
-        go whole q f z = let y : _≡_ {A = ℕ} 0 1 = cc in absurd (omega arith)
-        go (split xs) q f z =
+        go inOne q f z = let y : _≡_ {A = ℕ} 0 1 = cc in absurd (omega arith)
+        go (inRuns xs) q f z =
             let a : digitCount (length xs) ≡ w = cc in
             let b : length xs ≡ n = cc in
             let d : overheads (digitCount (length xs)) (length xs) ≡ t = cc in
@@ -137,7 +137,7 @@ module _ (s : List ℕ) (c : ℕ) (h : 13 ≤ length s) where
               width = rw b at a;
               sum = sym (rw (a, b) at d);
             }
-        go fails q f z = let y : _≡_ {A = ℕ} 0 1 = cc in absurd (omega arith)
+        go noPlan q f z = let y : _≡_ {A = ℕ} 0 1 = cc in absurd (omega arith)
 
 -- ---- what a found width gives the writer
 

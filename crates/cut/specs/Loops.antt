@@ -12,7 +12,7 @@ use Rattle.lists.specs.Searching.{part}
 use Rattle.digits.specs.Digits.{spell, digitCount}
 use Rattle.characters.specs.Rows.{rows, flat}
 use Rattle.packing.specs.Packing.{pack}
-use Rattle.packing.specs.Widths.{Plan, whole, split, fails, over, tries, plan}
+use Rattle.packing.specs.Widths.{Plan, inOne, inRuns, noPlan, over, tries, plan}
 use Rattle.division.specs.Marks.{markRow}
 use Rattle.division.specs.Cut.{listed, writesPieces}
 use Rattle.replies.specs.Results.{Result}
@@ -58,9 +58,9 @@ overheads w (suc k) = overheads w k + over w (suc k)
 
 -- the width, the count, and what the pieces hold besides their records
 abbrev pub chosenBy : Plan (List ℕ) → Chosen
-chosenBy whole = NoWidth
-chosenBy (split xs) = Count (digitCount (length xs)) (length xs) (overheads (digitCount (length xs)) (length xs))
-chosenBy fails = NoWidth
+chosenBy inOne = NoWidth
+chosenBy (inRuns xs) = Count (digitCount (length xs)) (length xs) (overheads (digitCount (length xs)) (length xs))
+chosenBy noPlan = NoWidth
 
 -- the widths from w on
 unfoldable pub chosenFrom : List ℕ → ℕ → ℕ → Chosen
@@ -121,9 +121,9 @@ pub record Ready (d s : List ℕ) (c w n : ℕ) (id : List ℕ) : Type 0 where
 -- ---- the answer for canonical bytes
 
 abbrev pub plannedAs : List ℕ → List ℕ → Plan (List ℕ) → Option (List (List ℕ))
-plannedAs id s whole = some (s ∷ [])
-plannedAs id s (split xs) = some (numberedAs (part s 0 13) id (length xs) 1 xs)
-plannedAs id s fails = none
+plannedAs id s inOne = some (s ∷ [])
+plannedAs id s (inRuns xs) = some (numberedAs (part s 0 13) id (length xs) 1 xs)
+plannedAs id s noPlan = none
 
 unfoldable pub cuttingOf : List ℕ → ℕ → List ℕ → Option (List (List ℕ))
 cuttingOf id c s = plannedAs id s (plan length c (rows (drop 13 s)))

@@ -15,11 +15,11 @@ use Rattle.calendar.specs.Day.{gregorian}
 use Rattle.calendar.specs.Era.{inEra, fromEra, readDay}
 use Rattle.records.specs.Split.{joined}
 use Rattle.records.specs.Table.{table}
-use Rattle.records.specs.Items.{edge, oneWidth, decimal, sized, fault, value as valueOf}
-use Rattle.records.specs.Records.{itemFault, itemValue, itemsFault, itemsValue, rowIn, rowOf, pairs, t911, isMark, recordFrom, faultFrom, lineFault, recordOf, header, write}
+use Rattle.records.specs.Items.{edge, oneWidth, isDecimal, sized, fault, valueOf as valueOf}
+use Rattle.records.specs.Records.{itemFault, itemValue, itemsFault, itemsValue, rowIn, tableRow, pairs, t911, isMark, recordFrom, faultFrom, lineFault, recordOf, header, write}
 use Rattle.rules.specs.Places.{inGroup, mayFollow}
-use Rattle.rules.specs.Rules.{pairBroken, misplaced, closesRp, lacking, missing, valueWrong, newerGroup, refusal, unfinished}
-use Rattle.order.specs.State.{none, start, hadAfter, advance, refusalOf, stepOf, finishOf}
+use Rattle.rules.specs.Rules.{pairBroken, misplaced, closesRp, lacking, missing, valueWrong, newerGroup, orderRefusal, unfinished}
+use Rattle.order.specs.State.{nothingYet, start, hadAfter, advance, refusalOf, stepOf, finishOf}
 use Rattle.notebook.specs.Facts.{factsOf}
 use Rattle.notebook.specs.Notebook.{Notebook, stepLine, closed, onward, recordsFrom, readRows, readFile}
 use Rattle.notebook.proofs.Accepted.{no-refusal}
@@ -30,7 +30,7 @@ use Rattle.packing.specs.Packing.{total, put, pack}
 use Rattle.packing.specs.Widths.{over, serves, tries, plan}
 use Rattle.division.specs.Marks.{validID, markLine, markRow, readMark}
 use Rattle.division.specs.Pieces.{Piece, kindOf, brokenFrom, brokenLine, bodyOf, piecesIn, splitRows, split, fileOf}
-use Rattle.division.specs.Join.{unmarked, partOf, partsOf, agree, find, gather, joinPieces, joinedFile, joinFile}
+use Rattle.division.specs.Join.{unmarked, partOf, allParts, agree, findPart, gather, joinPieces, joinedFile, joinFile}
 use Rattle.replies.specs.Results.{answerIn}
 use Rattle.division.specs.Cut.{pieceBytes, numbered, cutting, cutList, cutResult}
 use Rattle.division.specs.Examples.{ident, markLines, theirMarks, inputs, theirFiles, Asked, asked, theirAnswers}
@@ -46,11 +46,11 @@ unfolding bytes value number t911 validID readMark
 marks-hold = refl
 
 pub joins-hold : map joinFile inputs ≡ theirFiles
-unfolding bytes value number spell isLine leap monthLength isReal isDay gregorian eraOf inEra fromEra readDay table edge oneWidth decimal sized fault valueOf itemFault itemValue itemsFault itemsValue rowIn rowOf pairs t911 isMark recordFrom faultFrom lineFault recordOf header inGroup mayFollow pairBroken misplaced closesRp lacking missing valueWrong newerGroup refusal unfinished none start hadAfter advance refusalOf stepOf finishOf factsOf stepLine closed onward recordsFrom readRows readFile validID readMark kindOf brokenFrom brokenLine bodyOf piecesIn splitRows split fileOf unmarked partOf partsOf agree find gather joinPieces joinedFile joinFile
+unfolding bytes value number spell isLine leap monthLength isReal isDay gregorian eraOf inEra fromEra readDay table edge oneWidth isDecimal sized fault valueOf itemFault itemValue itemsFault itemsValue rowIn tableRow pairs t911 isMark recordFrom faultFrom lineFault recordOf header inGroup mayFollow pairBroken misplaced closesRp lacking missing valueWrong newerGroup orderRefusal unfinished nothingYet start hadAfter advance refusalOf stepOf finishOf factsOf stepLine closed onward recordsFrom readRows readFile validID readMark kindOf brokenFrom brokenLine bodyOf piecesIn splitRows split fileOf unmarked partOf allParts agree findPart gather joinPieces joinedFile joinFile
 joins-hold = refl
 
 pub cuts-hold : map (λ (a : Asked). answerIn (cutResult (a .file) (a .capacity) (a .id)) (replicate (a .room) 0)) asked ≡ theirAnswers
-unfolding bytes spell isLine value leap monthLength isReal isDay gregorian eraOf eraOn inEra fromEra readDay writeDay table edge oneWidth decimal sized fault valueOf itemFault itemValue itemsFault itemsValue rowIn rowOf pairs t911 recordFrom faultFrom lineFault recordOf header inGroup mayFollow pairBroken misplaced closesRp lacking missing valueWrong newerGroup refusal unfinished none start hadAfter advance refusalOf stepOf finishOf factsOf stepLine closed onward recordsFrom readRows readFile joined write recordRows arrange writeFile canonicalBytes total put pack digitCount over serves tries plan validID markLine markRow pieceBytes numbered cutting cutList cutResult answerIn
+unfolding bytes spell isLine value leap monthLength isReal isDay gregorian eraOf eraOn inEra fromEra readDay writeDay table edge oneWidth isDecimal sized fault valueOf itemFault itemValue itemsFault itemsValue rowIn tableRow pairs t911 recordFrom faultFrom lineFault recordOf header inGroup mayFollow pairBroken misplaced closesRp lacking missing valueWrong newerGroup orderRefusal unfinished nothingYet start hadAfter advance refusalOf stepOf finishOf factsOf stepLine closed onward recordsFrom readRows readFile joined write recordRows arrange writeFile canonicalBytes total put pack digitCount over serves tries plan validID markLine markRow pieceBytes numbered cutting cutList cutResult answerIn
 cuts-hold = refl
 
 -- ---- sound lists
@@ -60,7 +60,7 @@ _also_ : {A B : Type 0} → A → B → A × B
 x also y = (x, y)
 
 pub sound-hold : All (λ (x : Claim). Sound twoDates (x .capacity) (x .list)) sound
-unfolding bytes value number spell isLine leap monthLength isReal isDay gregorian eraOf eraOn inEra fromEra readDay writeDay table edge oneWidth decimal sized fault valueOf itemFault itemValue itemsFault itemsValue rowIn rowOf pairs t911 isMark recordFrom faultFrom lineFault recordOf header inGroup mayFollow pairBroken misplaced closesRp lacking missing valueWrong newerGroup refusal unfinished none start hadAfter advance refusalOf stepOf finishOf factsOf stepLine closed onward recordsFrom readRows readFile joined write recordRows arrange writeFile canonicalBytes validID readMark kindOf brokenFrom brokenLine bodyOf piecesIn splitRows split fileOf unmarked partOf partsOf agree find gather joinPieces joinedFile joinFile
+unfolding bytes value number spell isLine leap monthLength isReal isDay gregorian eraOf eraOn inEra fromEra readDay writeDay table edge oneWidth isDecimal sized fault valueOf itemFault itemValue itemsFault itemsValue rowIn tableRow pairs t911 isMark recordFrom faultFrom lineFault recordOf header inGroup mayFollow pairBroken misplaced closesRp lacking missing valueWrong newerGroup orderRefusal unfinished nothingYet start hadAfter advance refusalOf stepOf finishOf factsOf stepLine closed onward recordsFrom readRows readFile joined write recordRows arrange writeFile canonicalBytes validID readMark kindOf brokenFrom brokenLine bodyOf piecesIn splitRows split fileOf unmarked partOf allParts agree findPart gather joinPieces joinedFile joinFile
 sound-hold =
     record {
       pieces = record { piece = _; is = refl } also record { piece = _; is = refl } also record { piece = _; is = refl } also tt;
@@ -101,7 +101,7 @@ other ps c w j d s =
     omega arith
 
 pub not-sound : All (λ (x : Claim). Sound twoDates (x .capacity) (x .list) → ⊥) notSound
-unfolding bytes value number spell isLine leap monthLength isReal isDay gregorian eraOf eraOn inEra fromEra readDay writeDay table edge oneWidth decimal sized fault valueOf itemFault itemValue itemsFault itemsValue rowIn rowOf pairs t911 isMark recordFrom faultFrom lineFault recordOf header inGroup mayFollow pairBroken misplaced closesRp lacking missing valueWrong newerGroup refusal unfinished none start hadAfter advance refusalOf stepOf finishOf factsOf stepLine closed onward recordsFrom readRows readFile joined write recordRows arrange writeFile canonicalBytes validID readMark kindOf brokenFrom brokenLine bodyOf piecesIn splitRows split fileOf unmarked partOf partsOf agree find gather joinPieces joinedFile joinFile
+unfolding bytes value number spell isLine leap monthLength isReal isDay gregorian eraOf eraOn inEra fromEra readDay writeDay table edge oneWidth isDecimal sized fault valueOf itemFault itemValue itemsFault itemsValue rowIn tableRow pairs t911 isMark recordFrom faultFrom lineFault recordOf header inGroup mayFollow pairBroken misplaced closesRp lacking missing valueWrong newerGroup orderRefusal unfinished nothingYet start hadAfter advance refusalOf stepOf finishOf factsOf stepLine closed onward recordsFrom readRows readFile joined write recordRows arrange writeFile canonicalBytes validID readMark kindOf brokenFrom brokenLine bodyOf piecesIn splitRows split fileOf unmarked partOf allParts agree findPart gather joinPieces joinedFile joinFile
 not-sound =
     (λ s. omega (arith, s .fits .1 .1 .0 .fits))
     also (λ s. two-one (s .pieces .0 .is))

@@ -14,17 +14,17 @@ use Rattle.eras.specs.Era.{eraOf, eraOn, writeDay}
 use Rattle.calendar.specs.Era.{inEra, fromEra, readDay}
 use Rattle.records.specs.Split.{joined}
 use Rattle.records.specs.Table.{table}
-use Rattle.records.specs.Items.{text, day, edge, oneWidth, decimal, sized, fault, value}
-use Rattle.records.specs.Records.{Record, itemFault, itemValue, itemsFault, itemsValue, rowIn, rowOf, pairs, t911, recordFrom, faultFrom, lineFault, recordOf, header, write}
+use Rattle.records.specs.Items.{raw, day, edge, oneWidth, isDecimal, sized, fault, valueOf}
+use Rattle.records.specs.Records.{Record, itemFault, itemValue, itemsFault, itemsValue, rowIn, tableRow, pairs, t911, recordFrom, faultFrom, lineFault, recordOf, header, write}
 use Rattle.rules.specs.Places.{inGroup, mayFollow}
-use Rattle.rules.specs.Rules.{pairBroken, misplaced, closesRp, lacking, missing, valueWrong, newerGroup, refusal, unfinished}
-use Rattle.order.specs.State.{none, start, hadAfter, advance, refusalOf, stepOf, finishOf}
+use Rattle.rules.specs.Rules.{pairBroken, misplaced, closesRp, lacking, missing, valueWrong, newerGroup, orderRefusal, unfinished}
+use Rattle.order.specs.State.{nothingYet, start, hadAfter, advance, refusalOf, stepOf, finishOf}
 use Rattle.notebook.specs.Facts.{factsOf}
 use Rattle.notebook.specs.Notebook.{Notebook, stepLine, closed, onward, recordsFrom, readRows, readFile}
 use Rattle.notebook.specs.Check.{count, checkResult}
 use Rattle.notebook.specs.Same.{arrange}
 use Rattle.notebook.specs.Canonical.{recordRows, writeFile, canonicalBytes, canonicalFile, canonicalResult}
-use Rattle.printing.specs.Printed.{digitsOf as decimalDigits, decimal as decimalOf, numbers, line, printed}
+use Rattle.printing.specs.Printed.{digitList as decimalDigits, decimal as decimalOf, spaced, line, printed}
 use Rattle.packing.specs.Packing.{total, put}
 use Rattle.packing.specs.Widths.{Plan, over, serves}
 use Rattle.packing.proofs.Computed.{packed, tried, planned, plan-is}
@@ -39,7 +39,7 @@ use Rattle.division.specs.Cases.{withNotes, Case, cases, thousand, answe
 
 notes : ℕ → List Record
 notes zero = []
-notes (suc n) = record { number = 4; values = text (bytes "x") ∷ text [] ∷ text (bytes "2") ∷ [] } ∷ notes n
+notes (suc n) = record { number = 4; values = raw (bytes "x") ∷ raw [] ∷ raw (bytes "2") ∷ [] } ∷ notes n
 
 -- record 1, with n records 4
 book : ℕ → Notebook
@@ -47,7 +47,7 @@ book n = record {
   provider = false;
   records = record {
     number = 1;
-    values = text (bytes "A") ∷ text (bytes "1") ∷ day 19890108 ∷ text [] ∷ text [] ∷ text [] ∷ text [] ∷ text [] ∷ text [] ∷ text [] ∷ [];
+    values = raw (bytes "A") ∷ raw (bytes "1") ∷ day 19890108 ∷ raw [] ∷ raw [] ∷ raw [] ∷ raw [] ∷ raw [] ∷ raw [] ∷ raw [] ∷ [];
   } ∷ notes n;
 }
 
@@ -55,7 +55,7 @@ abbrev Read : ℕ → Type 0
 Read n = readFile (withNotes n) ≡ ok (book n)
 
 reads : Read 20 × Read 18 × Read 2
-unfolding notes book bytes spell isLine digitsValue leap monthLength isReal isDay gregorian eraOf eraOn inEra fromEra readDay writeDay table edge oneWidth decimal sized fault value itemFault itemValue itemsFault itemsValue rowIn rowOf pairs t911 recordFrom faultFrom lineFault recordOf header inGroup mayFollow pairBroken misplaced closesRp lacking missing valueWrong newerGroup refusal unfinished none start hadAfter advance refusalOf stepOf finishOf factsOf stepLine closed onward recordsFrom readRows readFile
+unfolding notes book bytes spell isLine digitsValue leap monthLength isReal isDay gregorian eraOf eraOn inEra fromEra readDay writeDay table edge oneWidth isDecimal sized fault valueOf itemFault itemValue itemsFault itemsValue rowIn tableRow pairs t911 recordFrom faultFrom lineFault recordOf header inGroup mayFollow pairBroken misplaced closesRp lacking missing valueWrong newerGroup orderRefusal unfinished nothingYet start hadAfter advance refusalOf stepOf finishOf factsOf stepLine closed onward recordsFrom readRows readFile
 reads = (refl, refl, refl)
 
 -- ---- cut
@@ -92,5 +92,5 @@ cuts = (cut 20 69 (reads .0), cut 18 60 (reads .1), cut 18 59 (reads .1), cut 2 
 -- ---- ALL CASES
 
 pub cases-hold : map (λ (c : Case). answer (c .asked)) cases ≡ map (λ (c : Case). c .said) cases
-unfolding bytes spell isLine digitsValue leap monthLength isReal isDay gregorian eraOf eraOn inEra fromEra readDay writeDay table edge oneWidth decimal sized fault value itemFault itemValue itemsFault itemsValue rowIn rowOf pairs t911 recordFrom faultFrom lineFault recordOf header inGroup mayFollow pairBroken misplaced closesRp lacking missing valueWrong newerGroup refusal unfinished none start hadAfter advance refusalOf stepOf finishOf factsOf stepLine closed onward recordsFrom readRows readFile count checkResult joined write recordRows arrange writeFile canonicalBytes canonicalFile canonicalResult answerIn decimalDigits decimalOf numbers line printed
+unfolding bytes spell isLine digitsValue leap monthLength isReal isDay gregorian eraOf eraOn inEra fromEra readDay writeDay table edge oneWidth isDecimal sized fault valueOf itemFault itemValue itemsFault itemsValue rowIn tableRow pairs t911 recordFrom faultFrom lineFault recordOf header inGroup mayFollow pairBroken misplaced closesRp lacking missing valueWrong newerGroup orderRefusal unfinished nothingYet start hadAfter advance refusalOf stepOf finishOf factsOf stepLine closed onward recordsFrom readRows readFile count checkResult joined write recordRows arrange writeFile canonicalBytes canonicalFile canonicalResult answerIn decimalDigits decimalOf spaced line printed
 cases-hold = rw (cuts .4, cuts .3, cuts .2, cuts .1, cuts .0) refl

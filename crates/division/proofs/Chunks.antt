@@ -16,7 +16,7 @@ use Rattle.characters.proofs.RowLaws.{flat-rows}
 use Rattle.records.specs.Records.{header}
 use Rattle.notebook.specs.Canonical.{headRow}
 use Rattle.notebook.proofs.Accepted.{no-refusal, IsLine, head-line, head-length, row-cut, rows-cut}
-use Rattle.division.specs.Pieces.{Kind, head, endHead, body, end, broken, kindOf, judged, brokenFrom, brokenLine, Piece, bodyOf, piecesIn, opens, startsWell, splitRows, split}
+use Rattle.division.specs.Pieces.{RowKind, head, endHead, body, end, broken, kindOf, judged, brokenFrom, brokenLine, Piece, bodyOf, piecesIn, opens, startsWell, splitRows, split}
 
 -- ---- chunks, and their bytes
 
@@ -60,7 +60,7 @@ unfolding kindOf isLine header bytes
 kind-end = refl
 
 -- what a row of a kind is
-abbrev Spelled : List ℕ → Kind → Type 0
+abbrev Spelled : List ℕ → RowKind → Type 0
 Spelled r (head d) = r ≡ headRow d
 Spelled r (endHead d) = r ≡ 0x1a ∷ headRow d
 Spelled r body = IsLine r
@@ -255,7 +255,7 @@ unfolding brokenFrom rowsOf
 behind [] n h c e = record { front = []; ended = false; chunks = []; shape = refl; bodies = tt; good = tt }
 behind (r ∷ rs) n h ((l, m), c) e = go (kindOf r) refl (spelled r) (λ q. behind rs (n + 1) (omega arith) c q) e
   where
-    go : (k : Kind) → kindOf r ≡ k → Spelled r (kindOf r) → (brokenFrom true (n + 1) rs ≡ 0 → Behind rs)
+    go : (k : RowKind) → kindOf r ≡ k → Spelled r (kindOf r) → (brokenFrom true (n + 1) rs ≡ 0 → Behind rs)
         → judged true n (λ b. brokenFrom b (n + 1) rs) k ≡ 0 → Behind (r ∷ rs)
     go (head d) p s ih q = subst (λ (x : List ℕ). Behind (x ∷ rs)) (sym (subst (Spelled r) p s)) (behind-head false d (ih q))
     go (endHead d) p s ih q = subst (λ (x : List ℕ). Behind (x ∷ rs)) (sym (subst (Spelled r) p s)) (behind-head true d (ih q))
@@ -301,7 +301,7 @@ split-is s ps e = start (rows s) refl (rows-are-cut s) e
           pieces = p ∙ ap piecesIn w ∙ pieces-of false (x ∷ b .chunks) g;
         }
 
-    row : (r : List ℕ) (rs : List (List ℕ)) → rows s ≡ r ∷ rs → Cut (r ∷ rs) → (k : Kind) → kindOf r ≡ k → Spelled r (kindOf r)
+    row : (r : List ℕ) (rs : List (List ℕ)) → rows s ≡ r ∷ rs → Cut (r ∷ rs) → (k : RowKind) → kindOf r ≡ k → Spelled r (kindOf r)
         → judged false 1 (λ b. brokenFrom b 2 rs) k ≡ 0 → opens k ≡ true → ps ≡ piecesIn (r ∷ rs) → Chunked s ps
     row r rs q c (head d) p w z o u =
         let y : r ≡ headRow d = subst (Spelled r) p w in

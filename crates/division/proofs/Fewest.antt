@@ -21,14 +21,14 @@ use Rattle.notebook.proofs.WrittenLaws.{row-short, lines-short}
 use Rattle.packing.specs.Packing.{total}
 use Rattle.packing.specs.Divisions.{concat, Fits}
 use Rattle.digits.specs.Digits.{digitCount}
-use Rattle.packing.specs.Widths.{over, Plan, whole, split as divided, fails, plan}
+use Rattle.packing.specs.Widths.{over, Plan, inOne, inRuns as divided, noPlan, plan}
 use Rattle.packing.proofs.Packing.{Pairs, nil, cons, Way, way-of, lighter}
 use Rattle.packing.proofs.Widths.{AtMost, plan-whole, way-fewest}
 use Rattle.division.specs.Pieces.{Piece, split, splitRows, brokenLine, fileOf}
 use Rattle.division.proofs.Chunks.{Chunk, chunkBytes, chunk-length, pieceOf, Body, Good, flat-append, body-line, bodies-lines, split-bytes, ChunkOf, one-is}
 use Rattle.division.proofs.MarkLaws.{read-length, read-count}
 use Rattle.division.specs.Cut.{numbered, planned, cutting}
-use Rattle.division.specs.Join.{unmarked, Part, partsOf, joinParts, joinPieces, orSet, joinSplit, joinedFile, checkedFile, thenChecked, joinFile}
+use Rattle.division.specs.Join.{unmarked, Part, allParts, joinParts, joinPieces, orSet, joinSplit, joinedFile, checkedFile, thenChecked, joinFile}
 use Rattle.division.specs.Demand.{OnePiece, Within, Sound}
 use Rattle.division.proofs.Orders.{all-append, all-left, all-right, map-length}
 use Rattle.division.proofs.Parts.{no-none, some-inj, Runs, Gathered, gather-runs, IsPart, PartsOf, over as noParts, more as morePart, parts-are, Joined, parts-joined}
@@ -200,10 +200,10 @@ module _ (i : List ℕ) (b : Notebook) (c : ℕ) where
   listed n a = go (plan length c ls) refl a
     where
       go : (p : Plan (List ℕ)) → plan length c ls ≡ p → AtMost n p → Listed n
-      go whole q h = record { list = writeFile b ∷ []; is = ap (planned i b) q; few = h }
+      go inOne q h = record { list = writeFile b ∷ []; is = ap (planned i b) q; few = h }
       go (divided xs) q h =
           record { list = numbered (b .provider) i (length xs) 1 xs; is = ap (planned i b) q; few = omega (arith, numbered-length (b .provider) (length xs) 1 xs) }
-      go fails q h = absurd h
+      go noPlan q h = absurd h
 
   -- the rows of the joined file are the records' rows
   rows-read : (w : Piece) → All Body (w .rows) → readFile (fileOf w) ≡ ok b → Lines (b .provider) (b .records) (w .rows)
@@ -212,7 +212,7 @@ module _ (i : List ℕ) (b : Notebook) (c : ℕ) where
       let r : LinesRead (w .provider) (w .rows) b = lines-read (w .provider) (w .rows) b (bodies-lines (w .rows) a) e in
       subst (λ (d : Bool). Lines d (b .records) (w .rows)) (r .way) (r .lines)
 
-  several : (zs : List Chunk) (w : Piece) (ps : List Part) → All Good zs → All (Within c) (map chunkBytes zs) → partsOf (map pieceOf zs) ≡ some ps
+  several : (zs : List Chunk) (w : Piece) (ps : List Part) → All Good zs → All (Within c) (map chunkBytes zs) → allParts (map pieceOf zs) ≡ some ps
       → joinParts (some ps) ≡ some w → readFile (fileOf w) ≡ ok b → AtMost (length zs) (plan length c ls)
   several zs w ps g h p j e =
       let s : All (Small c) ps × (length ps ≡ length zs) = small-parts c zs ps g h (parts-are (map pieceOf zs) ps p) in
@@ -233,7 +233,7 @@ module _ (i : List ℕ) (b : Notebook) (c : ℕ) where
   unfolding joinPieces
   joined-least zs w g h j e = go zs g h j
     where
-      many : (zs : List Chunk) → All Good zs → All (Within c) (map chunkBytes zs) → (m : Option (List Part)) → partsOf (map pieceOf zs) ≡ m → joinParts m ≡ some w
+      many : (zs : List Chunk) → All Good zs → All (Within c) (map chunkBytes zs) → (m : Option (List Part)) → allParts (map pieceOf zs) ≡ m → joinParts m ≡ some w
           → AtMost (length zs) (plan length c ls)
       many zs g h none p j = absurd (no-none j)
       many zs g h (some ps) p j = several zs w ps g h p j e
@@ -242,10 +242,10 @@ module _ (i : List ℕ) (b : Notebook) (c : ℕ) where
       go [] g h j = absurd (no-none j)
       go (x ∷ []) g h j = by (unmarked (x .rows)) j
         where
-          by : (u : Bool) → cond u (some (pieceOf x)) (joinParts (partsOf (pieceOf x ∷ []))) ≡ some w → AtMost 1 (plan length c ls)
+          by : (u : Bool) → cond u (some (pieceOf x)) (joinParts (allParts (pieceOf x ∷ []))) ≡ some w → AtMost 1 (plan length c ls)
           by true j = single x (g .0) (h .0 .fits) (ap (λ (z : Piece). readFile (fileOf z)) (some-inj j) ∙ e)
-          by false j = many (x ∷ []) g h (partsOf (pieceOf x ∷ [])) refl j
-      go (x ∷ y ∷ xs) g h j = many (x ∷ y ∷ xs) g h (partsOf (map pieceOf (x ∷ y ∷ xs))) refl j
+          by false j = many (x ∷ []) g h (allParts (pieceOf x ∷ [])) refl j
+      go (x ∷ y ∷ xs) g h j = many (x ∷ y ∷ xs) g h (allParts (map pieceOf (x ∷ y ∷ xs))) refl j
 
   -- A SOUND LIST HAS NO FEWER PIECES than the list that cutting finds of the notebook of its joined file
   pub least : (f : List ℕ) (qs : List (List ℕ)) (s : Sound f c qs) → s .same .one ≡ b → Listed (length qs)

@@ -21,7 +21,7 @@ use Rattle.packing.specs.Packing.{total}
 use Rattle.packing.specs.Divisions.{concat, Fits}
 use Rattle.digits.specs.Digits.{digitCount}
 use Rattle.digits.proofs.Numbers.{to-999}
-use Rattle.packing.specs.Widths.{over, Plan, whole, split as divided, fails, plan}
+use Rattle.packing.specs.Widths.{over, Plan, inOne, inRuns as divided, noPlan, plan}
 use Rattle.packing.proofs.Widths.{Divides, Planned, plan-good}
 use Rattle.division.specs.Marks.{validID, markRow, markLine, readMark}
 use Rattle.division.specs.Pieces.{Piece, split, fileOf}
@@ -29,7 +29,7 @@ use Rattle.division.proofs.Chunks.{Chunk, chunkBytes, pieceOf, Body, Go
 use Rattle.division.proofs.MarkLaws.{read-written, written-is, mark-text, mark-body, mark-length}
 use Rattle.division.proofs.Bodies.{read-unmarked, read-body}
 use Rattle.division.specs.Cut.{pieceBytes, numbered, planned, cutting}
-use Rattle.division.specs.Join.{unmarked, Part, partOf, partsOf, joinParts, joinPieces, joinedFile, joinFile}
+use Rattle.division.specs.Join.{unmarked, Part, partOf, allParts, joinParts, joinPieces, joinedFile, joinFile}
 use Rattle.division.specs.Orders.{Perm}
 use Rattle.division.specs.Demand.{OnePiece, Within, Sound}
 use Rattle.division.proofs.Orders.{all-append, all-left, all-right, map-length, perm-refl, perm-all, perm-length, perm-map, perm-flat, perm-unmap, perm-one}
@@ -105,8 +105,8 @@ piece-length p o =
 
 -- ---- all pieces
 
-own-parts : (ps : List Part) → All Own ps → partsOf (map pieceOf (map chunkOf ps)) ≡ some ps
-unfolding partsOf
+own-parts : (ps : List Part) → All Own ps → allParts (map pieceOf (map chunkOf ps)) ≡ some ps
+unfolding allParts
 own-parts [] h = refl
 own-parts (p ∷ ps) (h, t) = rw (own-part p h, own-parts ps t)
 
@@ -174,7 +174,7 @@ split-all : (xs : List Chunk) → 1 ≤ length xs → All Good xs → split (fla
 split-all [] h g = absurd (omega arith)
 split-all (x ∷ xs) h g = split-bytes x xs g
 
-join-many : (xs : List Piece) → 2 ≤ length xs → joinPieces xs ≡ joinParts (partsOf xs)
+join-many : (xs : List Piece) → 2 ≤ length xs → joinPieces xs ≡ joinParts (allParts xs)
 unfolding joinPieces
 join-many [] h = absurd (omega arith)
 join-many (x ∷ []) h = absurd (omega arith)
@@ -309,9 +309,9 @@ module _ (f i : List ℕ) (b : Notebook) (c : ℕ) (e : readFile f ≡ ok b) whe
   by-plan P single several ps k = go (plan length c ls) (plan-good length c ls) k
     where
       go : (p : Plan (List ℕ)) → Planned length c ls p → planned i b p ≡ some ps → P ps
-      go whole h q = subst P (some-inj q) (single h)
+      go inOne h q = subst P (some-inj q) (single h)
       go (divided xs) h q = subst P (sym (numbered-bytes (b .provider) i (length xs) 1 xs) ∙ some-inj q) (several xs h)
-      go fails h q = absurd (no-none q)
+      go noPlan h q = absurd (no-none q)
 
   module _ (v : validID i ≡ true) where
     -- WHAT CUTTING FINDS IS SOUND

@@ -16,7 +16,7 @@ use Rattle.records.specs.Records.{isMark}
 use Rattle.packing.specs.Divisions.{concat}
 use Rattle.division.specs.Marks.{Mark, readMark}
 use Rattle.division.specs.Pieces.{Piece}
-use Rattle.division.specs.Join.{unmarked, Part, before, lastMark, partOf, with, partsOf, agree, find, behind, gather, whole, joinParts}
+use Rattle.division.specs.Join.{unmarked, Part, before, lastMark, partOf, with, allParts, agree, findPart, behind, gather, onePiece, joinParts}
 use Rattle.division.specs.Orders.{Insert, here, there, Perm, nil, cons}
 use Rattle.division.proofs.Orders.{all-append, all-map}
 
@@ -31,40 +31,40 @@ some-inj e = cc
 -- no two places are equal
 abbrev Distinct : List Part → Type 0
 Distinct [] = Unit {0}
-Distinct (p ∷ ps) = (find (p .mark .place) ps ≡ none) × Distinct ps
+Distinct (p ∷ ps) = (findPart (p .mark .place) ps ≡ none) × Distinct ps
 
-find-hit : (k : ℕ) (p : Part) (ps : List Part) → p .mark .place ≡ k → find k (p ∷ ps) ≡ some p
-unfolding find
+find-hit : (k : ℕ) (p : Part) (ps : List Part) → p .mark .place ≡ k → findPart k (p ∷ ps) ≡ some p
+unfolding findPart
 find-hit k p ps h = rw (eq-eqb (p .mark .place) k h)
 
-find-miss : (k : ℕ) (p : Part) (ps : List Part) → (p .mark .place ≡ k → ⊥) → find k (p ∷ ps) ≡ find k ps
-unfolding find
+find-miss : (k : ℕ) (p : Part) (ps : List Part) → (p .mark .place ≡ k → ⊥) → findPart k (p ∷ ps) ≡ findPart k ps
+unfolding findPart
 find-miss k p ps h = rw (ne-eqb (p .mark .place) k h)
 
-insert-other : {p : Part} {ps l : List Part} (k : ℕ) → Insert p ps l → (p .mark .place ≡ k → ⊥) → find k l ≡ find k ps
+insert-other : {p : Part} {ps l : List Part} (k : ℕ) → Insert p ps l → (p .mark .place ≡ k → ⊥) → findPart k l ≡ findPart k ps
 insert-other {p} k (here {xs = ps}) h = find-miss k p ps h
 insert-other {p} k (there {x = q} {xs = qs} {l = l} i) h = go (eqb (q .mark .place) k) refl (insert-other k i h)
   where
-    go : (b : Bool) → eqb (q .mark .place) k ≡ b → find k l ≡ find k qs → find k (q ∷ l) ≡ find k (q ∷ qs)
+    go : (b : Bool) → eqb (q .mark .place) k ≡ b → findPart k l ≡ findPart k qs → findPart k (q ∷ l) ≡ findPart k (q ∷ qs)
     go true e ih = find-hit k q l (eqb-true _ _ e) ∙ sym (find-hit k q qs (eqb-true _ _ e))
     go false e ih = find-miss k q l (eqb-false _ _ e) ∙ ih ∙ sym (find-miss k q qs (eqb-false _ _ e))
 
-insert-found : {p : Part} {ps l : List Part} (k : ℕ) → Insert p ps l → p .mark .place ≡ k → find k ps ≡ none → find k l ≡ some p
+insert-found : {p : Part} {ps l : List Part} (k : ℕ) → Insert p ps l → p .mark .place ≡ k → findPart k ps ≡ none → findPart k l ≡ some p
 insert-found {p} k (here {xs = ps}) h n = find-hit k p ps h
 insert-found {p} k (there {x = q} {xs = qs} {l = l} i) h n = go (eqb (q .mark .place) k) refl (insert-found k i h)
   where
-    go : (b : Bool) → eqb (q .mark .place) k ≡ b → (find k qs ≡ none → find k l ≡ some p) → find k (q ∷ l) ≡ some p
+    go : (b : Bool) → eqb (q .mark .place) k ≡ b → (findPart k qs ≡ none → findPart k l ≡ some p) → findPart k (q ∷ l) ≡ some p
     go true e ih = absurd (no-none (sym n ∙ find-hit k q qs (eqb-true _ _ e)))
     go false e ih = find-miss k q l (eqb-false _ _ e) ∙ ih (sym (find-miss k q qs (eqb-false _ _ e)) ∙ n)
 
-find-perm : {ps qs : List Part} (k : ℕ) → Perm ps qs → Distinct ps → find k qs ≡ find k ps
+find-perm : {ps qs : List Part} (k : ℕ) → Perm ps qs → Distinct ps → findPart k qs ≡ findPart k ps
 find-perm k nil d = refl
 find-perm k (cons {a = p} {xs = ps} {ys = ys} {l = l} i w) (n, d) = go (eqb (p .mark .place) k) refl (find-perm k w d)
   where
-    go : (b : Bool) → eqb (p .mark .place) k ≡ b → find k ys ≡ find k ps → find k l ≡ find k (p ∷ ps)
+    go : (b : Bool) → eqb (p .mark .place) k ≡ b → findPart k ys ≡ findPart k ps → findPart k l ≡ findPart k (p ∷ ps)
     go true e ih =
         let q : p .mark .place ≡ k = eqb-true _ _ e in
-        insert-found k i q (ih ∙ subst (λ (z : ℕ). find z ps ≡ none) q n) ∙ sym (find-hit k p ps q)
+        insert-found k i q (ih ∙ subst (λ (z : ℕ). findPart z ps ≡ none) q n) ∙ sym (find-hit k p ps q)
     go false e ih = insert-other k i (eqb-false _ _ e) ∙ ih ∙ sym (find-miss k p ps (eqb-false _ _ e))
 
 pub gather-perm : {ps qs : List Part} (n k : ℕ) → Perm ps qs → Distinct ps → gather qs n k ≡ gather ps n k
@@ -83,8 +83,8 @@ parts d i n k [] = []
 parts d i n k (x ∷ xs) = part d i n k x ∷ parts d i n (suc k) xs
 
 module _ (d : Bool) (i : List ℕ) (n : ℕ) where
-  find-later : (xs : List (List (List ℕ))) (j k : ℕ) → j < k → find j (parts d i n k xs) ≡ none
-  unfolding find
+  find-later : (xs : List (List (List ℕ))) (j k : ℕ) → j < k → findPart j (parts d i n k xs) ≡ none
+  unfolding findPart
   find-later [] j k h = refl
   find-later (x ∷ xs) j k h =
       find-miss j (part d i n k x) (parts d i n (suc k) xs) (λ e. omega arith) ∙ find-later xs j (suc k) (omega arith)
@@ -96,7 +96,7 @@ module _ (d : Bool) (i : List ℕ) (n : ℕ) where
   abbrev Before : ℕ → Part → Type 0
   Before k p = p .mark .place < k
 
-  find-past : (ps qs : List Part) (k : ℕ) → All (Before k) ps → find k (ps ++ qs) ≡ find k qs
+  find-past : (ps qs : List Part) (k : ℕ) → All (Before k) ps → findPart k (ps ++ qs) ≡ findPart k qs
   find-past [] qs k h = refl
   find-past (p ∷ ps) qs k (h, t) = find-miss k p (ps ++ qs) (λ e. omega arith) ∙ find-past ps qs k t
 
@@ -181,12 +181,12 @@ record Found (k : ℕ) (ps : List Part) (p : Part) : Type 0 where
   others : List Part
   insert : Insert p others ps
 
-found : (k : ℕ) (ps : List Part) (p : Part) → find k ps ≡ some p → Found k ps p
-unfolding find
+found : (k : ℕ) (ps : List Part) (p : Part) → findPart k ps ≡ some p → Found k ps p
+unfolding findPart
 found k [] p e = absurd (no-none e)
 found k (q ∷ qs) p e = go (eqb (q .mark .place) k) refl (found k qs p) e
   where
-    go : (b : Bool) → eqb (q .mark .place) k ≡ b → (find k qs ≡ some p → Found k qs p) → cond b (some q) (find k qs) ≡ some p → Found k (q ∷ qs) p
+    go : (b : Bool) → eqb (q .mark .place) k ≡ b → (findPart k qs ≡ some p → Found k qs p) → cond b (some q) (findPart k qs) ≡ some p → Found k (q ∷ qs) p
     go true r ih e = subst (Found k (q ∷ qs)) (some-inj e) (record { place = eqb-true _ _ r; others = qs; insert = here })
     go false r ih e = let f : Found k qs p = ih e in record { place = f .place; others = q ∷ f .others; insert = there (f .insert) }
 
@@ -197,16 +197,16 @@ insert-holds P (there i) (h, t) = insert-holds P i t
 -- the part at k, and the rows behind it
 record Step (ps : List Part) (n k : ℕ) (ls : List (List ℕ)) : Type 0 where
   part : Part
-  found : find k ps ≡ some part
+  found : findPart k ps ≡ some part
   rest : List (List ℕ)
   gathered : gather ps n (suc k) ≡ some rest
   all : part .rows ++ rest ≡ ls
 
 step : (ps : List Part) (n k : ℕ) (ls : List (List ℕ)) → gather ps (suc n) k ≡ some ls → Step ps n k ls
 unfolding gather
-step ps n k ls e = go (find k ps) refl (gather ps n (suc k)) refl e
+step ps n k ls e = go (findPart k ps) refl (gather ps n (suc k)) refl e
   where
-    go : (m : Option Part) → find k ps ≡ m → (g : Option (List (List ℕ))) → gather ps n (suc k) ≡ g → behind m g ≡ some ls → Step ps n k ls
+    go : (m : Option Part) → findPart k ps ≡ m → (g : Option (List (List ℕ))) → gather ps n (suc k) ≡ g → behind m g ≡ some ls → Step ps n k ls
     go none p g q e = absurd (no-none e)
     go (some x) p none q e = absurd (no-none e)
     go (some x) p (some g) q e = record { part = x; found = p; rest = g; gathered = q; all = some-inj e }
@@ -300,13 +300,13 @@ pub data PartsOf : List Piece → List Part → Type 0 where
   over : PartsOf [] []
   more : {x : Piece} {p : Part} {xs : List Piece} {ps : List Part} → IsPart (x .provider) (x .rows) p → PartsOf xs ps → PartsOf (x ∷ xs) (p ∷ ps)
 
-pub parts-are : (xs : List Piece) (ps : List Part) → partsOf xs ≡ some ps → PartsOf xs ps
-unfolding partsOf
+pub parts-are : (xs : List Piece) (ps : List Part) → allParts xs ≡ some ps → PartsOf xs ps
+unfolding allParts
 parts-are [] ps e = subst (PartsOf []) (some-inj e) over
-parts-are (x ∷ xs) ps e = go (partOf (x .provider) (x .rows)) refl (partsOf xs) refl (parts-are xs) e
+parts-are (x ∷ xs) ps e = go (partOf (x .provider) (x .rows)) refl (allParts xs) refl (parts-are xs) e
   where
-    go : (m : Option Part) → partOf (x .provider) (x .rows) ≡ m → (us : Option (List Part)) → partsOf xs ≡ us
-        → ((us : List Part) → partsOf xs ≡ some us → PartsOf xs us) → with m us ≡ some ps → PartsOf (x ∷ xs) ps
+    go : (m : Option Part) → partOf (x .provider) (x .rows) ≡ m → (us : Option (List Part)) → allParts xs ≡ us
+        → ((us : List Part) → allParts xs ≡ some us → PartsOf xs us) → with m us ≡ some ps → PartsOf (x ∷ xs) ps
     go none p us q ih e = absurd (no-none e)
     go (some y) p none q ih e = absurd (no-none e)
     go (some y) p (some us) q ih e = subst (PartsOf (x ∷ xs)) (some-inj e) (more (part-is (x .provider) (x .rows) y p) (ih us q))
@@ -329,7 +329,7 @@ agree-counts p (q ∷ qs) e =
     let c = both (same (p .mark .ident) (q .mark .ident)) (eqb (p .mark .count) (q .mark .count)) (b .1) in
     (sym (eqb-true _ _ (c .1)), agree-counts p qs (a .1))
 
-whole-rows : (d : Bool) (m : Option (List (List ℕ))) (w : Piece) → whole d m ≡ some w → m ≡ some (w .rows)
+whole-rows : (d : Bool) (m : Option (List (List ℕ))) (w : Piece) → onePiece d m ≡ some w → m ≡ some (w .rows)
 whole-rows d none w e = absurd (no-none e)
 whole-rows d (some rs) w e = ap (λ (x : Piece). some (x .rows)) (some-inj e)
 
@@ -338,7 +338,7 @@ parts-joined [] w e = absurd (no-none e)
 parts-joined (p ∷ ps) w e = go (agree p ps && (leb 2 (p .mark .count) && eqb (suc (length ps)) (p .mark .count))) refl e
   where
     go : (b : Bool) → agree p ps && (leb 2 (p .mark .count) && eqb (suc (length ps)) (p .mark .count)) ≡ b
-        → cond b (whole (p .provider) (gather (p ∷ ps) (p .mark .count) 1)) none ≡ some w → Joined (p ∷ ps) w
+        → cond b (onePiece (p .provider) (gather (p ∷ ps) (p .mark .count) 1)) none ≡ some w → Joined (p ∷ ps) w
     go false q e = absurd (no-none e)
     go true q e =
         let a = both (agree p ps) (leb 2 (p .mark .count) && eqb (suc (length ps)) (p .mark .count)) q in

@@ -11,7 +11,7 @@ use Rattle.characters.specs.Rows.{flat}
 use Rattle.notebook.specs.Notebook.{Notebook, readFile}
 use Rattle.notebook.specs.Same.{arrange}
 use Rattle.notebook.specs.Canonical.{headRow, recordRows, writeFile}
-use Rattle.packing.specs.Widths.{Plan, whole, split, fails, plan}
+use Rattle.packing.specs.Widths.{Plan, inOne, inRuns, noPlan, plan}
 use Rattle.division.specs.Marks.{validID, markRow}
 use Rattle.replies.specs.Results.{Result}
 
@@ -28,9 +28,9 @@ numbered provider id n k (x ∷ xs) = pieceBytes provider id n k x ∷ numbered 
 
 -- "If the canonical file fits the capacity, it is the only piece. Otherwise the pieces number n"
 abbrev pub planned : List ℕ → Notebook → Plan (List ℕ) → Option (List (List ℕ))
-planned id b whole = some (writeFile b ∷ [])
-planned id b (split xs) = some (numbered (b .provider) id (length xs) 1 xs)
-planned id b fails = none
+planned id b inOne = some (writeFile b ∷ [])
+planned id b (inRuns xs) = some (numbered (b .provider) id (length xs) 1 xs)
+planned id b noPlan = none
 
 -- the list of pieces of a notebook whose records stand as they are, for an ID and a capacity; none where no width serves
 unfoldable pub cutting : List ℕ → ℕ → Notebook → Option (List (List ℕ))

@@ -51,9 +51,9 @@ with none ps = none
 with (some p) none = none
 with (some p) (some ps) = some (p ∷ ps)
 
-unfoldable pub partsOf : List Piece → Option (List Part)
-partsOf [] = some []
-partsOf (x ∷ xs) = with (partOf (x .provider) (x .rows)) (partsOf xs)
+unfoldable pub allParts : List Piece → Option (List Part)
+allParts [] = some []
+allParts (x ∷ xs) = with (partOf (x .provider) (x .rows)) (allParts xs)
 
 -- ---- a set: "all with equal line 1, ID (14 digits) and n (2–999, value); k takes each value 1 to n once"
 
@@ -63,9 +63,9 @@ agree p (q ∷ qs) =
     (Bool·beq (p .provider) (q .provider) && (same (p .mark .ident) (q .mark .ident) && eqb (p .mark .count) (q .mark .count))) && agree p qs
 
 -- the first part with a place
-unfoldable pub find : ℕ → List Part → Option Part
-find k [] = none
-find k (p ∷ ps) = cond (eqb (p .mark .place) k) (some p) (find k ps)
+unfoldable pub findPart : ℕ → List Part → Option Part
+findPart k [] = none
+findPart k (p ∷ ps) = cond (eqb (p .mark .place) k) (some p) (findPart k ps)
 
 abbrev pub behind : Option Part → Option (List (List ℕ)) → Option (List (List ℕ))
 behind none rs = none
@@ -75,11 +75,11 @@ behind (some p) (some rs) = some (p .rows ++ rs)
 -- the rows of n parts from place k on: with n parts in all, each place is taken once
 unfoldable pub gather : List Part → ℕ → ℕ → Option (List (List ℕ))
 gather ps zero k = some []
-gather ps (suc n) k = behind (find k ps) (gather ps n (suc k))
+gather ps (suc n) k = behind (findPart k ps) (gather ps n (suc k))
 
-abbrev pub whole : Bool → Option (List (List ℕ)) → Option Piece
-whole d none = none
-whole d (some rs) = some (record { provider = d; rows = rs })
+abbrev pub onePiece : Bool → Option (List (List ℕ)) → Option Piece
+onePiece d none = none
+onePiece d (some rs) = some (record { provider = d; rows = rs })
 
 -- n has one to three digits, so that it is at most 999
 abbrev pub joinParts : Option (List Part) → Option Piece
@@ -87,14 +87,14 @@ joinParts none = none
 joinParts (some []) = none
 joinParts (some (p ∷ ps)) =
     cond (agree p ps && (leb 2 (p .mark .count) && eqb (length (p ∷ ps)) (p .mark .count)))
-    (whole (p .provider) (gather (p ∷ ps) (p .mark .count) 1)) none
+    (onePiece (p .provider) (gather (p ∷ ps) (p .mark .count) 1)) none
 
 -- ---- the pieces joined to one without a record 911, none for 19
 
 unfoldable pub joinPieces : List Piece → Option Piece
 joinPieces [] = none
-joinPieces (x ∷ []) = cond (unmarked (x .rows)) (some x) (joinParts (partsOf (x ∷ [])))
-joinPieces (x ∷ y ∷ xs) = joinParts (partsOf (x ∷ y ∷ xs))
+joinPieces (x ∷ []) = cond (unmarked (x .rows)) (some x) (joinParts (allParts (x ∷ [])))
+joinPieces (x ∷ y ∷ xs) = joinParts (allParts (x ∷ y ∷ xs))
 
 -- ---- the joined file: 1 and 2 on the input, then 19
 

@@ -12,19 +12,19 @@ use Rattle.notebook.specs.Canonical.{headRow}
 
 -- ---- the kinds of rows
 
-pub data Kind : Type 0 where
+pub data RowKind : Type 0 where
   -- a line 1 of a direction
-  head : Bool → Kind
+  head : Bool → RowKind
   -- the 1Ah of the piece before, and a line 1: a 1Ah has no 0Ah behind it, so it stands in front of the next line's row
-  endHead : Bool → Kind
+  endHead : Bool → RowKind
   -- any other line
-  body : Kind
+  body : RowKind
   -- the 1Ah of the last piece, which is the last row
-  end : Kind
+  end : RowKind
   -- no line
-  broken : Kind
+  broken : RowKind
 
-unfoldable pub kindOf : List ℕ → Kind
+unfoldable pub kindOf : List ℕ → RowKind
 kindOf r =
     cond (same r (headRow true)) (head true) (cond (same r (headRow false)) (head false)
     (cond (isLine r) body (cond (same r endMark) end
@@ -34,7 +34,7 @@ kindOf r =
 
 -- The line of the first row that breaks the rule of line ends, 0 for none. begun: a line 1 stands before; n: this row's line. A 1Ah is in
 -- place after a piece only.
-abbrev pub judged : Bool → ℕ → (Bool → ℕ) → Kind → ℕ
+abbrev pub judged : Bool → ℕ → (Bool → ℕ) → RowKind → ℕ
 judged begun n next (head d) = next true
 judged begun n next (endHead d) = cond begun (next true) n
 judged begun n next body = next begun
@@ -58,7 +58,7 @@ pub record Piece : Type 0 where
   pub rows : List (List ℕ)
 
 -- the rows up to the next line 1 or the end
-abbrev pub bodyStep : List ℕ → List (List ℕ) → Kind → List (List ℕ)
+abbrev pub bodyStep : List ℕ → List (List ℕ) → RowKind → List (List ℕ)
 bodyStep r rs (head d) = []
 bodyStep r rs (endHead d) = []
 bodyStep r rs body = r ∷ rs
@@ -69,7 +69,7 @@ unfoldable pub bodyOf : List (List ℕ) → List (List ℕ)
 bodyOf [] = []
 bodyOf (r ∷ rs) = bodyStep r (bodyOf rs) (kindOf r)
 
-abbrev pub opened : List (List ℕ) → List Piece → Kind → List Piece
+abbrev pub opened : List (List ℕ) → List Piece → RowKind → List Piece
 opened rs ps (head d) = record { provider = d; rows = rs } ∷ ps
 opened rs ps (endHead d) = record { provider = d; rows = rs } ∷ ps
 opened rs ps body = ps
@@ -82,7 +82,7 @@ piecesIn (r ∷ rs) = opened (bodyOf rs) (piecesIn rs) (kindOf r)
 
 -- ---- 2, then "a line stands before the first", which is 19
 
-abbrev pub opens : Kind → Bool
+abbrev pub opens : RowKind → Bool
 opens (head d) = true
 opens (endHead d) = true
 opens body = false

@@ -20,20 +20,20 @@ use Rattle.calendar.specs.Era.{readDay}
 use Rattle.digits.specs.Digits.{number}
 use Rattle.records.specs.Table.{Kind, N, U, X, A, F, C, P, R, W, Q, D, among, Item, required}
 use Rattle.records.specs.Split.{itemsOf}
-use Rattle.records.specs.Items.{edge, oneWidth, isCode, oneOf, seven, postal, prefecture, decimal, numberFault, dayFault, sized, fault}
-use Rattle.records.specs.Records.{Record, recordOf, recordFrom, header, itemFault, itemsFault, rowOf, pairs, t911, faultFrom, lineFault}
+use Rattle.records.specs.Items.{edge, oneWidth, isCode, spelledAs, seven, postal, prefecture, isDecimal, numberFault, dayFault, sized, fault}
+use Rattle.records.specs.Records.{Record, recordOf, recordFrom, header, itemFault, itemsFault, tableRow, pairs, t911, faultFrom, lineFault}
 use Rattle.order.specs.declared.State.{State}
 use Rattle.order.specs.declared.Facts.{Facts}
 use Rattle.order.specs.declared.Moved.{Moved}
-use Rattle.order.specs.declared.Moved.the-variants.{Refused, On}
+use Rattle.order.specs.declared.Moved.the-variants.{Fault, On}
 use Rattle.order.specs.Questions.{beforeOf, askedOf}
-use Rattle.rules.specs.Rules.{pairBroken, misplaced, missing, valueWrong, newerGroup, refusal}
+use Rattle.rules.specs.Rules.{pairBroken, misplaced, missing, valueWrong, newerGroup, orderRefusal}
 use Rattle.order.specs.State.{start, refusalOf, stepOf, finishOf}
 use Rattle.order.proofs.Laws.{taken, refused as refusedLaw, next-line, line-start}
 use Rattle.notebook.specs.Facts.{factsOf}
 use Rattle.notebook.specs.Notebook.{stepLine, prepend, closed, onward, recordsFrom, notebookOf, readRows, readFile}
 use Rattle.notebook.proofs.Placing.{placed}
-use Rattle.faults.specs.Faults.{FirstFault, when, itemFaults, ownFaults, orderFaults, faultsOf, Given, here, there, Lowest, LowestNumber}
+use Rattle.faults.specs.Faults.{FirstFault, onlyIf, itemFaults, ownFaults, orderFaults, faultsOf, FirstGiven, here, there, Lowest, LowestNumber}
 use Rattle.faults.specs.Faults.{eachFault, Leftmost, ItemByItem, measured, OnlyForm}
 use Rattle.faults.proofs.RowsOf.{rows-append, no-mark}
 
@@ -66,7 +66,7 @@ later-line (r ∷ rs) st n line e = by (same r endMark) (isLine r) (λ t. later-
   where
     step : (m : Moved) → stepLine st (text r) ≡ m → ((t : State) → recordsFrom t rs ≡ refused n line → t .line < line)
         → onward (st .line + 1) (recordOf (text r)) (λ t. recordsFrom t rs) m ≡ refused n line → st .line < line
-    step (Refused k) q ih e = let z : st .line + 1 ≡ line = cc in omega arith
+    step (Fault k) q ih e = let z : st .line + 1 ≡ line = cc in omega arith
     step (On t rp doctor) q ih e = omega (arith, stepped st (text r) t rp doctor q, ih t (prepended (recordOf (text r)) (recordsFrom t rs) n line e))
 
     by : (x y : Bool) → ((t : State) → recordsFrom t rs ≡ refused n line → t .line < line)
@@ -87,7 +87,7 @@ rows-decide (x ∷ xs) ys zs st n line (m, ms) h e = rw m (by (isLine x) (λ t. 
         → ((t : State) → line ≤ t .line + length xs → recordsFrom t (xs ++ ys) ≡ refused n line → recordsFrom t (xs ++ zs) ≡ refused n line)
         → onward (st .line + 1) (recordOf (text x)) (λ t. recordsFrom t (xs ++ ys)) k ≡ refused n line
         → onward (st .line + 1) (recordOf (text x)) (λ t. recordsFrom t (xs ++ zs)) k ≡ refused n line
-    step (Refused k) q ih e = e
+    step (Fault k) q ih e = e
     step (On t rp doctor) q ih e =
         ap (prepend (recordOf (text x)))
         (ih t (omega (arith, stepped st (text x) t rp doctor q)) (prepended (recordOf (text x)) (recordsFrom t (xs ++ ys)) n line e))
@@ -176,7 +176,7 @@ lowest-of n (up {lo = lo} {hi = hi} {x = x} {ns = ns} a b r) h e = by x b (lowes
     by zero b ih e = let i = ih e in record { some = h; given = there (i .given); least = (inl refl, i .least) }
     by (suc x) b ih e =
         let z = b (omega arith) in
-        record { some = h; given = subst (λ (m : ℕ). Given n (m ∷ ns)) (sym e) here; least = (inr (omega arith), rising-low n (omega arith) r) }
+        record { some = h; given = subst (λ (m : ℕ). FirstGiven n (m ∷ ns)) (sym e) here; least = (inr (omega arith), rising-low n (omega arith) r) }
 
 -- ---- the numbers of items
 
@@ -203,7 +203,7 @@ unfolding fault
 fault-item (N m) s = sized-item m s true
 fault-item (U m) s = sized-item m s (oneWidth s)
 fault-item (X m) s = sized-item m s (all isCode s)
-fault-item A s = unless-item (oneOf (1 ∷ 2 ∷ 8 ∷ 9 ∷ []) s) 11 (omega arith) (omega arith)
+fault-item A s = unless-item (spelledAs (1 ∷ 2 ∷ 8 ∷ 9 ∷ []) s) 11 (omega arith) (omega arith)
 fault-item F s = unless-item (prefecture s) 11 (omega arith) (omega arith)
 fault-item C s = unless-item (seven s) 11 (omega arith) (omega arith)
 fault-item P s = unless-item (postal s) 11 (omega arith) (omega arith)
@@ -212,14 +212,14 @@ fault-item R s = go (number s)
     go : (o : Option ℕ) → OfItem (numberFault o)
     go none = λ h. (omega arith, omega arith)
     go (some n) = unless-item (leb 1 n) 11 (omega arith) (omega arith)
-fault-item W s = unless-item (decimal 3 3 s) 11 (omega arith) (omega arith)
-fault-item Q s = unless-item (decimal 6 5 s) 11 (omega arith) (omega arith)
+fault-item W s = unless-item (isDecimal 3 3 s) 11 (omega arith) (omega arith)
+fault-item Q s = unless-item (isDecimal 6 5 s) 11 (omega arith) (omega arith)
 fault-item D s = go (readDay s)
   where
     go : (r : DateRead) → OfItem (dayFault r)
     go (Date d) = λ h. absurd (omega arith)
     go NotADate = λ h. (omega arith, omega arith)
-fault-item (among ns) s = unless-item (oneOf ns s) 11 (omega arith) (omega arith)
+fault-item (among ns) s = unless-item (spelledAs ns s) 11 (omega arith) (omega arith)
 
 item-item : (provider : Bool) (i : Item) (s : List ℕ) → OfItem (itemFault provider i s)
 unfolding itemFault
@@ -272,7 +272,7 @@ unfolding fault
 fault-form (N m) s e h = absurd (false≢true (sym e))
 fault-form (U m) s e h = absurd (false≢true (sym e))
 fault-form (X m) s e h = absurd (false≢true (sym e))
-fault-form A s e h = unless-form (oneOf (1 ∷ 2 ∷ 8 ∷ 9 ∷ []) s) h
+fault-form A s e h = unless-form (spelledAs (1 ∷ 2 ∷ 8 ∷ 9 ∷ []) s) h
 fault-form F s e h = unless-form (prefecture s) h
 fault-form C s e h = unless-form (seven s) h
 fault-form P s e h = unless-form (postal s) h
@@ -281,14 +281,14 @@ fault-form R s e h = go (number s) h
     go : (o : Option ℕ) → 0 < numberFault o → numberFault o ≡ 11
     go none h = refl
     go (some n) h = unless-form (leb 1 n) h
-fault-form W s e h = unless-form (decimal 3 3 s) h
-fault-form Q s e h = unless-form (decimal 6 5 s) h
+fault-form W s e h = unless-form (isDecimal 3 3 s) h
+fault-form Q s e h = unless-form (isDecimal 6 5 s) h
 fault-form D s e h = go (readDay s) h
   where
     go : (r : DateRead) → 0 < dayFault r → dayFault r ≡ 11
     go (Date d) h = absurd (omega arith)
     go NotADate h = refl
-fault-form (among ns) s e h = unless-form (oneOf ns s) h
+fault-form (among ns) s e h = unless-form (spelledAs ns s) h
 
 pub only-form : OnlyForm
 unfolding itemFault
@@ -305,7 +305,7 @@ rising-unless : {lo : ℕ} {ns : List ℕ} (n : ℕ) (b : Bool) → lo ≤ n →
 rising-unless n true h r = up {x = 0} h (λ (z : 0 < 0). absurd (omega arith)) r
 rising-unless n false h r = up {x = n} h (λ z. (h, omega arith)) r
 
-rising-when : {lo : ℕ} {ns : List ℕ} (n : ℕ) (b : Bool) → lo ≤ n → Rising n ns → Rising lo (when b n ∷ ns)
+rising-when : {lo : ℕ} {ns : List ℕ} (n : ℕ) (b : Bool) → lo ≤ n → Rising n ns → Rising lo (onlyIf b n ∷ ns)
 rising-when n true h r = up {x = n} h (λ z. (h, omega arith)) r
 rising-when n false h r = up {x = 0} h (λ (z : 0 < 0). absurd (omega arith)) r
 
@@ -319,10 +319,10 @@ order-rises st r =
 items-rise : (provider : Bool) (hs : List (List ℕ)) (ns : List ℕ) → Rising 12 ns → Rising 4 (itemFaults provider hs ++ ns)
 items-rise provider [] ns r = up {lo = 4} {hi = 12} {x = 5} (omega arith) (λ z. (omega arith, omega arith)) r
 items-rise provider (h ∷ ss) ns r =
-    rising-unless 5 (leb 1 ((rowOf h) .number) || same h t911) (omega arith) (rising-unless 6 (not (same h t911)) (omega arith)
-    (rising-unless 7 (eqb (length ss) (length ((rowOf h) .items))) (omega arith)
-    (up {lo = 7} {hi = 11} {x = itemsFault provider ((rowOf h) .items) ss} (omega arith)
-    (λ z. let w = items-item provider ((rowOf h) .items) ss z in (omega arith, omega arith))
+    rising-unless 5 (leb 1 ((tableRow h) .number) || same h t911) (omega arith) (rising-unless 6 (not (same h t911)) (omega arith)
+    (rising-unless 7 (eqb (length ss) (length ((tableRow h) .items))) (omega arith)
+    (up {lo = 7} {hi = 11} {x = itemsFault provider ((tableRow h) .items) ss} (omega arith)
+    (λ z. let w = items-item provider ((tableRow h) .items) ss z in (omega arith, omega arith))
     (rising-unless 12 (pairs (recordFrom (h ∷ ss))) (omega arith) r))))
 
 faults-rise : (st : State) (l : List ℕ) → Rising 0 (faultsOf st l)
@@ -351,19 +351,19 @@ first-own : (provider : Bool) (l : List ℕ) → lineFault provider l ≡ firstO
 unfolding lineFault
 first-own provider l = ap (λ (n : ℕ). unless (allChars l) 4 orElse n) (first-items provider (itemsOf l))
 
-when-else : (b : Bool) (n m : ℕ) → cond b (suc n) m ≡ when b (suc n) orElse m
+when-else : (b : Bool) (n m : ℕ) → cond b (suc n) m ≡ onlyIf b (suc n) orElse m
 when-else true n m = refl
 when-else false n m = refl
 
 first-order : (st : State) (r : Facts) → refusalOf st r ≡ firstOf (orderFaults st r)
-unfolding refusalOf refusal
+unfolding refusalOf orderRefusal
 first-order st r =
     let b = beforeOf st in
     let a = askedOf st r in
-    when-else (pairBroken b a) 11 _ ∙ ap (λ (n : ℕ). when (pairBroken b a) 12 orElse n)
-    (when-else (misplaced b a) 12 _ ∙ ap (λ (n : ℕ). when (misplaced b a) 13 orElse n)
-    (when-else (missing b a) 13 _ ∙ ap (λ (n : ℕ). when (missing b a) 14 orElse n)
-    (when-else (valueWrong b a) 14 _ ∙ ap (λ (n : ℕ). when (valueWrong b a) 15 orElse n) (when-else (newerGroup b a) 15 0))))
+    when-else (pairBroken b a) 11 _ ∙ ap (λ (n : ℕ). onlyIf (pairBroken b a) 12 orElse n)
+    (when-else (misplaced b a) 12 _ ∙ ap (λ (n : ℕ). onlyIf (misplaced b a) 13 orElse n)
+    (when-else (missing b a) 13 _ ∙ ap (λ (n : ℕ). onlyIf (missing b a) 14 orElse n)
+    (when-else (valueWrong b a) 14 _ ∙ ap (λ (n : ℕ). onlyIf (valueWrong b a) 15 orElse n) (when-else (newerGroup b a) 15 0))))
 
 first-of : (st : State) (l : List ℕ) → firstOf (faultsOf st l) ≡ lineFault (st .provider) l orElse refusalOf st (factsOf (recordOf l))
 first-of st l =
@@ -375,11 +375,11 @@ record Stepped (st : State) (l : List ℕ) (n : ℕ) : Type 0 where
   some : 0 < n
   first : firstOf (faultsOf st l) ≡ n
 
-refused-first : (st : State) (l : List ℕ) (n : ℕ) → stepLine st l ≡ Refused n → Stepped st l n
+refused-first : (st : State) (l : List ℕ) (n : ℕ) → stepLine st l ≡ Fault n → Stepped st l n
 unfolding stepLine
 refused-first st l n e = by (lineFault (st .provider) l) refl e
   where
-    by : (f : ℕ) → lineFault (st .provider) l ≡ f → cond (eqb f 0) (stepOf st (factsOf (recordOf l))) (Refused f) ≡ Refused n → Stepped st l n
+    by : (f : ℕ) → lineFault (st .provider) l ≡ f → cond (eqb f 0) (stepOf st (factsOf (recordOf l))) (Fault f) ≡ Fault n → Stepped st l n
     by zero q e =
         let k = refusedLaw st (factsOf (recordOf l)) n e in
         record { some = omega (arith, k .from); first = first-of st l ∙ ap (λ (x : ℕ). x orElse refusalOf st (factsOf (recordOf l))) q ∙ sym (k .number) }
@@ -393,7 +393,7 @@ taken-first st l t rp doctor e =
     first-of st l ∙ ap₂ _orElse_ (p .sound) (taken st (factsOf (recordOf l)) t rp doctor (p .step) .good)
 
 -- two lowest numbers are one
-given-least : {n m : ℕ} {ns : List ℕ} → Given m ns → All (λ k. (k ≡ 0) ⊎ (n ≤ k)) ns → (m ≡ 0) ⊎ (n ≤ m)
+given-least : {n m : ℕ} {ns : List ℕ} → FirstGiven m ns → All (λ k. (k ≡ 0) ⊎ (n ≤ k)) ns → (m ≡ 0) ⊎ (n ≤ m)
 given-least here (a, rest) = a
 given-least (there g) (a, rest) = given-least g rest
 
@@ -404,22 +404,22 @@ at-most h (inr e) = e
 lowest-one : {n m : ℕ} {ns : List ℕ} → Lowest n ns → Lowest m ns → n ≡ m
 lowest-one a b = omega (arith, at-most (b .some) (given-least (b .given) (a .least)), at-most (a .some) (given-least (a .given) (b .least)))
 
-none-given : {n : ℕ} {ns : List ℕ} → firstOf ns ≡ 0 → Given n ns → n ≡ 0
+none-given : {n : ℕ} {ns : List ℕ} → firstOf ns ≡ 0 → FirstGiven n ns → n ≡ 0
 none-given e (here {ns = ns}) = or-zero _ (firstOf ns) e .0
 none-given e (there {m = m} {ns = ns} g) = none-given (or-zero m (firstOf ns) e .1) g
 
 pub lowest-number : LowestNumber
 lowest-number st l n = (to, from)
   where
-    lowest : (m : ℕ) → stepLine st l ≡ Refused m → Lowest m (faultsOf st l)
+    lowest : (m : ℕ) → stepLine st l ≡ Fault m → Lowest m (faultsOf st l)
     lowest m e = let k = refused-first st l m e in lowest-of m (faults-rise st l) (k .some) (k .first)
 
-    to : stepLine st l ≡ Refused n → Lowest n (faultsOf st l)
+    to : stepLine st l ≡ Fault n → Lowest n (faultsOf st l)
     to e = lowest n e
 
-    from : Lowest n (faultsOf st l) → stepLine st l ≡ Refused n
+    from : Lowest n (faultsOf st l) → stepLine st l ≡ Fault n
     from a = by (stepLine st l) refl
       where
-        by : (k : Moved) → stepLine st l ≡ k → stepLine st l ≡ Refused n
-        by (Refused m) q = q ∙ ap (λ (x : ℕ). Refused x) (lowest-one (lowest m q) a)
+        by : (k : Moved) → stepLine st l ≡ k → stepLine st l ≡ Fault n
+        by (Fault m) q = q ∙ ap (λ (x : ℕ). Fault x) (lowest-one (lowest m q) a)
         by (On t rp doctor) q = absurd (omega (arith, a .some, none-given (taken-first st l t rp doctor q) (a .given)))

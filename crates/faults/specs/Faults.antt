@@ -14,10 +14,10 @@ use Rattle.characters.specs.Text.{allChars}
 use Rattle.characters.specs.Rows.{rows}
 use Rattle.records.specs.Table.{Kind, N, U, X, A, F, C, P, R, W, Q, D, among, Item}
 use Rattle.records.specs.Split.{itemsOf}
-use Rattle.records.specs.Records.{recordOf, recordFrom, itemFault, itemsFault, rowOf, pairs, t911}
+use Rattle.records.specs.Records.{recordOf, recordFrom, itemFault, itemsFault, tableRow, pairs, t911}
 use Rattle.order.specs.declared.State.{State}
 use Rattle.order.specs.declared.Facts.{Facts}
-use Rattle.order.specs.declared.Moved.the-variants.{Refused}
+use Rattle.order.specs.declared.Moved.the-variants.{Fault}
 use Rattle.order.specs.Questions.{beforeOf, askedOf}
 use Rattle.rules.specs.Rules.{pairBroken, misplaced, missing, valueWrong, newerGroup}
 use Rattle.notebook.specs.Facts.{factsOf}
@@ -41,17 +41,17 @@ FirstFault =
 -- ---- the lowest number of a line
 
 -- the number of a rule that is broken, else 0
-abbrev pub when : Bool → ℕ → ℕ
-when broken n = cond broken n 0
+abbrev pub onlyIf : Bool → ℕ → ℕ
+onlyIf broken n = cond broken n 0
 
 -- the line's own rules, 4 to 12; of its items the first that is faulty
 abbrev pub itemFaults : Bool → List (List ℕ) → List ℕ
 itemFaults provider [] = 5 ∷ []
 itemFaults provider (h ∷ ss) =
-    unless (leb 1 ((rowOf h) .number) || same h t911) 5
+    unless (leb 1 ((tableRow h) .number) || same h t911) 5
     ∷ unless (not (same h t911)) 6
-    ∷ unless (eqb (length ss) (length ((rowOf h) .items))) 7
-    ∷ itemsFault provider ((rowOf h) .items) ss
+    ∷ unless (eqb (length ss) (length ((tableRow h) .items))) 7
+    ∷ itemsFault provider ((tableRow h) .items) ss
     ∷ unless (pairs (recordFrom (h ∷ ss))) 12
     ∷ []
 
@@ -61,29 +61,29 @@ ownFaults provider l = unless (allChars l) 4 ∷ itemFaults provider (itemsOf l)
 -- the rules of order, 12 to 16
 abbrev pub orderFaults : State → Facts → List ℕ
 orderFaults st r =
-    when (pairBroken (beforeOf st) (askedOf st r)) 12
-    ∷ when (misplaced (beforeOf st) (askedOf st r)) 13
-    ∷ when (missing (beforeOf st) (askedOf st r)) 14
-    ∷ when (valueWrong (beforeOf st) (askedOf st r)) 15
-    ∷ when (newerGroup (beforeOf st) (askedOf st r)) 16
+    onlyIf (pairBroken (beforeOf st) (askedOf st r)) 12
+    ∷ onlyIf (misplaced (beforeOf st) (askedOf st r)) 13
+    ∷ onlyIf (missing (beforeOf st) (askedOf st r)) 14
+    ∷ onlyIf (valueWrong (beforeOf st) (askedOf st r)) 15
+    ∷ onlyIf (newerGroup (beforeOf st) (askedOf st r)) 16
     ∷ []
 
 abbrev pub faultsOf : State → List ℕ → List ℕ
 faultsOf st l = ownFaults (st .provider) l ++ orderFaults st (factsOf (recordOf l))
 
 -- n is one of them
-pub data Given (n : ℕ) : List ℕ → Type 0 where
-  here : {ns : List ℕ} → Given n (n ∷ ns)
-  there : {m : ℕ} {ns : List ℕ} → Given n ns → Given n (m ∷ ns)
+pub data FirstGiven (n : ℕ) : List ℕ → Type 0 where
+  here : {ns : List ℕ} → FirstGiven n (n ∷ ns)
+  there : {m : ℕ} {ns : List ℕ} → FirstGiven n ns → FirstGiven n (m ∷ ns)
 
 pub record Lowest (n : ℕ) (ns : List ℕ) : Type 0 where
   pub some : 0 < n
-  pub given : Given n ns
+  pub given : FirstGiven n ns
   pub least : All (λ m. (m ≡ 0) ⊎ (n ≤ m)) ns
 
 -- a line is refused with n exactly if n is the lowest number that it has
 abbrev pub LowestNumber : Type 0
-LowestNumber = (st : State) (l : List ℕ) (n : ℕ) → (stepLine st l ≡ Refused n) ↔ Lowest n (faultsOf st l)
+LowestNumber = (st : State) (l : List ℕ) (n : ℕ) → (stepLine st l ≡ Fault n) ↔ Lowest n (faultsOf st l)
 
 -- ---- item by item
 

@@ -3,14 +3,14 @@ use mathlib.Core.Path.{_≡_, refl}
 use mathlib.Core.Bool.{Bool, true, Bool·beq}
 use mathlib.Core.List.{map}
 use Rattle.order.specs.declared.Facts.{Facts}
-use Rattle.grammar.specs.Grammar.{Tree, records, all, good}
-use Rattle.grammar.specs.TreeRows.{Row, treeRows}
+use Rattle.grammar.specs.Grammar.{Tree, records, allOf, good}
+use Rattle.grammar.specs.TreeRows.{TreeRow, treeRows}
 use Rattle.grammar.specs.Examples.{dispensed, pharmacy, twoDoctors, cases, twoDoctorsRecords, everyRecord, theirNumbers, twoGroups, theirDoctors}
 
 abbrev pub holds : Bool × (Tree × Bool) → Bool
 holds c = Bool·beq (good (c .0) (c .1 .0)) (c .1 .1)
 
-pub cases-hold : all holds cases ≡ true
+pub cases-hold : allOf holds cases ≡ true
 cases-hold = refl
 
 pub records-hold : records (dispensed (pharmacy twoDoctors)) ≡ twoDoctorsRecords
@@ -19,5 +19,5 @@ records-hold = refl
 pub numbers-hold : map (λ (r : Facts). r .number) (records everyRecord) ≡ theirNumbers
 numbers-hold = refl
 
-pub doctors-hold : map (λ (r : Row). r .doctor) (treeRows twoGroups) ≡ theirDoctors
+pub doctors-hold : map (λ (r : TreeRow). r .doctor) (treeRows twoGroups) ≡ theirDoctors
 doctors-hold = refl

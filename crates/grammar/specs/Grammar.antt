@@ -83,12 +83,12 @@ opt n none rs = rs
 opt n (some d) rs = rec n d ∷ rs
 
 -- "any"
-abbrev pub any : ℕ → List Details → List Facts → List Facts
-any n [] rs = rs
-any n (d ∷ ds) rs = rec n d ∷ any n ds rs
+abbrev pub anyOf : ℕ → List Details → List Facts → List Facts
+anyOf n [] rs = rs
+anyOf n (d ∷ ds) rs = rec n d ∷ anyOf n ds rs
 
 abbrev pub drugRecords : Drug → List Facts → List Facts
-drugRecords d rs = rec 201 (d .r201) ∷ any 281 (d .r281s) (any 291 (d .r291s) rs)
+drugRecords d rs = rec 201 (d .r201) ∷ anyOf 281 (d .r281s) (anyOf 291 (d .r291s) rs)
 
 abbrev pub drugsRecords : List Drug → List Facts → List Facts
 drugsRecords [] rs = rs
@@ -96,10 +96,10 @@ drugsRecords (d ∷ ds) rs = drugRecords d (drugsRecords ds rs)
 
 abbrev pub usageRecords : Option Usage → List Facts → List Facts
 usageRecords none rs = rs
-usageRecords (some u) rs = rec 301 (u .r301) ∷ any 311 (u .r311s) rs
+usageRecords (some u) rs = rec 301 (u .r301) ∷ anyOf 311 (u .r311s) rs
 
 abbrev pub rpRecords : Prescription → List Facts → List Facts
-rpRecords p rs = drugRecords (p .drug) (drugsRecords (p .drugs) (usageRecords (p .usage) (any 391 (p .r391s) rs)))
+rpRecords p rs = drugRecords (p .drug) (drugsRecords (p .drugs) (usageRecords (p .usage) (anyOf 391 (p .r391s) rs)))
 
 abbrev pub plainRecords : List Prescription → List Facts → List Facts
 plainRecords [] rs = rs
@@ -115,7 +115,7 @@ prescriptionsRecords (withDoctors d p ls) rs = rec 55 d ∷ rpRecords p (laterRe
 
 -- the records behind a group's prescriptions
 abbrev pub restRecords : Group → List Facts → List Facts
-restRecords g rs = any 401 (g .r401s) (any 411 (g .r411s) (any 501 (g .r501s) (any 601 (g .r601s) rs)))
+restRecords g rs = anyOf 401 (g .r401s) (anyOf 411 (g .r411s) (anyOf 501 (g .r501s) (anyOf 601 (g .r601s) rs)))
 
 abbrev pub groupRecords : Group → List Facts → List Facts
 groupRecords g rs =
@@ -126,17 +126,17 @@ groupsRecords [] rs = rs
 groupsRecords (g ∷ gs) rs = groupRecords g (groupsRecords gs rs)
 
 abbrev pub records : Tree → List Facts
-records t = opt 1 (t .r1) (any 2 (t .r2s) (any 3 (t .r3s) (any 4 (t .r4s) (groupsRecords (t .groups) (any 701 (t .r701s) [])))))
+records t = opt 1 (t .r1) (anyOf 2 (t .r2s) (anyOf 3 (t .r3s) (anyOf 4 (t .r4s) (groupsRecords (t .groups) (anyOf 701 (t .r701s) [])))))
 
 -- ---- words for conditions
 
-abbrev pub all : {A : Type 0} → (A → Bool) → List A → Bool
-all f [] = true
-all f (x ∷ xs) = f x && all f xs
+abbrev pub allOf : {A : Type 0} → (A → Bool) → List A → Bool
+allOf f [] = true
+allOf f (x ∷ xs) = f x && allOf f xs
 
-abbrev pub empty : {A : Type 0} → List A → Bool
-empty [] = true
-empty (x ∷ xs) = false
+abbrev pub noneOf : {A : Type 0} → List A → Bool
+noneOf [] = true
+noneOf (x ∷ xs) = false
 
 abbrev pub stands : {A : Type 0} → Option A → Bool
 stands none = false
@@ -157,7 +157,7 @@ rps (withoutDoctors ps) = ps
 rps (withDoctors d p ls) = p ∷ laterOnes ls
 
 abbrev pub noRp : Group → Bool
-noRp g = empty (rps (g .prescriptions))
+noRp g = noneOf (rps (g .prescriptions))
 
 abbrev pub no55 : Prescriptions → Bool
 no55 (withoutDoctors ps) = true
@@ -184,7 +184,7 @@ usageNamed provider schedule none = true
 usageNamed provider schedule (some u) = nameAsked provider schedule (u .r301 .form) ⇒ u .r301 .named
 
 abbrev pub allNamed : Bool → ℕ → List Prescription → Bool
-allNamed provider schedule ps = all (λ p. usageNamed provider schedule (p .usage)) ps
+allNamed provider schedule ps = allOf (λ p. usageNamed provider schedule (p .usage)) ps
 
 abbrev pub names : Bool → Group → Bool
 names provider g = allNamed provider (scheduleOf (g .r11)) (rps (g .prescriptions))
@@ -196,14 +196,14 @@ abbrev pub valued : ℕ → Details → Bool
 valued v d = eqb (d .rp) v
 
 abbrev pub drugValued : ℕ → Drug → Bool
-drugValued v d = valued v (d .r201) && (all (valued v) (d .r281s) && all (valued v) (d .r291s))
+drugValued v d = valued v (d .r201) && (allOf (valued v) (d .r281s) && allOf (valued v) (d .r291s))
 
 abbrev pub usageValued : ℕ → Option Usage → Bool
 usageValued v none = true
-usageValued v (some u) = valued v (u .r301) && all (valued v) (u .r311s)
+usageValued v (some u) = valued v (u .r301) && allOf (valued v) (u .r311s)
 
 abbrev pub oneValue : ℕ → Prescription → Bool
-oneValue v p = drugValued v (p .drug) && (all (drugValued v) (p .drugs) && (usageValued v (p .usage) && all (valued v) (p .r391s)))
+oneValue v p = drugValued v (p .drug) && (allOf (drugValued v) (p .drugs) && (usageValued v (p .usage) && allOf (valued v) (p .r391s)))
 
 abbrev pub valuesFrom : ℕ → List Prescription → Bool
 valuesFrom v [] = true
@@ -226,7 +226,7 @@ days (g ∷ gs) = noneNewer (g .r5 .day) gs
 
 -- "at least one group" (record 5 is required)
 abbrev pub someGroup : Tree → Bool
-someGroup t = not (empty (t .groups))
+someGroup t = not (noneOf (t .groups))
 
 -- "each has 11" (record 11 is required)
 abbrev pub has11 : Group → Bool
@@ -234,7 +234,7 @@ has11 g = stands (g .r11)
 
 -- "each RP has 301" (record 301 is required)
 abbrev pub each301 : List Prescription → Bool
-each301 ps = all (λ p. stands (p .usage)) ps
+each301 ps = allOf (λ p. stands (p .usage)) ps
 
 -- "after an 11 with 1 or 3, no 51 or 55" (note 1: only where a pharmacy dispensed)
 abbrev pub no51No55 : Group → Bool
@@ -250,10 +250,10 @@ rpAfter51 g = stands (g .r51) ⇒ not (noRp g)
 
 -- "a group without RP has a 411 and no 401" (3.2.10, information without dispensing: 51 to 401 can't stand)
 abbrev pub informs : Group → Bool
-informs g = noRp g ⇒ not (empty (g .r411s)) && empty (g .r401s)
+informs g = noRp g ⇒ not (noneOf (g .r411s)) && noneOf (g .r401s)
 
-abbrev pub fromProvider : Group → Bool
-fromProvider g = has11 g && (each301 (rps (g .prescriptions)) && (no51No55 g && (has51 g && (rpAfter51 g && informs g))))
+abbrev pub providerAsks : Group → Bool
+providerAsks g = has11 g && (each301 (rps (g .prescriptions)) && (no51No55 g && (has51 g && (rpAfter51 g && informs g))))
 
 -- ---- "Direction 2: record 1 stands." 3.2.8, column of the direction from patient to provider
 
@@ -264,11 +264,11 @@ has1 t = stands (t .r1)
 
 -- in both directions
 abbrev pub common : Bool → Tree → Bool
-common provider t = all values (t .groups) && (days (t .groups) && all (names provider) (t .groups))
+common provider t = allOf values (t .groups) && (days (t .groups) && allOf (names provider) (t .groups))
 
 -- in one of them
 abbrev pub also : Bool → Tree → Bool
-also true t = someGroup t && all fromProvider (t .groups)
+also true t = someGroup t && allOf providerAsks (t .groups)
 also false t = has1 t
 
 abbrev pub good : Bool → Tree → Bool

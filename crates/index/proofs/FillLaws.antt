@@ -22,7 +22,7 @@ use Rattle.records.specs.Records.{lineFault, recordOf}
 use Rattle.order.specs.declared.State.{State}
 use Rattle.order.specs.declared.Facts.{Facts}
 use Rattle.order.specs.declared.Moved.{Moved}
-use Rattle.order.specs.declared.Moved.the-variants.{Refused, On}
+use Rattle.order.specs.declared.Moved.the-variants.{Fault, On}
 use Rattle.order.specs.State.{start, advance, stepOf, groupOf, drugOf}
 use Rattle.order.specs.Room.{Room as Countable}
 use Rattle.order.proofs.Laws.{taken, next-line, room, room-start, line-start}
@@ -125,7 +125,7 @@ module _ {provider : Bool} {s : List ℕ} {from : ℕ} {d : List ℕ} {st : Stat
         let n : at + length (part s at e ++ lineEnd) ≡ e + 2 = rw (length-append, whole-length w refl) (omega (arith, line .low)) in
         rw (line .cut, line-is (part s at e) (line .clear), line-text (part s at e) (line .clear), n)
 
-    filling-faulty : {n : ℕ} → Refused n ≡ stepLine st (part s at e) → entriesFrom st at (rows (drop at s)) ≡ []
+    filling-faulty : {n : ℕ} → Fault n ≡ stepLine st (part s at e) → entriesFrom st at (rows (drop at s)) ≡ []
     unfolding here entered
     filling-faulty u = line-entries ∙ ap here (sym u)
 

@@ -12,7 +12,7 @@ use Rattle.lists.proofs.Tests.{both, below, below-at, zero-unless}
 use Rattle.digits.specs.Digits.{isDigit, value, number}
 use Rattle.digits.specs.Short.{shortValue, plainNumber}
 use Rattle.digits.proofs.Numbers.{digit-is}
-use Rattle.records.specs.Items.{decimal, fault}
+use Rattle.records.specs.Items.{isDecimal, fault}
 use Rattle.items.specs.Codes.{setOf, kindOf}
 use Rattle.items.specs.Ends.{DigitAt, DigitFits}
 use Rattle.items.proofs.DispatchLaws.{rp-fault, kind-a, kind-r, kind-w, kind-q, kind-set}
@@ -35,17 +35,17 @@ pub ruleset digit-laws = (digit-low, digit-none, digit-there)
 
 read : ℕ → Bool
 read d =
-    (eqb (plainNumber ((48 + d) ∷ [])) d && eqb (shortValue ((48 + d) ∷ [])) d) && (decimal 3 3 ((48 + d) ∷ []) && decimal 6 5 ((48 + d) ∷ []))
+    (eqb (plainNumber ((48 + d) ∷ [])) d && eqb (shortValue ((48 + d) ∷ [])) d) && (isDecimal 3 3 ((48 + d) ∷ []) && isDecimal 6 5 ((48 + d) ∷ []))
 
 all-read : below read 10 ≡ true
-unfolding below read plainNumber shortValue number value decimal
+unfolding below read plainNumber shortValue number value isDecimal
 all-read = refl
 
 record Read (d : ℕ) : Type 0 where
   plain : plainNumber ((48 + d) ∷ []) ≡ d
   short : shortValue ((48 + d) ∷ []) ≡ d
-  weight : decimal 3 3 ((48 + d) ∷ []) ≡ true
-  quantity : decimal 6 5 ((48 + d) ∷ []) ≡ true
+  weight : isDecimal 3 3 ((48 + d) ∷ []) ≡ true
+  quantity : isDecimal 6 5 ((48 + d) ∷ []) ≡ true
 
 read-at : (d : ℕ) → d ≤ 9 → Read d
 unfolding read

@@ -18,7 +18,7 @@ use Rattle.calendar.specs.declared.DateRead.the-variants.{Date, NotADate}
 use Rattle.calendar.specs.declared.Day.{Day}
 use Rattle.calendar.specs.Era.{readDay}
 use Rattle.records.specs.Table.{Need, always, fromProvider, optional, required}
-use Rattle.records.specs.Items.{edge, sized, oneWidth, isCode, prefecture, seven, postal, decimal, numberFault, dayFault, fault}
+use Rattle.records.specs.Items.{edge, sized, oneWidth, isCode, prefecture, seven, postal, isDecimal, numberFault, dayFault, fault}
 use Rattle.records.specs.Records.{itemFault}
 use Rattle.items.specs.Codes.{setOf, kindOf, needOf, itemOf}
 use Rattle.items.proofs.SetLaws.{set-member, beyond-11}
@@ -86,11 +86,11 @@ module _ (m : ℕ) (s : List ℕ) {k r : ℕ} where
   unfolding fault kindOf
   kind-r e q = same-kind 7 e q
 
-  pub kind-w : {x : Bool} → k ≡ 8 → x ≡ decimal 3 3 s → r ≡ unless x 11 → r ≡ fault (kindOf k m) s
+  pub kind-w : {x : Bool} → k ≡ 8 → x ≡ isDecimal 3 3 s → r ≡ unless x 11 → r ≡ fault (kindOf k m) s
   unfolding fault kindOf
   kind-w e p q = same-kind 8 e (q ∙ ap (λ (b : Bool). unless b 11) p)
 
-  pub kind-q : {x : Bool} → k ≡ 9 → x ≡ decimal 6 5 s → r ≡ unless x 11 → r ≡ fault (kindOf k m) s
+  pub kind-q : {x : Bool} → k ≡ 9 → x ≡ isDecimal 6 5 s → r ≡ unless x 11 → r ≡ fault (kindOf k m) s
   unfolding fault kindOf
   kind-q e p q = same-kind 9 e (q ∙ ap (λ (b : Bool). unless b 11) p)
 

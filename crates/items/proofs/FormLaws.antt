@@ -15,7 +15,7 @@ use Rattle.lists.proofs.Cuts.{rest-all, take-upTo}
 use Rattle.lists.proofs.Loops.{find-high}
 use Rattle.digits.specs.Digits.{isDigit, value, number}
 use Rattle.digits.specs.Short.{orThousand, shortValue}
-use Rattle.records.specs.Items.{isPeriod, seven, unhyphened, prefecture, whole, places, fraction, decimal}
+use Rattle.records.specs.Items.{isPeriod, seven, unhyphened, prefecture, wholePart, fractionPart, fraction, isDecimal}
 
 pub unhyphened-length : (s : List ℕ) → length (unhyphened s) ≡ min 3 (length s) + (length s - 4)
 unhyphened-length s = length-append (take 3 s) (drop 4 s) ∙ ap (λ (x : ℕ). x + length (drop 4 s)) (length-take 3 s) ∙ ap (λ (x : ℕ). min 3 (length s) + x) (length-drop 4 s)
@@ -43,17 +43,17 @@ pub fraction-none : (f : ℕ) (s : List ℕ) → length s ≡ 0 → true ≡ fra
 fraction-none f [] h = refl
 fraction-none f (b ∷ s) h = absurd (omega arith)
 
-pub fraction-some : (f : ℕ) (s : List ℕ) {r : Bool} → (length s ≡ 0 → ⊥) → r ≡ places f (take (length s - 1) (drop 1 s)) → r ≡ fraction f s
+pub fraction-some : (f : ℕ) (s : List ℕ) {r : Bool} → (length s ≡ 0 → ⊥) → r ≡ fractionPart f (take (length s - 1) (drop 1 s)) → r ≡ fraction f s
 fraction-some f [] h e = absurd (h refl)
-fraction-some f (b ∷ s) h e = e ∙ ap (places f) (rest-all 1 (b ∷ s))
+fraction-some f (b ∷ s) h e = e ∙ ap (fractionPart f) (rest-all 1 (b ∷ s))
 
-pub decimal-is : (w f : ℕ) (s : List ℕ) {p : ℕ} {x y : Bool} → p ≡ findFrom 0x2e s 0 → x ≡ whole w (take (p - 0) (drop 0 s)) → y ≡ fraction f (take (length s - p) (drop p s))
-    → (x && y) ≡ decimal w f s
-unfolding decimal findFrom
+pub decimal-is : (w f : ℕ) (s : List ℕ) {p : ℕ} {x y : Bool} → p ≡ findFrom 0x2e s 0 → x ≡ wholePart w (take (p - 0) (drop 0 s)) → y ≡ fraction f (take (length s - p) (drop p s))
+    → (x && y) ≡ isDecimal w f s
+unfolding isDecimal findFrom
 decimal-is w f s {p} {x} {y} e a b =
     let n : p - 0 ≡ length (upTo isPeriod s) = omega (arith, e) in
     let m : p ≡ length (upTo isPeriod s) = omega (arith, e) in
-    let a′ : x ≡ whole w (upTo isPeriod s) = a ∙ ap (whole w) (ap (λ (k : ℕ). take k s) n ∙ take-upTo isPeriod s) in
+    let a′ : x ≡ wholePart w (upTo isPeriod s) = a ∙ ap (wholePart w) (ap (λ (k : ℕ). take k s) n ∙ take-upTo isPeriod s) in
     let b′ : y ≡ fraction f (drop (length (upTo isPeriod s)) s) = b ∙ ap (fraction f) (rest-all p s ∙ ap (λ (k : ℕ). drop k s) m) in
     cc
 

@@ -11,7 +11,7 @@ use Rattle.lists.specs.Lists.{all, member}
 use Rattle.lists.proofs.Tests.{both}
 use Rattle.digits.specs.Short.{plainNumber}
 use Rattle.digits.proofs.Spelling.{same-spell}
-use Rattle.records.specs.Items.{oneOf}
+use Rattle.records.specs.Items.{spelledAs}
 use Rattle.items.specs.Codes.{sets, setOf}
 
 -- the numbers of a set can be spelled
@@ -21,7 +21,7 @@ small n = leb 1 n && leb n 999
 pub small-is : (n : ℕ) → small n ≡ true → (1 ≤ n) × (n ≤ 999)
 small-is n e = let p : (leb 1 n ≡ true) × (leb n 999 ≡ true) = both (leb 1 n) (leb n 999) e in (leb-true 1 n (p .0), leb-true n 999 (p .1))
 
-pub one-of-member : (ns : List ℕ) (s : List ℕ) → all small ns ≡ true → oneOf ns s ≡ member ns (plainNumber s)
+pub one-of-member : (ns : List ℕ) (s : List ℕ) → all small ns ≡ true → spelledAs ns s ≡ member ns (plainNumber s)
 one-of-member [] s h = refl
 one-of-member (n ∷ ns) s h =
     let p : (small n ≡ true) × (all small ns ≡ true) = both (small n) (all small ns) h in
@@ -44,7 +44,7 @@ unfolding allSmall
 sets-small = refl
 
 -- a value in braces
-pub set-member : (m : ℕ) (s : List ℕ) → oneOf (setOf m) s ≡ member (setOf m) (plainNumber s)
+pub set-member : (m : ℕ) (s : List ℕ) → spelledAs (setOf m) s ≡ member (setOf m) (plainNumber s)
 set-member m s = one-of-member (setOf m) s (set-small sets m sets-small)
 
 up : (j k : ℕ) → j ≤ k → (k ≡ j → ⊥) → suc j ≤ k

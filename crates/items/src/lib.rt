@@ -11,7 +11,7 @@ ghost use Rattle.digits.specs.Digits.{number};
 ghost use Rattle.characters.specs.Cells.{isOne};
 ghost use Rattle.calendar.specs.Era.{readDay};
 ghost use Rattle.records.specs.Table.{required as requiredOf};
-ghost use Rattle.records.specs.Items.{isCode, allPairs, endsWide, oneWidth as oneWidthOf, edge as edgeOf, seven as sevenOf, unhyphened, postal as postalOf, prefecture as prefectureOf, whole as wholeOf, places as placesOf, fraction as fractionOf, decimal as decimalOf, sized as sizedOf, fault as faultOf, numberFault, dayFault};
+ghost use Rattle.records.specs.Items.{isCode, allPairs, endsWide, oneWidth as oneWidthOf, edge as edgeOf, seven as sevenOf, unhyphened, postal as postalOf, prefecture as prefectureOf, wholePart as wholeOf, fractionPart as placesOf, fraction as fractionOf, isDecimal as decimalOf, sized as sizedOf, fault as faultOf, numberFault, dayFault};
 ghost use Rattle.records.specs.Records.{itemFault};
 ghost use Rattle.items.specs.Codes.{setOf, kindOf, needOf, itemOf};
 ghost use Rattle.items.specs.Ends.{EndOf, SpelledAt, CodeRun, DigitAt, DigitFits};

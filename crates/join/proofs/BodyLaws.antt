@@ -25,7 +25,7 @@ use Rattle.pieces.specs.declared.Row.the-variants.{Head, EndHead, Body, End, Br
 use Rattle.pieces.specs.declared.Numbers.{Numbers}
 use Rattle.pieces.specs.declared.Numbers.the-variants.{Read, Unread}
 use Rattle.division.specs.Marks.{Mark, readMark}
-use Rattle.division.specs.Pieces.{Kind, head, endHead, body, end, broken, kindOf, bodyStep, bodyOf, opened, piecesIn}
+use Rattle.division.specs.Pieces.{RowKind, head, endHead, body, end, broken, kindOf, bodyStep, bodyOf, opened, piecesIn}
 use Rattle.pieces.specs.Answers.{RowAt, asKind, KindIs, asMark, Most, Reaches, MarkIs}
 use Rattle.join.specs.declared.Lines.{Lines}
 use Rattle.join.specs.declared.Lines.the-variants.{Plain, Marked, Wrong}
@@ -90,7 +90,7 @@ unfolding bodyOf
 body-on [] d m e = absurd (false≢true e)
 body-on (r ∷ rs) d m e = go (kindOf r) e
   where
-    go : (k : Kind) → isBody k ≡ true → lastMark d (bodyStep r (bodyOf rs) k) m ≡ none
+    go : (k : RowKind) → isBody k ≡ true → lastMark d (bodyStep r (bodyOf rs) k) m ≡ none
     go (head x) e = absurd (false≢true e)
     go (endHead x) e = absurd (false≢true e)
     go body e = refl
@@ -102,7 +102,7 @@ unfolding bodyOf
 body-over [] e = refl
 body-over (r ∷ rs) e = go (kindOf r) e
   where
-    go : (k : Kind) → isBody k ≡ false → bodyStep r (bodyOf rs) k ≡ []
+    go : (k : RowKind) → isBody k ≡ false → bodyStep r (bodyOf rs) k ≡ []
     go (head x) e = refl
     go (endHead x) e = refl
     go body e = absurd (false≢true (sym e))
@@ -155,7 +155,7 @@ body-front (r ∷ rs) xs e =
     let p : (isBody (kindOf r) ≡ true) × (allBody rs ≡ true) = both (isBody (kindOf r)) (allBody rs) e in
     go (kindOf r) (p .0) (body-front rs xs (p .1))
   where
-    go : (k : Kind) → isBody k ≡ true → bodyOf (rs ++ xs) ≡ rs ++ bodyOf xs → bodyStep r (bodyOf (rs ++ xs)) k ≡ r ∷ (rs ++ bodyOf xs)
+    go : (k : RowKind) → isBody k ≡ true → bodyOf (rs ++ xs) ≡ rs ++ bodyOf xs → bodyStep r (bodyOf (rs ++ xs)) k ≡ r ∷ (rs ++ bodyOf xs)
     go (head x) e i = absurd (false≢true e)
     go (endHead x) e i = absurd (false≢true e)
     go body e i = ap (λ (t : List (List ℕ)). r ∷ t) i
@@ -169,7 +169,7 @@ pieces-front (r ∷ rs) xs e =
     let p : (isBody (kindOf r) ≡ true) × (allBody rs ≡ true) = both (isBody (kindOf r)) (allBody rs) e in
     go (kindOf r) (p .0) (pieces-front rs xs (p .1))
   where
-    go : (k : Kind) → isBody k ≡ true → piecesIn (rs ++ xs) ≡ piecesIn xs → opened (bodyOf (rs ++ xs)) (piecesIn (rs ++ xs)) k ≡ piecesIn xs
+    go : (k : RowKind) → isBody k ≡ true → piecesIn (rs ++ xs) ≡ piecesIn xs → opened (bodyOf (rs ++ xs)) (piecesIn (rs ++ xs)) k ≡ piecesIn xs
     go (head x) e i = absurd (false≢true e)
     go (endHead x) e i = absurd (false≢true e)
     go body e i = i
@@ -183,7 +183,7 @@ unbroken-front (r ∷ rs) xs e =
     let p : (isBody (kindOf r) ≡ true) × (allBody rs ≡ true) = both (isBody (kindOf r)) (allBody rs) e in
     go (kindOf r) (p .0) (unbroken-front rs xs (p .1))
   where
-    go : (k : Kind) → isBody k ≡ true → unbroken (rs ++ xs) ≡ unbroken xs → (isWhole k && unbroken (rs ++ xs)) ≡ unbroken xs
+    go : (k : RowKind) → isBody k ≡ true → unbroken (rs ++ xs) ≡ unbroken xs → (isWhole k && unbroken (rs ++ xs)) ≡ unbroken xs
     go (head x) e i = absurd (false≢true e)
     go (endHead x) e i = absurd (false≢true e)
     go body e i = i

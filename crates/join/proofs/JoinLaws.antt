@@ -34,7 +34,7 @@ use Rattle.join.specs.declared.Filled.{Filled}
 use Rattle.join.specs.declared.Filled.the-variants.{Full, Large}
 use Rattle.join.specs.declared.Made.{Made}
 use Rattle.join.specs.declared.Made.the-variants.{Bytes, No}
-use Rattle.division.specs.Join.{unmarked, Part, partOf, with, partsOf, agree, gather, whole, joinParts, joinPieces, orSet, joinSplit, joinedFile, checkedFile, thenChecked, joinFile, joinResult}
+use Rattle.division.specs.Join.{unmarked, Part, partOf, with, allParts, agree, gather, onePiece, joinParts, joinPieces, orSet, joinSplit, joinedFile, checkedFile, thenChecked, joinFile, joinResult}
 use Rattle.join.specs.Spans.{unbroken, sound, Opened, Ended, NextMeans, NextIs, OpenedFirst, FirstMeans, FirstIs, PlainLines, partBy, identAt, MarkedLines, WrongLines, LinesMean, LinesAre, like, isSet, Blank, Collected, CollectMeans, CollectIs, taken, spans, FillMeans, FillIs, MadeMeans, MadeIs, SoundMeans, SoundIs, Given, GivenSet, First, Input}
 use Rattle.lists.proofs.Parts.{part-length}
 use Rattle.join.proofs.SoundLaws.{sound-line, line-sound}
@@ -111,24 +111,24 @@ module _ {D s : List ℕ} {d : Bool} {last n : ℕ} (g : First D s d last n) whe
   test ps = agree (like d (identAt s last) n) ps && (leb 2 n && eqb (suc (length ps)) n)
 
   by-test : (o : Option (List Part)) (ps : List Part) → o ≡ some ps → joinParts (with (some (firstOf g)) o)
-      ≡ cond (test ps) (whole d (gather (firstOf g ∷ ps) n 1)) none
+      ≡ cond (test ps) (onePiece d (gather (firstOf g ∷ ps) n 1)) none
   by-test o ps e =
       ap (λ (x : Option (List Part)). joinParts (with (some (firstOf g)) x)) e
-      ∙ ap (λ (t : Bool). cond (t && (leb 2 n && eqb (suc (length ps)) n)) (whole d (gather (firstOf g ∷ ps) n 1)) none)
+      ∙ ap (λ (t : Bool). cond (t && (leb 2 n && eqb (suc (length ps)) n)) (onePiece d (gather (firstOf g ∷ ps) n 1)) none)
       (like-same (firstOf g) ps)
 
-  lost : {D₁ : List ℕ} → length D₁ ≡ 65536 → joinParts (partsOf (piecesIn (rows s))) ≡ none
-      → SoundIs s (orSet (joinParts (partsOf (piecesIn (rows s))))) D₁ (No 19 0)
+  lost : {D₁ : List ℕ} → length D₁ ≡ 65536 → joinParts (allParts (piecesIn (rows s))) ≡ none
+      → SoundIs s (orSet (joinParts (allParts (piecesIn (rows s))))) D₁ (No 19 0)
   lost z e = record { means = λ _. ap (λ (x : Option Piece). thenChecked (orSet x)) e; size = z }
 
-  pub set-few : n ≤ 1 → SoundIs s (orSet (joinParts (partsOf (piecesIn (rows s))))) D (No 19 0)
+  pub set-few : n ≤ 1 → SoundIs s (orSet (joinParts (allParts (piecesIn (rows s))))) D (No 19 0)
   set-few h = lost (g .size) (ap joinParts (g .is) ∙ go (g .others) refl)
     where
       go : (o : Option (List Part)) → g .others ≡ o → joinParts (with (some (firstOf g)) o) ≡ none
       go none q = refl
       go (some ps) q = by-test (some ps) ps refl ∙ no (agree (like d (identAt s last) n) ps)
         where
-          no : (t : Bool) → cond (t && (leb 2 n && eqb (suc (length ps)) n)) (whole d (gather (firstOf g ∷ ps) n 1)) none ≡ none
+          no : (t : Bool) → cond (t && (leb 2 n && eqb (suc (length ps)) n)) (onePiece d (gather (firstOf g ∷ ps) n 1)) none ≡ none
           no true = rw (lt-leb 2 n (omega arith))
           no false = refl
 
@@ -143,9 +143,9 @@ module _ {D s : List ℕ} {d : Bool} {last n : ℕ} (g : First D s d last n) whe
 
   module _ {a b : List ℕ} {x : Bool} (v : CollectIs s d (take (last + 18 - (last + 4)) (drop (last + 4) s)) n a b x) where
     -- no set: isSet says so of the same parts
-    pub set-lost : 1 < n → not x ≡ true → SoundIs s (orSet (joinParts (partsOf (piecesIn (rows s))))) D (No 19 0)
+    pub set-lost : 1 < n → not x ≡ true → SoundIs s (orSet (joinParts (allParts (piecesIn (rows s))))) D (No 19 0)
     set-lost h q =
-        let f : unbroken (rows s) ≡ true → isSet d (identAt s last) n (partsOf (piecesIn (rows s))) ≡ false =
+        let f : unbroken (rows s) ≡ true → isSet d (identAt s last) n (allParts (piecesIn (rows s))) ≡ false =
         subst (CollectMeans s d (identAt s last) n a b) (not-true x q) (v .means) in
         record {
           means = λ w. ap (λ (o : Option (List Part)). thenChecked (orSet (joinParts o))) (g .is)
@@ -160,7 +160,7 @@ module _ {D s : List ℕ} {d : Bool} {last n : ℕ} (g : First D s d last n) whe
             let f : (agree (like d (identAt s last) n) ps && eqb (suc (length ps)) n) ≡ false =
             ap (λ (t : Bool). t && eqb (suc (length ps)) n) (sym (agree-self d (identAt s last) n (g .place) (g .lines) ps)) ∙ e in
             let u : test ps ≡ false = rw (le-leb 2 n h) f in
-            by-test (some ps) ps refl ∙ ap (λ (t : Bool). cond t (whole d (gather (firstOf g ∷ ps) n 1)) none) u
+            by-test (some ps) ps refl ∙ ap (λ (t : Bool). cond t (onePiece d (gather (firstOf g ∷ ps) n 1)) none) u
 
     module _ (h : 1 < n) (q : not x ≡ false) where
       collected : Collected s d (identAt s last) n a b
@@ -172,38 +172,38 @@ module _ {D s : List ℕ} {d : Bool} {last n : ℕ} (g : First D s d last n) whe
       pub set-given : GivenSet D s a b n
       set-given = record { size = g .size; sizes = collected .sizes; bounds = collected .bounds; count = g .count }
 
-      joins : joinParts (partsOf (piecesIn (rows s))) ≡ whole d (gather (collected .seen) n 1)
+      joins : joinParts (allParts (piecesIn (rows s))) ≡ onePiece d (gather (collected .seen) n 1)
       joins = ap joinParts (g .is) ∙ go (g .others) (sym (g .is) ∙ collected .parts)
         where
           go : (o : Option (List Part)) → with (some (firstOf g)) o ≡ some (collected .seen)
-              → joinParts (with (some (firstOf g)) o) ≡ whole d (gather (collected .seen) n 1)
+              → joinParts (with (some (firstOf g)) o) ≡ onePiece d (gather (collected .seen) n 1)
           go none e = let z : _≡_ {A = ℕ} 0 1 = cc in absurd (omega arith)
           go (some ps) e =
               let f : firstOf g ∷ ps ≡ collected .seen = cc in
               let t : agree (like d (identAt s last) n) ps ≡ true =
               sym (agree-self d (identAt s last) n (g .place) (g .lines) ps) ∙ (ap (agree (like d (identAt s last) n)) f ∙ collected .agrees) in
               let c : eqb (suc (length ps)) n ≡ true = eq-eqb (suc (length ps)) n (ap length f ∙ collected .count) in
-              by-test (some ps) ps refl ∙ (rw (t, le-leb 2 n h, c) (ap (λ (z : List Part). whole d (gather z n 1)) f))
+              by-test (some ps) ps refl ∙ (rw (t, le-leb 2 n h, c) (ap (λ (z : List Part). onePiece d (gather z n 1)) f))
 
       gathered : Gathers s a b n 1 (gather (collected .seen) n 1)
       gathered = gathers (collected .slots) n 1 (omega (arith, g .count))
 
       module _ {y : Bool} (w : y ≡ taken a n 1) where
-        pub set-missing : not y ≡ true → SoundIs s (orSet (joinParts (partsOf (piecesIn (rows s))))) D (No 19 0)
+        pub set-missing : not y ≡ true → SoundIs s (orSet (joinParts (allParts (piecesIn (rows s))))) D (No 19 0)
         set-missing z = lost (g .size) (joins ∙ go (gather (collected .seen) n 1) gathered)
           where
-            go : (o : Option (List (List ℕ))) → Gathers s a b n 1 o → whole d o ≡ none
+            go : (o : Option (List (List ℕ))) → Gathers s a b n 1 o → onePiece d o ≡ none
             go none i = refl
             go (some rs) i = absurd (false≢true (sym (not-true y z) ∙ (w ∙ i .0)))
 
         pub set-done : {D₁ : List ℕ} {r : Made} → not y ≡ false → MadeIs (ok (headRow d ++ spans s a b n 1)) D₁ r
-            → SoundIs s (orSet (joinParts (partsOf (piecesIn (rows s))))) D₁ r
+            → SoundIs s (orSet (joinParts (allParts (piecesIn (rows s))))) D₁ r
         unfolding fileOf
         set-done {D₁} {r} z m =
             settled (g .sound ∙ collected .whole)
             (subst (λ (k : Res (List ℕ)). MadeIs k D₁ r) (sym (ap orSet joins ∙ go (gather (collected .seen) n 1) gathered)) m)
           where
-            go : (o : Option (List (List ℕ))) → Gathers s a b n 1 o → orSet (whole d o) ≡ ok (headRow d ++ spans s a b n 1)
+            go : (o : Option (List (List ℕ))) → Gathers s a b n 1 o → orSet (onePiece d o) ≡ ok (headRow d ++ spans s a b n 1)
             go none i = absurd (false≢true (sym i ∙ (sym w ∙ not-false y z)))
             go (some rs) i = ap (λ (u : List ℕ). ok (headRow d ++ u)) (i .1)
 
@@ -211,7 +211,7 @@ pub ruleset set-laws = (set-few, set-blank, set-lost, set-size, set-given, set-m
 
 -- ---- one piece, or a set
 
-several : (x : Piece) (xs : List Piece) → unmarked (x .rows) ≡ false → joinPieces (x ∷ xs) ≡ joinParts (partsOf (x ∷ xs))
+several : (x : Piece) (xs : List Piece) → unmarked (x .rows) ≡ false → joinPieces (x ∷ xs) ≡ joinParts (allParts (x ∷ xs))
 unfolding joinPieces
 several x [] e = rw e
 several x (y ∷ xs) e = refl
@@ -239,21 +239,21 @@ module _ {D s : List ℕ} (g : Input D s) {r : Next} (x : FirstIs s r) where
     pub pieces-from : e ≤ length s
     pieces-from = opening .high
 
-    by-parts : partsOf (piecesIn (rows s)) ≡ with (partOf d (bodyOf (rows (drop e s)))) (partsOf (piecesIn (rows (drop e s))))
-    unfolding partsOf
-    by-parts = ap partsOf (opening .is)
+    by-parts : allParts (piecesIn (rows s)) ≡ with (partOf d (bodyOf (rows (drop e s)))) (allParts (piecesIn (rows (drop e s))))
+    unfolding allParts
+    by-parts = ap allParts (opening .is)
 
     module _ {l : Lines} (v : LinesAre s e l) where
       mean : {j : Lines} → l ≡ j → LinesMean s e j
       mean t = subst (LinesMean s e) t (v .mean)
 
       pub pieces-wrong : l ≡ Wrong → SoundIs s (orSet (joinPieces (piecesIn (rows s)))) D (No 19 0)
-      unfolding partsOf
+      unfolding allParts
       pieces-wrong t =
           let w : WrongLines s e = mean t in
           nineteen (ap joinPieces (opening .is)
           ∙ (several (record { provider = d; rows = bodyOf (rows (drop e s)) }) (piecesIn (rows (drop e s))) (w .marked)
-          ∙ ap (λ (o : Option Part). joinParts (with o (partsOf (piecesIn (rows (drop e s)))))) (w .none d)))
+          ∙ ap (λ (o : Option Part). joinParts (with o (allParts (piecesIn (rows (drop e s)))))) (w .none d)))
 
       module _ {last stop n k : ℕ} (t : l ≡ Marked last stop n k) where
         marked : MarkedLines s e last stop n k
@@ -267,18 +267,18 @@ module _ {D s : List ℕ} (g : Input D s) {r : Next} (x : FirstIs s r) where
           count = marked .count;
           place = k;
           lines = marked .lines;
-          others = partsOf (piecesIn (rows (drop e s)));
-          is = by-parts ∙ ap (λ (o : Option Part). with o (partsOf (piecesIn (rows (drop e s))))) (marked .is d);
+          others = allParts (piecesIn (rows (drop e s)));
+          is = by-parts ∙ ap (λ (o : Option Part). with o (allParts (piecesIn (rows (drop e s))))) (marked .is d);
           over = foremost .over;
           sound = foremost .sound ∙ sym (opening .whole);
         }
 
-        pub pieces-set : {D₁ : List ℕ} {m : Made} → SoundIs s (orSet (joinParts (partsOf (piecesIn (rows s))))) D₁ m
+        pub pieces-set : {D₁ : List ℕ} {m : Made} → SoundIs s (orSet (joinParts (allParts (piecesIn (rows s))))) D₁ m
             → SoundIs s (orSet (joinPieces (piecesIn (rows s)))) D₁ m
         pieces-set {D₁} {m} y =
-            let z : joinPieces (piecesIn (rows s)) ≡ joinParts (partsOf (piecesIn (rows s))) =
+            let z : joinPieces (piecesIn (rows s)) ≡ joinParts (allParts (piecesIn (rows s))) =
             ap joinPieces (opening .is) ∙ (several (record { provider = d; rows = bodyOf (rows (drop e s)) }) (piecesIn (rows (drop e s))) (marked .marked)
-            ∙ ap (λ (ps : List Piece). joinParts (partsOf ps)) (sym (opening .is))) in
+            ∙ ap (λ (ps : List Piece). joinParts (allParts ps)) (sym (opening .is))) in
             subst (λ (o : Option Piece). SoundIs s (orSet o) D₁ m) (sym z) y
 
       module _ {stop : ℕ} (t : l ≡ Plain stop) where
@@ -296,14 +296,14 @@ module _ {D s : List ℕ} (g : Input D s) {r : Next} (x : FirstIs s r) where
           pieces-broken u = unsound (foremost .sound ∙ (plain .whole ∙ subst (NextMeans s stop) u (y .means) (plain .over)))
 
           pub pieces-more : {e₂ : ℕ} {d₂ : Bool} → r₂ ≡ Opens e₂ d₂ → SoundIs s (orSet (joinPieces (piecesIn (rows s)))) D (No 19 0)
-          unfolding joinPieces partsOf
+          unfolding joinPieces allParts
           pieces-more {e₂} {d₂} u =
               let z : Opened s stop e₂ d₂ = subst (NextMeans s stop) u (y .means) in
               let p : Piece = record { provider = d₂; rows = bodyOf (rows (drop e₂ s)) } in
               let xs : List Piece = piecesIn (rows (drop e₂ s)) in
               let w : piecesIn (rows s) ≡ record { provider = d; rows = bodyOf (rows (drop e s)) } ∷ p ∷ xs =
               opening .is ∙ ap (λ (ps : List Piece). record { provider = d; rows = bodyOf (rows (drop e s)) } ∷ ps) (plain .next ∙ z .is) in
-              nineteen (ap joinPieces w ∙ ap (λ (o : Option Part). joinParts (with o (partsOf (p ∷ xs)))) (plain .none d))
+              nineteen (ap joinPieces w ∙ ap (λ (o : Option Part). joinParts (with o (allParts (p ∷ xs)))) (plain .none d))
 
           pub pieces-one : {D₁ : List ℕ} {m : Made} → r₂ ≡ Over → MadeIs (ok (headRow d ++ part s e stop)) D₁ m
               → SoundIs s (orSet (joinPieces (piecesIn (rows s)))) D₁ m

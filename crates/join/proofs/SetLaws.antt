@@ -22,7 +22,7 @@ use Rattle.join.specs.declared.Next.the-variants.{Opens, Over, Stray}
 use Rattle.join.specs.declared.Member.{Member}
 use Rattle.join.specs.declared.Member.the-variants.{Of, Foreign}
 use Rattle.join.specs.declared.Filled.the-variants.{Full, Large}
-use Rattle.division.specs.Join.{Part, partOf, with, partsOf, agree, find, behind, gather}
+use Rattle.division.specs.Join.{Part, partOf, with, allParts, agree, findPart, behind, gather}
 use Rattle.join.specs.Spans.{unbroken, goesOn, partBy, Opened, Ended, NextMeans, NextIs, like, agreed, isSet, Within, MemberAt, MemberMeans, MemberIs, Sizes, Bounds, Slot, Slots, Blank, Stored, CollectMeans, CollectIs, taken, spans, FillIs, FillRoom}
 use Rattle.lists.proofs.Parts.{part-length}
 use Rattle.join.proofs.BodyLaws.{flat-append}
@@ -104,21 +104,21 @@ or-none : (o : Option Part) → orFind o none ≡ o
 or-none none = refl
 or-none (some p) = refl
 
-find-snoc : (j : ℕ) (seen : List Part) (p : Part) → find j (seen ++ p ∷ []) ≡ orFind (find j seen) (cond (eqb (p .mark .place) j) (some p) none)
-unfolding find
+find-snoc : (j : ℕ) (seen : List Part) (p : Part) → findPart j (seen ++ p ∷ []) ≡ orFind (findPart j seen) (cond (eqb (p .mark .place) j) (some p) none)
+unfolding findPart
 find-snoc j [] p = refl
 find-snoc j (q ∷ seen) p = go (eqb (q .mark .place) j) (find-snoc j seen p)
   where
-    go : (t : Bool) → find j (seen ++ p ∷ []) ≡ orFind (find j seen) (cond (eqb (p .mark .place) j) (some p) none)
-        → cond t (some q) (find j (seen ++ p ∷ [])) ≡ orFind (cond t (some q) (find j seen)) (cond (eqb (p .mark .place) j) (some p) none)
+    go : (t : Bool) → findPart j (seen ++ p ∷ []) ≡ orFind (findPart j seen) (cond (eqb (p .mark .place) j) (some p) none)
+        → cond t (some q) (findPart j (seen ++ p ∷ [])) ≡ orFind (cond t (some q) (findPart j seen)) (cond (eqb (p .mark .place) j) (some p) none)
     go true i = refl
     go false i = i
 
 module _ {s a b : List ℕ} {seen : List Part} (sz : Sizes a b) (v : Slots s a b seen) (p : Part) (e last : ℕ) (place : p .mark .place ≤ 999)
     (low : 1 ≤ e) (bytes : flat (p .rows) ≡ part s e last) where
   -- another place than p's
-  other : (j : ℕ) → (p .mark .place ≡ j → ⊥) → find j (seen ++ p ∷ []) ≡ find j seen
-  other j h = find-snoc j seen p ∙ rw (ne-eqb (p .mark .place) j h) (or-none (find j seen))
+  other : (j : ℕ) → (p .mark .place ≡ j → ⊥) → findPart j (seen ++ p ∷ []) ≡ findPart j seen
+  other j h = find-snoc j seen p ∙ rw (ne-eqb (p .mark .place) j h) (or-none (findPart j seen))
 
   slots-free : getD a (p .mark .place) 0 ≡ 0 → Slots s (set a (p .mark .place) e) (set b (p .mark .place) last) (seen ++ p ∷ [])
   slots-free h = record { at = λ j g. go j g (decEq (p .mark .place) j) }
@@ -128,13 +128,13 @@ module _ {s a b : List ℕ} {seen : List Part} (sz : Sizes a b) (v : Slots s a b
       none-yet (some q) w = absurd (omega (arith, w .0))
 
       go : (j : ℕ) → j < 1000 → Dec (p .mark .place ≡ j)
-          → Slot s (getD (set a (p .mark .place) e) j 0) (getD (set b (p .mark .place) last) j 0) (find j (seen ++ p ∷ []))
+          → Slot s (getD (set a (p .mark .place) e) j 0) (getD (set b (p .mark .place) last) j 0) (findPart j (seen ++ p ∷ []))
       go j g (yes q) =
           let k : ℕ = p .mark .place in
-          let f : find k (seen ++ p ∷ []) ≡ some p = find-snoc k seen p ∙ rw (eq-eqb k k refl) (none-yet (find k seen) (v .at k (omega arith))) in
+          let f : findPart k (seen ++ p ∷ []) ≡ some p = find-snoc k seen p ∙ rw (eq-eqb k k refl) (none-yet (findPart k seen) (v .at k (omega arith))) in
           let x : getD (set a k e) k 0 ≡ e = getD-set-same a k e 0 (omega (arith, sz .starts)) in
           let y : getD (set b k last) k 0 ≡ last = getD-set-same b k last 0 (omega (arith, sz .ends)) in
-          subst (λ (i : ℕ). Slot s (getD (set a k e) i 0) (getD (set b k last) i 0) (find i (seen ++ p ∷ []))) q (rw (f, x, y) (low, bytes))
+          subst (λ (i : ℕ). Slot s (getD (set a k e) i 0) (getD (set b k last) i 0) (findPart i (seen ++ p ∷ []))) q (rw (f, x, y) (low, bytes))
       go j g (no q) =
           let n : j ≡ p .mark .place → ⊥ = λ r. q (sym r) in
           rw (other j q, getD-set-other a (p .mark .place) j e 0 n, getD-set-other b (p .mark .place) j last 0 n) (v .at j g)
@@ -146,12 +146,12 @@ module _ {s a b : List ℕ} {seen : List Part} (sz : Sizes a b) (v : Slots s a b
       there none x w = absurd (h w)
       there (some q) x w = refl
 
-      go : (j : ℕ) → j < 1000 → Dec (p .mark .place ≡ j) → Slot s (getD a j 0) (getD b j 0) (find j (seen ++ p ∷ []))
+      go : (j : ℕ) → j < 1000 → Dec (p .mark .place ≡ j) → Slot s (getD a j 0) (getD b j 0) (findPart j (seen ++ p ∷ []))
       go j g (yes q) =
           let k : ℕ = p .mark .place in
-          let w : Slot s (getD a k 0) (getD b k 0) (find k seen) = v .at k (omega arith) in
-          let f : find k (seen ++ p ∷ []) ≡ find k seen = find-snoc k seen p ∙ there (find k seen) (cond (eqb k k) (some p) none) w in
-          subst (λ (i : ℕ). Slot s (getD a i 0) (getD b i 0) (find i (seen ++ p ∷ []))) q (rw f w)
+          let w : Slot s (getD a k 0) (getD b k 0) (findPart k seen) = v .at k (omega arith) in
+          let f : findPart k (seen ++ p ∷ []) ≡ findPart k seen = find-snoc k seen p ∙ there (findPart k seen) (cond (eqb k k) (some p) none) w in
+          subst (λ (i : ℕ). Slot s (getD a i 0) (getD b i 0) (findPart i (seen ++ p ∷ []))) q (rw f w)
       go j g (no q) = rw (other j q) (v .at j g)
 
 bounds-set : {s a b : List ℕ} (k e last : ℕ) → Sizes a b → Bounds s a b → k ≤ 999 → e ≤ last → last ≤ length s → Bounds s (set a k e) (set b k last)
@@ -192,7 +192,7 @@ pub record Collecting (s : List ℕ) (d : Bool) (i : List ℕ) (n : ℕ) (a b : 
   pub small : length s ≤ 131072
   pub inside : at ≤ length s
   pub seen : List Part
-  pub parts : partsOf (piecesIn (rows s)) ≡ after seen (partsOf (piecesIn (rows (drop at s))))
+  pub parts : allParts (piecesIn (rows s)) ≡ after seen (allParts (piecesIn (rows (drop at s))))
   pub agrees : agree (like d i n) seen ≡ true
   pub count : m ≡ length seen
   pub tables : Tables s a b seen
@@ -200,12 +200,12 @@ pub record Collecting (s : List ℕ) (d : Bool) (i : List ℕ) (n : ℕ) (a b : 
   pub whole : unbroken (rows s) ≡ unbroken (rows (drop at s))
 
 pub collect-start : (s : List ℕ) (d : Bool) (i : List ℕ) (n : ℕ) (a b : List ℕ) → Blank s a b → Collecting s d i n a b 0 0
-unfolding agree find
+unfolding agree findPart
 collect-start s d i n a b z = record {
   small = z .small;
   inside = omega arith;
   seen = [];
-  parts = after-none (partsOf (piecesIn (rows s)));
+  parts = after-none (allParts (piecesIn (rows s)));
   agrees = refl;
   count = refl;
   tables = record {
@@ -226,13 +226,13 @@ module _ {s : List ℕ} {d : Bool} {i : List ℕ} {n : ℕ} {a b : List ℕ} {m 
 
   module _ {r : Next} (x : NextIs s at r) where
     pub collect-over : r ≡ Over → CollectIs s d i n a b (eqb m n)
-    unfolding partsOf
+    unfolding allParts
     collect-over q =
         let f : Ended s at = subst (NextMeans s at) q (x .means) in
-        let w : partsOf (piecesIn (rows s)) ≡ some (v .seen) = v .parts ∙ (ap (λ (t : List Piece). after (v .seen) (partsOf t)) (f .is) ∙ ap some (append-nil (v .seen))) in
+        let w : allParts (piecesIn (rows s)) ≡ some (v .seen) = v .parts ∙ (ap (λ (t : List Piece). after (v .seen) (allParts t)) (f .is) ∙ ap some (append-nil (v .seen))) in
         record { means = go (eqb m n) refl w (v .whole ∙ f .whole) }
       where
-        go : (t : Bool) → eqb m n ≡ t → partsOf (piecesIn (rows s)) ≡ some (v .seen) → unbroken (rows s) ≡ true → CollectMeans s d i n a b t
+        go : (t : Bool) → eqb m n ≡ t → allParts (piecesIn (rows s)) ≡ some (v .seen) → unbroken (rows s) ≡ true → CollectMeans s d i n a b t
         go true e w u = record {
           seen = v .seen;
           parts = w;
@@ -259,18 +259,18 @@ module _ {s : List ℕ} {d : Bool} {i : List ℕ} {n : ℕ} {a b : List ℕ} {m 
       pub collect-within : Within s e
       collect-within = record { high = opening .high; small = v .small }
 
-      left-is : partsOf (piecesIn (rows (drop at s))) ≡ with (partOf side (bodyOf (rows (drop e s)))) (partsOf (piecesIn (rows (drop e s))))
-      unfolding partsOf
-      left-is = ap partsOf (opening .is)
+      left-is : allParts (piecesIn (rows (drop at s))) ≡ with (partOf side (bodyOf (rows (drop e s)))) (allParts (piecesIn (rows (drop e s))))
+      unfolding allParts
+      left-is = ap allParts (opening .is)
 
       module _ {y : Member} (z : MemberIs s e side d i n y) where
         pub collect-foreign : y ≡ Foreign → CollectIs s d i n a b false
         collect-foreign t =
             let f = subst (MemberMeans s e side d i n) t (z .means) in
             record {
-              means = λ _. not-agreed d i n (partsOf (piecesIn (rows s))) (ap (agreed d i n) (v .parts)
-                  ∙ (agreed-after d i n (v .seen) (partsOf (piecesIn (rows (drop at s)))) (v .agrees)
-                  ∙ (ap (agreed d i n) left-is ∙ f .none (partsOf (piecesIn (rows (drop e s)))))));
+              means = λ _. not-agreed d i n (allParts (piecesIn (rows s))) (ap (agreed d i n) (v .parts)
+                  ∙ (agreed-after d i n (v .seen) (allParts (piecesIn (rows (drop at s)))) (v .agrees)
+                  ∙ (ap (agreed d i n) left-is ∙ f .none (allParts (piecesIn (rows (drop e s)))))));
             }
 
         module _ {last stop k : ℕ} (t : y ≡ Of last stop k) where
@@ -283,9 +283,9 @@ module _ {s : List ℕ} {d : Bool} {i : List ℕ} {n : ℕ} {a b : List ℕ} {m 
           pub collect-less : length s - stop < length s - at
           collect-less = omega (arith, opening .low, member .low, member .mid, member .high)
 
-          one-more : partsOf (piecesIn (rows s)) ≡ after (v .seen ++ partBy d i n k (member .lines) ∷ []) (partsOf (piecesIn (rows (drop stop s))))
-          one-more = v .parts ∙ (ap (after (v .seen)) (left-is ∙ ap₂ with (member .is) (ap partsOf (member .next)))
-              ∙ after-with (v .seen) (partBy d i n k (member .lines)) (partsOf (piecesIn (rows (drop stop s)))))
+          one-more : allParts (piecesIn (rows s)) ≡ after (v .seen ++ partBy d i n k (member .lines) ∷ []) (allParts (piecesIn (rows (drop stop s))))
+          one-more = v .parts ∙ (ap (after (v .seen)) (left-is ∙ ap₂ with (member .is) (ap allParts (member .next)))
+              ∙ after-with (v .seen) (partBy d i n k (member .lines)) (allParts (piecesIn (rows (drop stop s)))))
 
           longer : length (v .seen ++ partBy d i n k (member .lines) ∷ []) ≡ m + 1
           longer = omega (arith, v .count, length-append (v .seen) (partBy d i n k (member .lines) ∷ []))
@@ -293,7 +293,7 @@ module _ {s : List ℕ} {d : Bool} {i : List ℕ} {n : ℕ} {a b : List ℕ} {m 
           pub collect-many : n ≤ m → CollectIs s d i n a b false
           collect-many h = record {
             means = λ _. ap (isSet d i n) one-more
-                ∙ too-many d i n (v .seen ++ partBy d i n k (member .lines) ∷ []) (partsOf (piecesIn (rows (drop stop s)))) (omega (arith, longer));
+                ∙ too-many d i n (v .seen ++ partBy d i n k (member .lines) ∷ []) (allParts (piecesIn (rows (drop stop s)))) (omega (arith, longer));
           }
 
           pub collect-go : {a₁ b₁ : List ℕ} → Stored a b k e last a₁ b₁ → Collecting s d i n a₁ b₁ (m + 1) stop
@@ -445,7 +445,7 @@ Gathers s a b f k (some rs) = (taken a f k ≡ true) × (flat rs ≡ spans s a b
 pub gathers : {s a b : List ℕ} {ps : List Part} → Slots s a b ps → (f k : ℕ) → k + f ≤ 1000 → Gathers s a b f k (gather ps f k)
 unfolding gather taken spans
 gathers v zero k h = (refl, refl)
-gathers {s} {a} {b} {ps} v (suc f) k h = go (find k ps) (v .at k (omega arith)) (gather ps f (suc k)) (gathers v f (suc k) (omega arith))
+gathers {s} {a} {b} {ps} v (suc f) k h = go (findPart k ps) (v .at k (omega arith)) (gather ps f (suc k)) (gathers v f (suc k) (omega arith))
   where
     go : (o : Option Part) → Slot s (getD a k 0) (getD b k 0) o → (w : Option (List (List ℕ))) → Gathers s a b f (suc k) w
         → Gathers s a b (suc f) k (behind o w)

@@ -14,7 +14,7 @@ use Rattle.characters.specs.Rows.{consRow, rows, flat, endMark}
 use Rattle.characters.proofs.RowLaws.{flat-rows, first-row}
 use Rattle.pieces.specs.declared.Row.{Row}
 use Rattle.pieces.specs.declared.Row.the-variants.{Head, EndHead, Body, End, Broken}
-use Rattle.division.specs.Pieces.{Kind, judged, brokenFrom, brokenLine, bodyOf, opened, piecesIn, opens, startsWell}
+use Rattle.division.specs.Pieces.{RowKind, judged, brokenFrom, brokenLine, bodyOf, opened, piecesIn, opens, startsWell}
 use Rattle.pieces.specs.Answers.{RowAt, asKind, KindIs}
 use Rattle.division.proofs.Chunks.{end-is}
 use Rattle.join.specs.declared.Next.the-variants.{Opens, Over, Stray}
@@ -176,7 +176,7 @@ module _ (s : List ℕ) {at : ℕ} where
 
     pub unbroken-step : {j : Row} → k ≡ j → unbroken (rows (drop at s)) ≡ (isWhole (asKind j) && unbroken (rows (drop e s)))
     unfolding unbroken
-    unbroken-step q = ap unbroken (x .cut) ∙ ap (λ (i : Kind). isWhole i && unbroken (rows (drop e s))) (p .is ∙ ap asKind q)
+    unbroken-step q = ap unbroken (x .cut) ∙ ap (λ (i : RowKind). isWhole i && unbroken (rows (drop e s))) (p .is ∙ ap asKind q)
 
     pub next-head : {d : Bool} → k ≡ Head d → NextIs s at (Opens e d)
     next-head q = record { means = record { low = x .more; high = x .inside; is = pieces-step q; whole = unbroken-step q } }
@@ -209,7 +209,7 @@ first-none (a ∷ s) h = absurd (omega arith)
 
 module _ (s : List ℕ) {e : ℕ} {k : Row} (x : RowAt s 0 e) (p : KindIs (take (e - 0) (drop 0 s)) k) where
   sound-step : {j : Row} → k ≡ j → sound (rows s) ≡ (isHead (asKind j) && unbroken (rows (drop e s)))
-  sound-step q = ap sound (x .cut) ∙ ap (λ (i : Kind). isHead i && unbroken (rows (drop e s))) (p .is ∙ ap asKind q)
+  sound-step q = ap sound (x .cut) ∙ ap (λ (i : RowKind). isHead i && unbroken (rows (drop e s))) (p .is ∙ ap asKind q)
 
   pub first-head : {d : Bool} → k ≡ Head d → FirstIs s (Opens e d)
   first-head q = record {

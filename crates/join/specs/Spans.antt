@@ -15,7 +15,7 @@ use Rattle.characters.specs.Text.{text}
 use Rattle.characters.specs.Rows.{rows, flat, isLine}
 use Rattle.buffers.specs.Buffers.{Wrote}
 use Rattle.division.specs.Marks.{readMark}
-use Rattle.division.specs.Pieces.{Kind, head, endHead, body, end, broken, kindOf, bodyOf, piecesIn}
+use Rattle.division.specs.Pieces.{RowKind, head, endHead, body, end, broken, kindOf, bodyOf, piecesIn}
 use Rattle.pieces.specs.Answers.{RowAt}
 use Rattle.join.specs.declared.Next.{Next}
 use Rattle.join.specs.declared.Next.the-variants.{Opens, Over, Stray}
@@ -27,11 +27,11 @@ use Rattle.join.specs.declared.Filled.{Filled}
 use Rattle.join.specs.declared.Filled.the-variants.{Full, Large}
 use Rattle.join.specs.declared.Made.{Made}
 use Rattle.join.specs.declared.Made.the-variants.{Bytes, No}
-use Rattle.division.specs.Join.{unmarked, Part, lastMark, partOf, with, partsOf, agree, find, thenChecked}
+use Rattle.division.specs.Join.{unmarked, Part, lastMark, partOf, with, allParts, agree, findPart, thenChecked}
 
 -- ---- rows that break no rule of line ends, so that the pieces are read before it is known where one does
 
-abbrev pub isWhole : Kind → Bool
+abbrev pub isWhole : RowKind → Bool
 isWhole (head d) = true
 isWhole (endHead d) = true
 isWhole body = true
@@ -43,7 +43,7 @@ unfoldable pub unbroken : List (List ℕ) → Bool
 unbroken [] = true
 unbroken (r ∷ rs) = isWhole (kindOf r) && unbroken rs
 
-abbrev pub isHead : Kind → Bool
+abbrev pub isHead : RowKind → Bool
 isHead (head d) = true
 isHead (endHead d) = false
 isHead body = false
@@ -56,7 +56,7 @@ sound [] = false
 sound (r ∷ rs) = isHead (kindOf r) && unbroken rs
 
 -- whether the first row is one of a piece's
-abbrev pub isBody : Kind → Bool
+abbrev pub isBody : RowKind → Bool
 isBody (head d) = false
 isBody (endHead d) = false
 isBody body = true
@@ -231,7 +231,7 @@ Slot s from to none = from ≡ 0
 Slot s from to (some p) = (1 ≤ from) × (flat (p .rows) ≡ part s from to)
 
 pub record Slots (s a b : List ℕ) (ps : List Part) : Type 0 where
-  pub at : (k : ℕ) → k < 1000 → Slot s (getD a k 0) (getD b k 0) (find k ps)
+  pub at : (k : ℕ) → k < 1000 → Slot s (getD a k 0) (getD b k 0) (findPart k ps)
 
 -- tables that are free at every place, and an input that does not begin in the middle of a piece
 pub record Blank (s a b : List ℕ) : Type 0 where
@@ -248,7 +248,7 @@ pub record Stored (a b : List ℕ) (k from to : ℕ) (a′ b′ : List ℕ) : Ty
 
 pub record Collected (s : List ℕ) (d : Bool) (i : List ℕ) (n : ℕ) (a b : List ℕ) : Type 0 where
   pub seen : List Part
-  pub parts : partsOf (piecesIn (rows s)) ≡ some seen
+  pub parts : allParts (piecesIn (rows s)) ≡ some seen
   pub agrees : agree (like d i n) seen ≡ true
   pub count : length seen ≡ n
   pub sizes : Sizes a b
@@ -259,7 +259,7 @@ pub record Collected (s : List ℕ) (d : Bool) (i : List ℕ) (n : ℕ) (a b : L
 -- of rows that are broken, false says nothing
 abbrev pub CollectMeans : List ℕ → Bool → List ℕ → ℕ → List ℕ → List ℕ → Bool → Type 0
 CollectMeans s d i n a b true = Collected s d i n a b
-CollectMeans s d i n a b false = unbroken (rows s) ≡ true → isSet d i n (partsOf (piecesIn (rows s))) ≡ false
+CollectMeans s d i n a b false = unbroken (rows s) ≡ true → isSet d i n (allParts (piecesIn (rows s))) ≡ false
 
 pub record CollectIs (s : List ℕ) (d : Bool) (i : List ℕ) (n : ℕ) (a b : List ℕ) (r : Bool) : Type 0 where
   pub means : CollectMeans s d i n a b r
@@ -332,7 +332,7 @@ pub record First (d s : List ℕ) (side : Bool) (last n : ℕ) : Type 0 where
   pub place : ℕ
   pub lines : List (List ℕ)
   pub others : Option (List Part)
-  pub is : partsOf (piecesIn (rows s)) ≡ with (some (partBy side (identAt s last) n place lines)) others
+  pub is : allParts (piecesIn (rows s)) ≡ with (some (partBy side (identAt s last) n place lines)) others
   pub over : goesOn (rows s) ≡ false
   pub sound : sound (rows s) ≡ unbroken (rows s)
 

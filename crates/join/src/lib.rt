@@ -12,7 +12,7 @@ ghost use Rattle.characters.specs.Rows.{rows};
 ghost use Rattle.notebook.specs.Canonical.{headRow};
 ghost use Rattle.buffers.specs.Buffers.{Wrote};
 ghost use Rattle.division.specs.Pieces.{brokenLine, startsWell, piecesIn};
-ghost use Rattle.division.specs.Join.{partsOf, joinParts, joinPieces, orSet, joinedFile, joinResult};
+ghost use Rattle.division.specs.Join.{allParts, joinParts, joinPieces, orSet, joinedFile, joinResult};
 ghost use Rattle.replies.specs.Contracts.{Gives};
 ghost use Rattle.join.specs.Spans.{NextIs, FirstIs, goesOn, LineAt, LastIs, LinesAre, Within, MemberIs, Sizes, Blank, Stored, CollectIs, taken, spans, FillIs, FillRoom, MadeIs, SoundIs, Given, GivenSet, First, Input};
 use replies::Answer;
@@ -370,7 +370,7 @@ fn join_spans(s: &[u8], d: bool, starts: &[usize], ends: &[usize], n: usize, buf
 // The pieces as a set like its first, whose record 911 begins at last.
 fn join_set(s: &[u8], d: bool, last: usize, n: usize, buf: &mut [u8]) -> Made
     requires { ⌜ First (now buf) (now s) d last n ⌝ }
-    ensures { λ r. ⌜ SoundIs (now (s .entry)) (orSet (joinParts (partsOf (piecesIn (rows (now (s .entry))))))) (now (buf .exit)) r ⌝ }
+    ensures { λ r. ⌜ SoundIs (now (s .entry)) (orSet (joinParts (allParts (piecesIn (rows (now (s .entry))))))) (now (buf .exit)) r ⌝ }
 {
     if n <= 1 {
         return Made::No(19, 0);

@@ -16,7 +16,7 @@ use Rattle.calendar.specs.declared.DateRead.the-variants.{Date, NotADate}
 use Rattle.calendar.specs.Era.{readDay}
 use Rattle.order.specs.declared.Facts.{Facts}
 use Rattle.records.specs.Table.{Kind, N, U, X, A, F, C, P, R, W, Q, D, among, Item, Row, table, fromProvider, optional}
-use Rattle.records.specs.Items.{Value, text, num, day, value, numberValue, dayValue}
+use Rattle.records.specs.Items.{Value, raw, num, day, valueOf, numberValue, dayValue}
 use Rattle.records.specs.Records.{Record, itemValue, itemsValue, nth, isEmpty, codePair, formPair, pairs}
 use Rattle.items.specs.Codes.{kindOf}
 use Rattle.notebook.specs.Facts.{numOf, dayOf, orZero, spelled, factsOf}
@@ -29,7 +29,7 @@ use Rattle.codes.proofs.TableLaws.{rowBy, allRows, listed-row}
 pub blank : Item
 blank = record { kind = N 0; need = optional }
 
-pub value-at : (is : List Item) (ss : List (List ℕ)) (j : ℕ) → length ss ≡ length is → j < length is → getD (itemsValue is ss) j (text []) ≡ itemValue (getD is j blank) (getD ss j [])
+pub value-at : (is : List Item) (ss : List (List ℕ)) (j : ℕ) → length ss ≡ length is → j < length is → getD (itemsValue is ss) j (raw []) ≡ itemValue (getD is j blank) (getD ss j [])
 unfolding itemsValue
 value-at [] ss j n h = absurd (omega arith)
 value-at (i ∷ is) [] j n h = absurd (omega arith)
@@ -37,23 +37,23 @@ value-at (i ∷ is) (s ∷ ss) zero n h = refl
 value-at (i ∷ is) (s ∷ ss) (suc j) n h = value-at is ss j (omega arith) (omega arith)
 
 -- an item of these kinds is its bytes
-among-text : (ns : List ℕ) (s : List ℕ) → itemValue (record { kind = among ns; need = fromProvider }) s ≡ text s
-unfolding itemValue value
+among-text : (ns : List ℕ) (s : List ℕ) → itemValue (record { kind = among ns; need = fromProvider }) s ≡ raw s
+unfolding itemValue valueOf
 among-text ns [] = refl
 among-text ns (b ∷ s) = refl
 
-code-text : (m : ℕ) (s : List ℕ) → itemValue (record { kind = X m; need = optional }) s ≡ text s
-unfolding itemValue value
+code-text : (m : ℕ) (s : List ℕ) → itemValue (record { kind = X m; need = optional }) s ≡ raw s
+unfolding itemValue valueOf
 code-text m [] = refl
 code-text m (b ∷ s) = refl
 
-unit-text : (m : ℕ) (s : List ℕ) → itemValue (record { kind = N m; need = fromProvider }) s ≡ text s
-unfolding itemValue value
+unit-text : (m : ℕ) (s : List ℕ) → itemValue (record { kind = N m; need = fromProvider }) s ≡ raw s
+unfolding itemValue valueOf
 unit-text m [] = refl
 unit-text m (b ∷ s) = refl
 
-name-text : (m : ℕ) (s : List ℕ) → itemValue (record { kind = N m; need = optional }) s ≡ text s
-unfolding itemValue value
+name-text : (m : ℕ) (s : List ℕ) → itemValue (record { kind = N m; need = optional }) s ≡ raw s
+unfolding itemValue valueOf
 name-text m [] = refl
 name-text m (b ∷ s) = refl
 
@@ -96,11 +96,11 @@ record First (k : Kind) (s : List ℕ) (v : Value) : Type 0 where
   num : numOf v ≡ cond (isR k) (rpRaw s) 0
   day : dayOf v ≡ cond (isD k) (dayRaw s) 0
 
-kept : (k : Kind) (s t : List ℕ) → isR k ≡ false → isD k ≡ false → First k s (text t)
+kept : (k : Kind) (s t : List ℕ) → isR k ≡ false → isD k ≡ false → First k s (raw t)
 kept k s t p q = record { num = rw p; day = rw q }
 
-value-first : (k : Kind) (s : List ℕ) → First k s (value k s)
-unfolding value isR isD tag rpRaw dayRaw
+value-first : (k : Kind) (s : List ℕ) → First k s (valueOf k s)
+unfolding valueOf isR isD tag rpRaw dayRaw
 value-first (N m) s = kept (N m) s s refl refl
 value-first (U m) s = kept (U m) s s refl refl
 value-first (X m) s = kept (X m) s s refl refl
@@ -114,7 +114,7 @@ value-first Q s = kept Q s s refl refl
 value-first D s = record { num = num-day (readDay s); day = refl }
 value-first (among ns) s = kept (among ns) s s refl refl
 
-none-first : (k : Kind) → First k [] (text [])
+none-first : (k : Kind) → First k [] (raw [])
 unfolding rpRaw dayRaw number readDay
 none-first k = record { num = zero-both (isR k); day = zero-both (isD k) }
   where
@@ -187,15 +187,15 @@ module _ (n place : ℕ) (ss : List (List ℕ)) (listed : leb 1 ((rowBy table n)
 
 -- the rows of 11, 201 and 301, by their places
 module _ (ss : List (List ℕ)) where
-  at-11 : (j : ℕ) → length ss ≡ 8 → j < 8 → getD (itemsValue (sliceOf 360) ss) j (text []) ≡ itemValue (getD (sliceOf 360) j blank) (getD ss j [])
+  at-11 : (j : ℕ) → length ss ≡ 8 → j < 8 → getD (itemsValue (sliceOf 360) ss) j (raw []) ≡ itemValue (getD (sliceOf 360) j blank) (getD ss j [])
   unfolding codes
   at-11 j n h = value-at (sliceOf 360) ss j n h
 
-  at-201 : (j : ℕ) → length ss ≡ 7 → j < 7 → getD (itemsValue (sliceOf 663) ss) j (text []) ≡ itemValue (getD (sliceOf 663) j blank) (getD ss j [])
+  at-201 : (j : ℕ) → length ss ≡ 7 → j < 7 → getD (itemsValue (sliceOf 663) ss) j (raw []) ≡ itemValue (getD (sliceOf 663) j blank) (getD ss j [])
   unfolding codes
   at-201 j n h = value-at (sliceOf 663) ss j n h
 
-  at-301 : (j : ℕ) → length ss ≡ 8 → j < 8 → getD (itemsValue (sliceOf 968) ss) j (text []) ≡ itemValue (getD (sliceOf 968) j blank) (getD ss j [])
+  at-301 : (j : ℕ) → length ss ≡ 8 → j < 8 → getD (itemsValue (sliceOf 968) ss) j (raw []) ≡ itemValue (getD (sliceOf 968) j blank) (getD ss j [])
   unfolding codes
   at-301 j n h = value-at (sliceOf 968) ss j n h
 

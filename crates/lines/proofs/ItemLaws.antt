@@ -8,8 +8,8 @@ use lib.ListN.{length, getD}
 use Rattle.lists.specs.Searching.{part}
 use Rattle.characters.specs.Scanning.{commaCount}
 use Rattle.records.specs.Split.{itemsOf}
-use Rattle.records.specs.Items.{Value, text}
-use Rattle.records.specs.Records.{firstOf, rowOf, itemValue, itemsValue, nth, recordFrom, recordOf, lineFault}
+use Rattle.records.specs.Items.{Value, raw}
+use Rattle.records.specs.Records.{firstOf, tableRow, itemValue, itemsValue, nth, recordFrom, recordOf, lineFault}
 use Rattle.records.proofs.LineLaws.{Good, line-good}
 use Rattle.lines.specs.declared.Span.{Span}
 use Rattle.lines.specs.Codes.{ItemOf, ItemIn}
@@ -22,15 +22,15 @@ behind x xs (suc j) h = let z : suc j - 1 ≡ j = omega arith in ap (λ (i : ℕ
 
 -- item number j of a record is the value of item number j of its line, by its row
 pub item-value : (provider : Bool) (l : List ℕ) (j : ℕ) → lineFault provider l ≡ 0 → ItemOf j (commaCount l)
-    → nth ((recordOf l) .values) j ≡ itemValue (getD ((rowOf (firstOf (itemsOf l))) .items) (j - 1) blank) (getD (itemsOf l) j [])
+    → nth ((recordOf l) .values) j ≡ itemValue (getD ((tableRow (firstOf (itemsOf l))) .items) (j - 1) blank) (getD (itemsOf l) j [])
 unfolding recordOf recordFrom
 item-value provider l j h k =
     let g : Good provider l (recordOf l) = line-good provider l h in
     let n : length (g .rest) ≡ commaCount l = omega (arith, items-count l, ap length (g .cut)) in
-    rw (g .cut) (value-at ((rowOf (g .head)) .items) (g .rest) (j - 1) (g .sound .count) (omega (arith, n, g .sound .count, k .low, k .high)) ∙ ap (itemValue (getD ((rowOf (g .head)) .items) (j - 1) blank)) (behind (g .head) (g .rest) j (k .low)))
+    rw (g .cut) (value-at ((tableRow (g .head)) .items) (g .rest) (j - 1) (g .sound .count) (omega (arith, n, g .sound .count, k .low, k .high)) ∙ ap (itemValue (getD ((tableRow (g .head)) .items) (j - 1) blank)) (behind (g .head) (g .rest) j (k .low)))
 
 -- the same by the bytes of its span
 pub span-value : (provider : Bool) (s : List ℕ) (at e j : ℕ) {r : Span} → lineFault provider (part s at e) ≡ 0 → ItemOf j (commaCount (part s at e)) → ItemIn s at e j r
-    → nth ((recordOf (part s at e)) .values) j ≡ itemValue (getD ((rowOf (firstOf (itemsOf (part s at e)))) .items) (j - 1) blank) (part s (r .from) (r .to))
+    → nth ((recordOf (part s at e)) .values) j ≡ itemValue (getD ((tableRow (firstOf (itemsOf (part s at e)))) .items) (j - 1) blank) (part s (r .from) (r .to))
 span-value provider s at e j h k x =
-    item-value provider (part s at e) j h k ∙ ap (itemValue (getD ((rowOf (firstOf (itemsOf (part s at e)))) .items) (j - 1) blank)) (sym (x .says))
+    item-value provider (part s at e) j h k ∙ ap (itemValue (getD ((tableRow (firstOf (itemsOf (part s at e)))) .items) (j - 1) blank)) (sym (x .says))

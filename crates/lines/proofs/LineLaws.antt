@@ -19,7 +19,7 @@ use Rattle.scanning.specs.Scans.{Stops, Sixteen}
 use Rattle.records.specs.Split.{itemsOf}
 use Rattle.records.specs.Positions.{itemsFrom}
 use Rattle.records.specs.Table.{Row, table}
-use Rattle.records.specs.Records.{t911, rowOf, recordFrom, recordOf, itemsValue, itemsFault, pairs, faultFrom}
+use Rattle.records.specs.Records.{t911, tableRow, recordFrom, recordOf, itemsValue, itemsFault, pairs, faultFrom}
 use Rattle.lines.specs.declared.Details.{Details}
 use Rattle.lines.specs.declared.Numbered.{Numbered}
 use Rattle.notebook.specs.Facts.{factsOf}
@@ -38,10 +38,10 @@ record Cut (s h : List ℕ) (ss : List (List ℕ)) (n place : ℕ) : Type 0 wher
   inside : InCodes place
 
 module _ {s h : List ℕ} {ss : List (List ℕ)} {n place : ℕ} (f : Cut s h ss n place) where
-  row : RowAt n (rowOf h) place
-  row = subst (λ (x : ℕ). RowAt n (rowOf h) x) (sym (f .place-is)) (subst (λ (x : ℕ). RowAt x (rowOf h) (placeOf x)) (sym (f .number)) (row-of h))
+  row : RowAt n (tableRow h) place
+  row = subst (λ (x : ℕ). RowAt n (tableRow h) x) (sym (f .place-is)) (subst (λ (x : ℕ). RowAt x (tableRow h) (placeOf x)) (sym (f .number)) (row-of h))
 
-  by-n : rowOf h ≡ rowBy table n
+  by-n : tableRow h ≡ rowBy table n
   by-n = row-of-number h ∙ ap (rowBy table) (sym (f .number))
 
   mark : same h t911 ≡ eqb n 911
@@ -62,8 +62,8 @@ module _ {s h : List ℕ} {ss : List (List ℕ)} {n place : ℕ} (f : Cut s h ss
     record-is : recordFrom (h ∷ ss) ≡ record { number = n; values = itemsValue (sliceOf place) ss }
     unfolding recordFrom
     record-is =
-        let e : (rowOf h) .number ≡ n = row .number listed in
-        let g : (rowOf h) .items ≡ sliceOf place = row .items in
+        let e : (tableRow h) .number ≡ n = row .number listed in
+        let g : (tableRow h) .items ≡ sliceOf place = row .items in
         rw (e, g)
 
     pairs-of : length ss ≡ place % 16 → pairs (recordFrom (h ∷ ss)) ≡ pairsRaw n ss

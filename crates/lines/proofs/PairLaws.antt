@@ -14,7 +14,7 @@ use Rattle.digits.specs.Digits.{number, spell}
 use Rattle.digits.specs.Short.{orThousand, shortValue, plainNumber}
 use Rattle.digits.proofs.Numbers.{number-length}
 use Rattle.digits.proofs.Spelling.{same-spell}
-use Rattle.records.specs.Items.{oneOf, value, numberValue}
+use Rattle.records.specs.Items.{spelledAs, valueOf, numberValue}
 use Rattle.records.specs.Records.{itemValue, isEmpty, isNum, orEmpty, codePair, formPair, 調剤, 日分, 回分}
 use Rattle.items.proofs.SetLaws.{small, one-of-member}
 use Rattle.lines.specs.Codes.{quantity, codeRaw, formRaw}
@@ -59,7 +59,7 @@ q-some (some n) v e h =
     rw (e, ne-eqb n 1000 (λ q. omega arith))
 
 pub quantity-is : (q : List ℕ) {v : ℕ} → v ≡ shortValue q → (eqb (length q) 0 || (eqb v 1000 || eqb v 1)) ≡ orEmpty (quantity q) (isNum (quantity q) 1)
-unfolding itemValue value shortValue
+unfolding itemValue valueOf shortValue
 quantity-is [] e = refl
 quantity-is (b ∷ q) {v} e =
     rw (ne-eqb (suc (length q)) 0 (λ z. omega arith)) (q-some (number (b ∷ q)) v e (λ n h. number-length (b ∷ q) n h .1))
@@ -67,7 +67,7 @@ quantity-is (b ∷ q) {v} e =
 -- ---- form
 
 -- spelled as one of the numbers, joined as the code joins
-one-of : (ns : List ℕ) (s : List ℕ) → all small ns ≡ true → oneOf ns s ≡ orMember false ns (plainNumber s)
+one-of : (ns : List ℕ) (s : List ℕ) → all small ns ≡ true → spelledAs ns s ≡ orMember false ns (plainNumber s)
 one-of ns s h = one-of-member ns s h ∙ sym (member-left ns (plainNumber s))
 
 module _ (f q u : List ℕ) {n : ℕ} (e : n ≡ plainNumber f) where

@@ -14,7 +14,7 @@ use Rattle.scanning.specs.Scans.{Stops, Sixteen}
 use Rattle.calendar.specs.Era.{readDay}
 use Rattle.order.specs.declared.Facts.{Facts}
 use Rattle.records.specs.Table.{R, fromProvider}
-use Rattle.records.specs.Items.{Value, text, dayValue}
+use Rattle.records.specs.Items.{Value, raw, dayValue}
 use Rattle.records.specs.Records.{itemValue, codePair, formPair}
 use Rattle.records.specs.Split.{itemsOf}
 use Rattle.notebook.specs.Facts.{dayOf, orZero}
@@ -76,10 +76,10 @@ abbrev pub quantity : List ℕ → Value
 quantity s = itemValue (record { kind = R; need = fromProvider }) s
 
 unfoldable pub codeRaw : List ℕ → List ℕ → Bool
-codeRaw k c = codePair (text k) (text c)
+codeRaw k c = codePair (raw k) (raw c)
 
 unfoldable pub formRaw : List ℕ → List ℕ → List ℕ → Bool
-formRaw f q u = formPair (text f) (quantity q) (text u)
+formRaw f q u = formPair (raw f) (quantity q) (raw u)
 
 unfoldable pub pairsRaw : ℕ → List (List ℕ) → Bool
 pairsRaw n ss =

@@ -17,7 +17,7 @@ use Rattle.characters.proofs.RowLaws.{text-clean, rows-line, line-no-mark}
 use Rattle.records.specs.Records.{Record, lineFault, recordOf, header}
 use Rattle.order.specs.declared.State.{State}
 use Rattle.order.specs.declared.Moved.{Moved}
-use Rattle.order.specs.declared.Moved.the-variants.{Refused, On}
+use Rattle.order.specs.declared.Moved.the-variants.{Fault, On}
 use Rattle.order.specs.State.{start, stepOf, finishOf}
 use Rattle.order.proofs.Laws.{provider-kept, provider-start}
 use Rattle.notebook.specs.Facts.{factsOf}
@@ -141,7 +141,7 @@ stepped : (st : State) (l : List ℕ) (t : State) (rp doctor : ℕ) → stepLine
 unfolding stepLine
 stepped st l t rp doctor e = go (eqb (lineFault (st .provider) l) 0) refl e
   where
-    go : (x : Bool) → eqb (lineFault (st .provider) l) 0 ≡ x → cond x (stepOf st (factsOf (recordOf l))) (Refused (lineFault (st .provider) l)) ≡ On t rp doctor
+    go : (x : Bool) → eqb (lineFault (st .provider) l) 0 ≡ x → cond x (stepOf st (factsOf (recordOf l))) (Fault (lineFault (st .provider) l)) ≡ On t rp doctor
         → (lineFault (st .provider) l ≡ 0) × (stepOf st (factsOf (recordOf l)) ≡ On t rp doctor)
     go true q e = (eqb-true _ _ q, e)
     go false q e = let z : _≡_ {A = ℕ} 0 1 = cc in absurd (omega arith)
@@ -171,7 +171,7 @@ taken d (r ∷ rs) st recs p e = by (same r endMark) refl (isLine r) refl (λ t 
     step : isLine r ≡ true → (m : Moved) → stepLine st (text r) ≡ m
         → ((t : State) (u : List Record) → t .provider ≡ d → recordsFrom t rs ≡ ok u → Taken d t rs u)
         → onward (st .line + 1) (recordOf (text r)) (λ t. recordsFrom t rs) m ≡ ok recs → Taken d st (r ∷ rs) recs
-    step l (Refused n) m ih e = absurd (no-refusal e)
+    step l (Fault n) m ih e = absurd (no-refusal e)
     step l (On t rp doctor) m ih e = on t rp doctor l m (recordsFrom t rs) refl (ih t) e
 
     by : (x : Bool) → same r endMark ≡ x → (y : Bool) → isLine r ≡ y

@@ -13,7 +13,7 @@ use Rattle.lists.specs.Lists.{All, all, member, ok}
 use Rattle.lists.proofs.Tests.{both, neither}
 use Rattle.characters.specs.Text.{text}
 use Rattle.records.specs.Records.{Record, recordOf}
-use Rattle.rules.specs.Places.{rowOf, rows, mayFollow, inGroup}
+use Rattle.rules.specs.Places.{lookUp, pattern, mayFollow, inGroup}
 use Rattle.rules.specs.Rules.{misplaced, newerGroup}
 use Rattle.order.specs.declared.State.{State}
 use Rattle.order.specs.declared.Facts.{Facts}
@@ -38,12 +38,12 @@ rowsPass : (ℕ → Bool) → List (ℕ × Bool) → Bool
 rowsPass Q [] = true
 rowsPass Q (x ∷ xs) = (not (x .1) || Q (x .0)) && rowsPass Q xs
 
-row-passes : (Q : ℕ → Bool) (n : ℕ) (xs : List (ℕ × Bool)) → rowsPass Q xs ≡ true → rowOf n xs ≡ true → Q n ≡ true
+row-passes : (Q : ℕ → Bool) (n : ℕ) (xs : List (ℕ × Bool)) → rowsPass Q xs ≡ true → lookUp n xs ≡ true → Q n ≡ true
 unfolding rowsPass
 row-passes Q n [] t h = absurd (false≢true h)
 row-passes Q n (x ∷ xs) t h = let b = both _ _ t in go (eqb n (x .0)) refl (x .1) (b .0) (row-passes Q n xs (b .1)) h
   where
-    go : (e : Bool) → eqb n (x .0) ≡ e → (y : Bool) → (not y || Q (x .0)) ≡ true → (rowOf n xs ≡ true → Q n ≡ true) → cond e y (rowOf n xs) ≡ true → Q n ≡ true
+    go : (e : Bool) → eqb n (x .0) ≡ e → (y : Bool) → (not y || Q (x .0)) ≡ true → (lookUp n xs ≡ true → Q n ≡ true) → cond e y (lookUp n xs) ≡ true → Q n ≡ true
     go true p true t i h = ap Q (eqb-true n (x .0) p) ∙ t
     go true p false t i h = absurd (false≢true h)
     go false p y t i h = i h
@@ -56,9 +56,9 @@ passes f n (x ∷ xs) t h = let y = both (f x) (all f xs) t in go (eqb n x) refl
     go true p t i h = ap f (eqb-true n x p) ∙ t
     go false p t i h = i h
 
-follow : (Q : ℕ → ℕ → Bool) → all (λ p. rowsPass (Q p) (rows p)) places ≡ true → (p n : ℕ) → member places p ≡ true → mayFollow p n ≡ true → Q p n ≡ true
+follow : (Q : ℕ → ℕ → Bool) → all (λ p. rowsPass (Q p) (pattern p)) places ≡ true → (p n : ℕ) → member places p ≡ true → mayFollow p n ≡ true → Q p n ≡ true
 unfolding mayFollow
-follow Q t p n k h = row-passes (Q p) n (rows p) (passes (λ p. rowsPass (Q p) (rows p)) p places t k) h
+follow Q t p n k h = row-passes (Q p) n (pattern p) (passes (λ p. rowsPass (Q p) (pattern p)) p places t k) h
 
 -- "At most one 1; then any 2s, then 3s, then 4s"
 abbrev pub inFirst : ℕ → Bool
@@ -288,13 +288,13 @@ module _ (s : List ℕ) (b : Notebook) (e : readFile s ≡ ok b) where
   ruled : Ruled (start (b .provider)) (b .records)
   ruled = accepted s b e .taken .ruled
 
-  pattern : Pattern (start (b .provider) .place) (b .records)
+  in-pattern : Pattern (start (b .provider) .place) (b .records)
   unfolding start places
-  pattern = ruled-pattern refl ruled
+  in-pattern = ruled-in-pattern refl ruled
 
   numbers : Numbers false (partsOf (b .records))
   unfolding start inGroup
-  numbers = numbers-of (b .records) 0 false refl pattern
+  numbers = numbers-of (b .records) 0 false refl in-pattern
 
   pub file-front : All (λ r. inFirst (r .number) ≡ true) (partsOf (b .records) .front)
   file-front = numbers .front
@@ -306,11 +306,11 @@ module _ (s : List ℕ) (b : Notebook) (e : readFile s ≡ ok b) where
   file-tail = numbers .tail
 
   pub file-count : length (partsOf (b .records) .groups) ≡ count 5 (b .records)
-  file-count = count-of (b .records) (start (b .provider) .place) pattern
+  file-count = count-of (b .records) (start (b .provider) .place) in-pattern
 
   pub file-days : NewestFirst (partsOf (b .records) .groups)
   file-days = days-of ruled
 
   pub file-ordinals : map (λ (x : Entry). x .group) (entriesOf s) ≡ ordinals (partsOf (b .records))
   unfolding start groupOf inGroup ordinals
-  file-ordinals = walk-ordinals (walked s b e .walked) pattern
+  file-ordinals = walk-ordinals (walked s b e .walked) in-pattern

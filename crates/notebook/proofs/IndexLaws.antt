@@ -18,7 +18,7 @@ use Rattle.records.specs.Records.{Record, recordOf}
 use Rattle.order.specs.declared.State.{State}
 use Rattle.order.specs.declared.Facts.{Facts}
 use Rattle.rules.specs.Places.{inFront, inRp, inRest, inGroup}
-use Rattle.order.specs.State.{none, start, hadAfter, advance, doctorOf, groupOf, drugOf}
+use Rattle.order.specs.State.{nothingYet, start, hadAfter, advance, doctorOf, groupOf, drugOf}
 use Rattle.order.proofs.Laws.{provider-start, line-start, taken}
 use Rattle.notebook.specs.Facts.{factsOf}
 use Rattle.replies.specs.Results.{Result}
@@ -119,7 +119,7 @@ keeps-drug = record {
 
 -- before the first record nothing is kept
 at-start : (provider : Bool) (g : ℕ) → Known doctor g 0 (start provider) × Known drug g 0 (start provider)
-unfolding doctor drug start none
+unfolding doctor drug start nothingYet
 at-start provider g = (record { now = λ _. refl; ahead = λ _. refl }, record { now = λ _. refl; ahead = λ _. refl })
 
 -- a record of an RP is in a group, and is no 5

@@ -9,7 +9,7 @@ use borrow.Author.Tests.{eqb-true}
 use Rattle.records.specs.Records.{lineFault, recordOf}
 use Rattle.order.specs.declared.State.{State}
 use Rattle.order.specs.declared.Moved.{Moved}
-use Rattle.order.specs.declared.Moved.the-variants.{Refused, On}
+use Rattle.order.specs.declared.Moved.the-variants.{Fault, On}
 use Rattle.order.specs.State.{advance, stepOf}
 use Rattle.order.proofs.Laws.{taken}
 use Rattle.notebook.specs.Facts.{factsOf}
@@ -25,7 +25,7 @@ pub placed : (st : State) (l : List ℕ) (after : State) (rp doctor : ℕ) → s
 unfolding stepLine
 placed st l after rp doctor e = go (eqb (lineFault (st .provider) l) 0) refl e
   where
-    go : (x : Bool) → eqb (lineFault (st .provider) l) 0 ≡ x → cond x (stepOf st (factsOf (recordOf l))) (Refused (lineFault (st .provider) l)) ≡ On after rp doctor
+    go : (x : Bool) → eqb (lineFault (st .provider) l) 0 ≡ x → cond x (stepOf st (factsOf (recordOf l))) (Fault (lineFault (st .provider) l)) ≡ On after rp doctor
         → Placed st l after rp doctor
     go true q e = record { sound = eqb-true _ _ q; step = e; state = taken st (factsOf (recordOf l)) after rp doctor e .state }
     go false q e = let z : _≡_ {A = ℕ} 0 1 = cc in absurd (omega arith)

@@ -15,7 +15,7 @@ use Rattle.characters.specs.Rows.{rows, isLine, endMark}
 use Rattle.records.specs.Records.{Record, recordOf, header}
 use Rattle.order.specs.declared.State.{State}
 use Rattle.order.specs.declared.Moved.{Moved}
-use Rattle.order.specs.declared.Moved.the-variants.{Refused, On}
+use Rattle.order.specs.declared.Moved.the-variants.{Fault, On}
 use Rattle.order.specs.State.{start, finishOf}
 use Rattle.buffers.specs.Entries.{six}
 use Rattle.buffers.proofs.Runs.{six-length}
@@ -63,7 +63,7 @@ walk (r ∷ rs) st at recs e = by (same r endMark) refl (isLine r) refl (λ t u.
     step : isLine r ≡ true → (m : Moved) → stepLine st (text r) ≡ m
         → ((t : State) (u : List Record) → recordsFrom t rs ≡ ok u → Walk t (at + length r) rs u (entriesFrom t (at + length r) rs))
         → onward (st .line + 1) (recordOf (text r)) (λ t. recordsFrom t rs) m ≡ ok recs → Walk st at (r ∷ rs) recs (entered at (text r) (λ t. entriesFrom t (at + length r) rs) m)
-    step l (Refused n) m ih e = absurd (no-refusal e)
+    step l (Fault n) m ih e = absurd (no-refusal e)
     step l (On t rp doctor) m ih e = on t rp doctor l m (recordsFrom t rs) refl (ih t) e
 
     by : (x : Bool) → same r endMark ≡ x → (y : Bool) → isLine r ≡ y

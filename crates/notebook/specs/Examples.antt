@@ -5,7 +5,7 @@ use Prim.Native.Nat.{ℕ}
 use mathlib.Core.Bool.{false}
 use mathlib.Core.List.{List, [], _∷_}
 use Rattle.lists.specs.Lists.{bytes}
-use Rattle.records.specs.Items.{Value, text, num, day}
+use Rattle.records.specs.Items.{Value, raw, num, day}
 use Rattle.records.specs.Records.{Record}
 use Rattle.notebook.specs.Notebook.{Notebook}
 use Rattle.notebook.specs.Groups.{Parts}
@@ -16,23 +16,23 @@ abbrev pub rec : ℕ → List Value → Record
 rec n vs = record { number = n; values = vs }
 
 abbrev pub r1 : Record
-r1 = rec 1 (text (bytes "A") ∷ text (bytes "1") ∷ day 19890108 ∷ [])
+r1 = rec 1 (raw (bytes "A") ∷ raw (bytes "1") ∷ day 19890108 ∷ [])
 
 abbrev pub r4 : Record
-r4 = rec 4 (text (bytes "B") ∷ text [] ∷ text (bytes "1") ∷ [])
+r4 = rec 4 (raw (bytes "B") ∷ raw [] ∷ raw (bytes "1") ∷ [])
 
 abbrev pub r5 : ℕ → Record
-r5 d = rec 5 (day d ∷ text (bytes "1") ∷ [])
+r5 d = rec 5 (day d ∷ raw (bytes "1") ∷ [])
 
 -- its fourth item is the institution code
 abbrev pub r11 : Record
-r11 = rec 11 (text (bytes "C") ∷ text (bytes "13") ∷ text (bytes "4") ∷ text (bytes "1234567") ∷ [])
+r11 = rec 11 (raw (bytes "C") ∷ raw (bytes "13") ∷ raw (bytes "4") ∷ raw (bytes "1234567") ∷ [])
 
 abbrev pub r201 : Record
-r201 = rec 201 (num 1 ∷ text (bytes "D") ∷ text (bytes "2") ∷ text (bytes "E") ∷ [])
+r201 = rec 201 (num 1 ∷ raw (bytes "D") ∷ raw (bytes "2") ∷ raw (bytes "E") ∷ [])
 
 abbrev pub r701 : Record
-r701 = rec 701 (text (bytes "F") ∷ text (bytes "G") ∷ text (bytes "H") ∷ [])
+r701 = rec 701 (raw (bytes "F") ∷ raw (bytes "G") ∷ raw (bytes "H") ∷ [])
 
 -- ---- the notebook
 

@@ -7,18 +7,18 @@ use mathlib.Core.Option.{Option, none, some}
 use lib.Dec.{eqb}
 use Rattle.digits.specs.Digits.{number}
 use Rattle.order.specs.declared.Facts.{Facts}
-use Rattle.records.specs.Items.{Value, text, num, day}
+use Rattle.records.specs.Items.{Value, raw, num, day}
 use Rattle.records.specs.Records.{Record, item, isEmpty}
 
 -- the value of kind R, 0 for any other
 abbrev pub numOf : Value → ℕ
-numOf (text s) = 0
+numOf (raw s) = 0
 numOf (num n) = n
 numOf (day n) = 0
 
 -- the day of kind D, 0 for any other
 abbrev pub dayOf : Value → ℕ
-dayOf (text s) = 0
+dayOf (raw s) = 0
 dayOf (num n) = 0
 dayOf (day n) = n
 
@@ -28,7 +28,7 @@ orZero (some n) = n
 
 -- the number that the bytes are the digits of, 0 where they are empty
 abbrev pub spelled : Value → ℕ
-spelled (text s) = orZero (number s)
+spelled (raw s) = orZero (number s)
 spelled (num n) = 0
 spelled (day n) = 0
 

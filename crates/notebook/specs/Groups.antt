@@ -9,7 +9,7 @@ use mathlib.Core.Option.{Option, none, some}
 use mathlib.Core.List.{List, [], _∷_, _++_, map, flatten}
 use lib.Dec.{eqb}
 use Rattle.lists.specs.Lists.{All}
-use Rattle.records.specs.Items.{Value, text, num, day}
+use Rattle.records.specs.Items.{Value, raw, num, day}
 use Rattle.records.specs.Records.{Record, item}
 use Rattle.notebook.specs.Facts.{dayOf}
 use Rattle.notebook.specs.Notebook.{Notebook}
@@ -70,12 +70,12 @@ first n (r ∷ rs) = cond (eqb (r .number) n) (some r) (first n rs)
 
 -- "An omitted item is empty": so is every item of a record that does not stand
 abbrev pub itemOf : Option Record → ℕ → Value
-itemOf none i = text []
+itemOf none i = raw []
 itemOf (some r) i = item r i
 
 -- the bytes of a kind that is kept as bytes, none for any other
 abbrev pub textOf : Value → List ℕ
-textOf (text s) = s
+textOf (raw s) = s
 textOf (num n) = []
 textOf (day n) = []
 

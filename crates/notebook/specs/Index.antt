@@ -10,7 +10,7 @@ use Rattle.characters.specs.Rows.{rows, isLine}
 use Rattle.records.specs.Records.{recordOf, header}
 use Rattle.order.specs.declared.State.{State}
 use Rattle.order.specs.declared.Moved.{Moved}
-use Rattle.order.specs.declared.Moved.the-variants.{Refused as StepRefused, On}
+use Rattle.order.specs.declared.Moved.the-variants.{Fault as StepRefused, On}
 use Rattle.order.specs.State.{start, groupOf, drugOf}
 use Rattle.buffers.specs.Entries.{six}
 use Rattle.notebook.specs.Notebook.{Notebook, stepLine, readFile}

@@ -12,7 +12,7 @@ use Rattle.characters.specs.Rows.{rows, isLine, endMark}
 use Rattle.records.specs.Records.{Record, lineFault, recordOf, header}
 use Rattle.order.specs.declared.State.{State}
 use Rattle.order.specs.declared.Moved.{Moved}
-use Rattle.order.specs.declared.Moved.the-variants.{Refused, On}
+use Rattle.order.specs.declared.Moved.the-variants.{Fault, On}
 use Rattle.order.specs.State.{start, stepOf, finishOf}
 use Rattle.notebook.specs.Facts.{factsOf}
 
@@ -24,7 +24,7 @@ pub record Notebook : Type 0 where
 -- ---- one record line in its place: its own fault (4 to 12), then the order's (12 to 16)
 
 unfoldable pub stepLine : State → List ℕ → Moved
-stepLine st l = cond (eqb (lineFault (st .provider) l) 0) (stepOf st (factsOf (recordOf l))) (Refused (lineFault (st .provider) l))
+stepLine st l = cond (eqb (lineFault (st .provider) l) 0) (stepOf st (factsOf (recordOf l))) (Fault (lineFault (st .provider) l))
 
 -- ---- the rows behind line 1
 
@@ -38,7 +38,7 @@ closed st = cond (eqb (finishOf st) 0) (ok []) (refused (finishOf st) (st .line 
 
 -- a refusal has the line's number; a record goes on with the next state
 unfoldable pub onward : ℕ → Record → (State → Res (List Record)) → Moved → Res (List Record)
-onward line r k (Refused n) = refused n line
+onward line r k (Fault n) = refused n line
 onward line r k (On t rp doctor) = prepend r (k t)
 
 -- "A line's number is one more than the line ends before it": st .line is the number of the line before this one

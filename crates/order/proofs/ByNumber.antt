@@ -17,7 +17,7 @@ use Rattle.lists.specs.Lists.{member}
 use Rattle.lists.proofs.Tests.{orMember, member-left, member-more, neither}
 use Rattle.rules.specs.Places.{inHead, inFront, inDrugs, inRp, inRest, inGroup, mayFollow}
 use Rattle.order.specs.Questions.{beforeOf, askedOf}
-use Rattle.rules.specs.Rules.{pairBroken, misplaced, continues, closesRp, lacking, missing, valueWrong, newerGroup, refusal}
+use Rattle.rules.specs.Rules.{pairBroken, misplaced, continues, closesRp, lacking, missing, valueWrong, newerGroup, orderRefusal}
 use Rattle.order.specs.State.{hadAfter, advance, refusalOf, rpOf, doctorOf}
 
 -- ---- places
@@ -59,7 +59,7 @@ by-bool false t f = f refl
 -- ---- a record with its number written out
 
 abbrev refusalAs : State → Facts → ℕ → ℕ
-refusalAs s r n = refusal (beforeOf s) (record {
+refusalAs s r n = orderRefusal (beforeOf s) (record {
   number = n;
   same = askedOf s r .same;
   next = askedOf s r .next;
@@ -113,19 +113,19 @@ module _ (s : State) (r : Facts) where
   headed Q lacks e n = by-bool (Q (s .place)) (λ h. simp (h, isnt Q 51 e h, off Q rp n h, and-false, or-false lacks)) (λ h. simp h)
 
   pub of-1 : r .number ≡ 1 → refusalOf s r ≡ cond (eqb (s .place) 0) 0 13
-  unfolding refusal pairBroken misplaced mayFollow continues closesRp missing valueWrong newerGroup
+  unfolding orderRefusal pairBroken misplaced mayFollow continues closesRp missing valueWrong newerGroup
   of-1 q = rw (as-number s r 1 q) (simp bools (headed (λ p. eqb p 0) false refl refl))
 
   pub of-2 : r .number ≡ 2 → refusalOf s r ≡ cond (orMember false (0 ∷ 1 ∷ 2 ∷ []) (s .place)) (cond no1 14 0) 13
-  unfolding refusal pairBroken misplaced mayFollow continues closesRp missing valueWrong newerGroup
+  unfolding orderRefusal pairBroken misplaced mayFollow continues closesRp missing valueWrong newerGroup
   of-2 q = rw (as-number s r 2 q, member-left (0 ∷ 1 ∷ 2 ∷ []) (s .place)) (simp bools (headed (member (0 ∷ 1 ∷ 2 ∷ [])) no1 refl refl))
 
   pub of-3 : r .number ≡ 3 → refusalOf s r ≡ cond (orMember false (0 ∷ 1 ∷ 2 ∷ 3 ∷ []) (s .place)) (cond no1 14 0) 13
-  unfolding refusal pairBroken misplaced mayFollow continues closesRp missing valueWrong newerGroup
+  unfolding orderRefusal pairBroken misplaced mayFollow continues closesRp missing valueWrong newerGroup
   of-3 q = rw (as-number s r 3 q, member-left (0 ∷ 1 ∷ 2 ∷ 3 ∷ []) (s .place)) (simp bools (headed (member (0 ∷ 1 ∷ 2 ∷ 3 ∷ [])) no1 refl refl))
 
   pub of-4 : r .number ≡ 4 → refusalOf s r ≡ cond (inHead (s .place)) (cond no1 14 0) 13
-  unfolding refusal pairBroken misplaced mayFollow continues closesRp missing valueWrong newerGroup
+  unfolding orderRefusal pairBroken misplaced mayFollow continues closesRp missing valueWrong newerGroup
   of-4 q = rw (as-number s r 4 q) (simp bools (headed inHead no1 refl refl))
 
   -- a record of the front behind a 5, which may stand where Q holds and it isn't barred
@@ -137,16 +137,16 @@ module _ (s : State) (r : Facts) where
       (λ h. simp h)
 
   pub of-11 : r .number ≡ 11 → refusalOf s r ≡ cond (eqb (s .place) 5) 0 13
-  unfolding refusal pairBroken misplaced mayFollow continues closesRp missing valueWrong newerGroup
+  unfolding orderRefusal pairBroken misplaced mayFollow continues closesRp missing valueWrong newerGroup
   of-11 q = rw (as-number s r 11 q) (simp bools (simp bools at (fronted (λ p. eqb p 5) false refl refl refl)))
 
   pub of-15 : r .number ≡ 15 → refusalOf s r ≡ cond (orMember false (5 ∷ 11 ∷ []) (s .place)) 0 13
-  unfolding refusal pairBroken misplaced mayFollow continues closesRp missing valueWrong newerGroup
+  unfolding orderRefusal pairBroken misplaced mayFollow continues closesRp missing valueWrong newerGroup
   of-15 q = rw (as-number s r 15 q, member-left (5 ∷ 11 ∷ []) (s .place)) (simp bools (simp bools at (fronted (member (5 ∷ 11 ∷ [])) false refl refl refl)))
 
   pub of-51 : r .number ≡ 51 → refusalOf s r ≡ cond (orMember false (5 ∷ 11 ∷ 15 ∷ []) (s .place))
       (cond (s .provider && member (1 ∷ 3 ∷ []) (s .had .schedule)) 13 0) 13
-  unfolding refusal pairBroken misplaced mayFollow continues closesRp missing valueWrong newerGroup
+  unfolding orderRefusal pairBroken misplaced mayFollow continues closesRp missing valueWrong newerGroup
   of-51 q =
       rw (as-number s r 51 q, member-left (5 ∷ 11 ∷ 15 ∷ []) (s .place))
       (simp bools (fronted (member (5 ∷ 11 ∷ 15 ∷ [])) (s .provider && member (1 ∷ 3 ∷ []) (s .had .schedule)) refl refl refl))
@@ -155,7 +155,7 @@ module _ (s : State) (r : Facts) where
       (cond (eqb (s .had .doctor) 0 || s .provider && member (1 ∷ 3 ∷ []) (s .had .schedule)) 13
       (cond (s .provider && not (s .had .had301)) 14 0)) (cond (inFront (s .place))
       (cond (s .provider && member (1 ∷ 3 ∷ []) (s .had .schedule)) 13 0) 13)
-  unfolding refusal pairBroken misplaced mayFollow continues closesRp missing valueWrong newerGroup
+  unfolding orderRefusal pairBroken misplaced mayFollow continues closesRp missing valueWrong newerGroup
   of-55 q =
       rw (as-number s r 55 q)
       (by-bool (inRp (s .place))
@@ -167,13 +167,13 @@ module _ (s : State) (r : Facts) where
   -- ---- a prescription
 
   pub of-201-on : r .number ≡ 201 → inDrugs (s .place) ≡ true → eqb (r .rp) (s .had .rp) ≡ true → refusalOf s r ≡ 0
-  unfolding refusal pairBroken misplaced mayFollow continues closesRp missing valueWrong newerGroup
+  unfolding orderRefusal pairBroken misplaced mayFollow continues closesRp missing valueWrong newerGroup
   of-201-on q h e = rw (as-number s r 201 q) (simp (h, member-more (201 ∷ 281 ∷ 291 ∷ []) (301 ∷ 311 ∷ 391 ∷ []) (s .place) h, e, isnt inDrugs 0 refl h, bools))
 
   pub of-201-new : r .number ≡ 201 → (inDrugs (s .place) && eqb (r .rp) (s .had .rp)) ≡ false → refusalOf s r ≡ cond (inRp (s .place))
       (cond (s .provider && not (s .had .had301)) 14 (cond (not (eqb (r .rp) (s .had .rp + 1))) 15 0))
       (cond (inFront (s .place) || eqb (s .place) 55) (cond (not (eqb (r .rp) (s .had .rp + 1))) 15 0) 13)
-  unfolding refusal pairBroken misplaced mayFollow continues closesRp missing valueWrong newerGroup
+  unfolding orderRefusal pairBroken misplaced mayFollow continues closesRp missing valueWrong newerGroup
   of-201-new q c =
       rw (as-number s r 201 q)
       (by-bool (inRp (s .place))
@@ -191,15 +191,15 @@ module _ (s : State) (r : Facts) where
   kept Q z e = by-bool (Q (s .place)) (λ h. simp (h, isnt Q 0 z h, isnt Q 51 e h, bools)) (λ h. simp h)
 
   pub of-281 : r .number ≡ 281 → refusalOf s r ≡ keptRp (orMember false (201 ∷ 281 ∷ []) (s .place))
-  unfolding refusal pairBroken misplaced mayFollow continues closesRp missing valueWrong newerGroup
+  unfolding orderRefusal pairBroken misplaced mayFollow continues closesRp missing valueWrong newerGroup
   of-281 q = rw (as-number s r 281 q, member-left (201 ∷ 281 ∷ []) (s .place)) (simp bools (kept (member (201 ∷ 281 ∷ [])) refl refl))
 
   pub of-291 : r .number ≡ 291 → refusalOf s r ≡ keptRp (inDrugs (s .place))
-  unfolding refusal pairBroken misplaced mayFollow continues closesRp missing valueWrong newerGroup
+  unfolding orderRefusal pairBroken misplaced mayFollow continues closesRp missing valueWrong newerGroup
   of-291 q = rw (as-number s r 291 q) (simp bools (kept inDrugs refl refl))
 
   pub of-301-named : r .number ≡ 301 → r .named ≡ true → refusalOf s r ≡ keptRp (inDrugs (s .place))
-  unfolding refusal pairBroken misplaced mayFollow continues closesRp missing valueWrong newerGroup
+  unfolding orderRefusal pairBroken misplaced mayFollow continues closesRp missing valueWrong newerGroup
   of-301-named q e = rw (as-number s r 301 q) (simp (e, bools) (kept inDrugs refl refl))
 
   -- whether a 301 has to have a usage name
@@ -207,19 +207,19 @@ module _ (s : State) (r : Facts) where
   namedHere = not (s .provider) || inGroup (s .place) && eqb (s .had .schedule) 4 && not (orMember false (9 ∷ 10 ∷ []) (r .form))
 
   pub of-301-unnamed : r .number ≡ 301 → r .named ≡ false → namedHere ≡ true → refusalOf s r ≡ 12
-  unfolding refusal pairBroken misplaced mayFollow continues closesRp missing valueWrong newerGroup
+  unfolding orderRefusal pairBroken misplaced mayFollow continues closesRp missing valueWrong newerGroup
   of-301-unnamed q e g = rw (as-number s r 301 q) (simp (e, rw (member-left (9 ∷ 10 ∷ []) (r .form)) at g))
 
   pub of-301-free : r .number ≡ 301 → r .named ≡ false → namedHere ≡ false → refusalOf s r ≡ keptRp (inDrugs (s .place))
-  unfolding refusal pairBroken misplaced mayFollow continues closesRp missing valueWrong newerGroup
+  unfolding orderRefusal pairBroken misplaced mayFollow continues closesRp missing valueWrong newerGroup
   of-301-free q e g = rw (as-number s r 301 q) (simp (e, rw (member-left (9 ∷ 10 ∷ []) (r .form)) at g, bools) (kept inDrugs refl refl))
 
   pub of-311 : r .number ≡ 311 → refusalOf s r ≡ keptRp (orMember false (301 ∷ 311 ∷ []) (s .place))
-  unfolding refusal pairBroken misplaced mayFollow continues closesRp missing valueWrong newerGroup
+  unfolding orderRefusal pairBroken misplaced mayFollow continues closesRp missing valueWrong newerGroup
   of-311 q = rw (as-number s r 311 q, member-left (301 ∷ 311 ∷ []) (s .place)) (simp bools (kept (member (301 ∷ 311 ∷ [])) refl refl))
 
   pub of-391 : r .number ≡ 391 → refusalOf s r ≡ keptRp (inRp (s .place))
-  unfolding refusal pairBroken misplaced mayFollow continues closesRp missing valueWrong newerGroup
+  unfolding orderRefusal pairBroken misplaced mayFollow continues closesRp missing valueWrong newerGroup
   of-391 q = rw (as-number s r 391 q) (simp bools (kept inRp refl refl))
 
   -- ---- behind the prescriptions
@@ -240,7 +240,7 @@ module _ (s : State) (r : Facts) where
       by-bool (Q (s .place)) (λ h. simp (g, m .0, m .1, h, isnt Q 0 z h, bools)) (λ h. simp (g, f, h))))
 
   pub of-401 : r .number ≡ 401 → refusalOf s r ≡ cond (s .provider && eqb (s .had .rp) 0) 13 (inTheRest (eqb (s .place) 401))
-  unfolding refusal pairBroken misplaced mayFollow continues closesRp missing valueWrong newerGroup
+  unfolding orderRefusal pairBroken misplaced mayFollow continues closesRp missing valueWrong newerGroup
   of-401 q =
       rw (as-number s r 401 q)
       (by-bool (s .provider && eqb (s .had .rp) 0)
@@ -248,15 +248,15 @@ module _ (s : State) (r : Facts) where
       (λ z. simp (z, bools) (in-the-rest (λ p. eqb p 401) refl)))
 
   pub of-411 : r .number ≡ 411 → refusalOf s r ≡ inTheRest (orMember false (401 ∷ 411 ∷ []) (s .place))
-  unfolding refusal pairBroken misplaced mayFollow continues closesRp missing valueWrong newerGroup
+  unfolding orderRefusal pairBroken misplaced mayFollow continues closesRp missing valueWrong newerGroup
   of-411 q = rw (as-number s r 411 q, member-left (401 ∷ 411 ∷ []) (s .place)) (simp bools (in-the-rest (member (401 ∷ 411 ∷ [])) refl))
 
   pub of-501 : r .number ≡ 501 → refusalOf s r ≡ inTheRest (orMember false (401 ∷ 411 ∷ 501 ∷ []) (s .place))
-  unfolding refusal pairBroken misplaced mayFollow continues closesRp missing valueWrong newerGroup
+  unfolding orderRefusal pairBroken misplaced mayFollow continues closesRp missing valueWrong newerGroup
   of-501 q = rw (as-number s r 501 q, member-left (401 ∷ 411 ∷ 501 ∷ []) (s .place)) (simp bools (in-the-rest (member (401 ∷ 411 ∷ 501 ∷ [])) refl))
 
   pub of-601 : r .number ≡ 601 → refusalOf s r ≡ inTheRest (inRest (s .place))
-  unfolding refusal pairBroken misplaced mayFollow continues closesRp missing valueWrong newerGroup
+  unfolding orderRefusal pairBroken misplaced mayFollow continues closesRp missing valueWrong newerGroup
   of-601 q = rw (as-number s r 601 q) (simp bools (in-the-rest inRest refl))
 
   -- ---- what closes a group
@@ -304,16 +304,16 @@ module _ (s : State) (r : Facts) where
 
   pub of-5 : r .number ≡ 5
       → refusalOf s r ≡ closing (inHead (s .place)) (λ b. b) (cond (not (eqb (s .groups) 0) && ltb (s .day) (r .day)) 16 0)
-  unfolding refusal pairBroken misplaced mayFollow continues closesRp missing valueWrong newerGroup
+  unfolding orderRefusal pairBroken misplaced mayFollow continues closesRp missing valueWrong newerGroup
   of-5 q = rw (as-number s r 5 q) (simp bools (closes [] (λ b. b) (cond (not (eqb (s .groups) 0) && ltb (s .day) (r .day)) 16 0) refl refl))
 
   pub of-701 : r .number ≡ 701
       → refusalOf s r ≡ closing (inHead (s .place) || eqb (s .place) 701) (λ b. b || s .provider && eqb (s .groups) 0) 0
-  unfolding refusal pairBroken misplaced mayFollow continues closesRp missing valueWrong newerGroup
+  unfolding orderRefusal pairBroken misplaced mayFollow continues closesRp missing valueWrong newerGroup
   of-701 q = rw (as-number s r 701 q) (simp bools (closes (701 ∷ []) (λ b. b || s .provider && eqb (s .groups) 0) 0 refl refl))
 
 pub of-other : (s : State) (r : Facts) → mayFollow (s .place) (r .number) ≡ false → eqb (r .number) 301 ≡ false → refusalOf s r ≡ 13
-unfolding refusalOf refusal pairBroken misplaced
+unfolding refusalOf orderRefusal pairBroken misplaced
 of-other s r h e = simp (e, h)
 
 -- ---- what a record of an RP but a 201 hands back

@@ -11,11 +11,11 @@ use lib.Dec.{eqb, eqb·suc-zero}
 use borrow.Author.Tests.{eq-eqb, eqb-true}
 use Rattle.order.specs.declared.State.{State}
 use Rattle.order.specs.declared.Facts.{Facts}
-use Rattle.order.specs.declared.Moved.the-variants.{Refused, On}
+use Rattle.order.specs.declared.Moved.the-variants.{Fault, On}
 use Rattle.rules.specs.Places.{inRp, ofOpenRp}
 use Rattle.rules.specs.Questions.{Before, Asked}
 use Rattle.order.specs.Questions.{beforeOf, askedOf}
-use Rattle.rules.specs.Rules.{pairBroken, misplaced, missing, continues, valueWrong, newerGroup, refusal}
+use Rattle.rules.specs.Rules.{pairBroken, misplaced, missing, continues, valueWrong, newerGroup, orderRefusal}
 use Rattle.order.specs.State.{start, hadAfter, advance, refusalOf, rpOf, doctorOf, stepOf}
 use Rattle.order.specs.Room.{Room}
 use Rattle.order.specs.Run.{after}
@@ -44,7 +44,7 @@ pub taken : (s : State) (r : Facts) (t : State) (p d : ℕ) → stepOf s r ≡ O
 unfolding stepOf
 taken s r t p d e = by (refusalOf s r) refl e
   where
-    by : (n : ℕ) → refusalOf s r ≡ n → cond (eqb n 0) (On (advance s r) (rpOf r) (doctorOf s r)) (Refused n) ≡ On t p d → Taken s r t p d
+    by : (n : ℕ) → refusalOf s r ≡ n → cond (eqb n 0) (On (advance s r) (rpOf r) (doctorOf s r)) (Fault n) ≡ On t p d → Taken s r t p d
     by ℕ.zero q f = record { good = q; state = cc; rp = cc; doctor = cc }
     by (ℕ.suc n) q f = absurd (let z : _≡_ {A = ℕ} 0 1 = cc (eqb·suc-zero n) in omega arith)
 
@@ -52,8 +52,8 @@ taken s r t p d e = by (refusalOf s r) refl e
 abbrev Listed : ℕ → Type 0
 Listed n = 0 < n → (12 ≤ n) × (n ≤ 16)
 
-listed : (b : Before) (r : Asked) → Listed (refusal b r)
-unfolding refusal
+listed : (b : Before) (r : Asked) → Listed (orderRefusal b r)
+unfolding orderRefusal
 listed b r =
     cond-case Listed (pairBroken b r) (λ _ _. (omega arith, omega arith))
     (λ _. cond-case Listed (misplaced b r) (λ _ _. (omega arith, omega arith))
@@ -61,11 +61,11 @@ listed b r =
     (λ _. cond-case Listed (valueWrong b r) (λ _ _. (omega arith, omega arith))
     (λ _. cond-case Listed (newerGroup b r) (λ _ _. (omega arith, omega arith)) (λ _ h. (omega arith, omega arith))))))
 
-pub refused : (s : State) (r : Facts) (n : ℕ) → stepOf s r ≡ Refused n → Refusal s r n
+pub refused : (s : State) (r : Facts) (n : ℕ) → stepOf s r ≡ Fault n → Refusal s r n
 unfolding stepOf refusalOf
 refused s r n e = by (refusalOf s r) refl e
   where
-    by : (m : ℕ) → refusalOf s r ≡ m → cond (eqb m 0) (On (advance s r) (rpOf r) (doctorOf s r)) (Refused m) ≡ Refused n → Refusal s r n
+    by : (m : ℕ) → refusalOf s r ≡ m → cond (eqb m 0) (On (advance s r) (rpOf r) (doctorOf s r)) (Fault m) ≡ Fault n → Refusal s r n
     by ℕ.zero q f = absurd (let z : _≡_ {A = ℕ} 0 1 = cc in omega arith)
     by (ℕ.suc m) q f =
         let g : n ≡ refusalOf s r = cc (eqb·suc-zero m) in
@@ -91,7 +91,7 @@ not-first true n m e = absurd (omega arith)
 not-first false n m e = (refl, e)
 
 pub good : (s : State) (r : Facts) → refusalOf s r ≡ 0 → Good s r
-unfolding refusalOf refusal
+unfolding refusalOf orderRefusal
 good s r e =
     let a = not-first (pairBroken (beforeOf s) (askedOf s r)) 11 _ e in
     let b = not-first (misplaced (beforeOf s) (askedOf s r)) 12 _ (a .1) in

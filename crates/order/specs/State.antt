@@ -10,7 +10,7 @@
 -- which is also the count of RPs; `had301`, whether that RP its 301; `doctor` and `drug`, the lines of the last 55 and 201. 0 where there is none.
 -- `State`, where the reader is: `provider`, whether the direction is 1; `place`, the number of the last record, and `line`, its line; `groups` and
 -- `drugs`, how many 5s and 201s so far; `day`, the last 5's; `had`, of the open group.
--- `Moved`, what a step answers: `Refused` with the number of the refusal, or `On` with the next state, the RP of the record and the line of its
+-- `Moved`, what a step answers: `Fault` with the number of the refusal, or `On` with the next state, the RP of the record and the line of its
 -- doctor.
 use Prim.Native.Nat.{ℕ, _+_}
 use mathlib.Core.Bool.{Bool, true, false, cond}
@@ -21,18 +21,18 @@ use Rattle.order.specs.declared.Had.{Had}
 use Rattle.order.specs.declared.State.{State}
 use Rattle.order.specs.declared.Facts.{Facts}
 use Rattle.order.specs.declared.Moved.{Moved}
-use Rattle.order.specs.declared.Moved.the-variants.{Refused, On}
+use Rattle.order.specs.declared.Moved.the-variants.{Fault, On}
 use Rattle.rules.specs.Places.{inRp, inGroup}
 use Rattle.order.specs.Questions.{beforeOf, askedOf}
-use Rattle.rules.specs.Rules.{refusal, unfinished}
+use Rattle.rules.specs.Rules.{orderRefusal, unfinished}
 
 -- a group that has had its 5 only
-unfoldable pub none : Had
-none = record { had11 = false; schedule = 0; had51 = false; had411 = false; rp = 0; had301 = false; doctor = 0; drug = 0 }
+unfoldable pub nothingYet : Had
+nothingYet = record { had11 = false; schedule = 0; had51 = false; had411 = false; rp = 0; had301 = false; doctor = 0; drug = 0 }
 
 -- before the first record: line 1 is read
 unfoldable pub start : Bool → State
-start provider = record { provider = provider; place = 0; line = 1; groups = 0; drugs = 0; day = 0; had = none }
+start provider = record { provider = provider; place = 0; line = 1; groups = 0; drugs = 0; day = 0; had = nothingYet }
 
 -- What the open group has had after a record at this line: a 5 begins a group, so that nothing reaches into it from the group before; a
 -- 201 has no 301 behind it yet.
@@ -63,7 +63,7 @@ advance s r = record {
 
 -- the lowest refusal of this line, 0 where it is good
 unfoldable pub refusalOf : State → Facts → ℕ
-refusalOf s r = refusal (beforeOf s) (askedOf s r)
+refusalOf s r = orderRefusal (beforeOf s) (askedOf s r)
 
 -- the RP of a record 201 to 391, else 0
 unfoldable pub rpOf : Facts → ℕ
@@ -74,7 +74,7 @@ unfoldable pub doctorOf : State → Facts → ℕ
 doctorOf s r = cond (inRp (r .number)) (s .had .doctor) 0
 
 unfoldable pub stepOf : State → Facts → Moved
-stepOf s r = cond (eqb (refusalOf s r) 0) (On (advance s r) (rpOf r) (doctorOf s r)) (Refused (refusalOf s r))
+stepOf s r = cond (eqb (refusalOf s r) 0) (On (advance s r) (rpOf r) (doctorOf s r)) (Fault (refusalOf s r))
 
 -- 14 at the end, or 0
 unfoldable pub finishOf : State → ℕ

@@ -13,7 +13,7 @@ ghost use Rattle.order.specs.declared.Moved.the-variants.{On};
 ghost use Rattle.rules.specs.Places.{inHead, inFront, inDrugs, inRp, inRest, inGroup};
 ghost use Rattle.order.specs.Questions.{beforeOf};
 ghost use Rattle.rules.specs.Rules.{lacking};
-ghost use Rattle.order.specs.State.{none, hadAfter, start, advance, rpOf, doctorOf, refusalOf, stepOf, finishOf, groupOf, drugOf};
+ghost use Rattle.order.specs.State.{nothingYet, hadAfter, start, advance, rpOf, doctorOf, refusalOf, stepOf, finishOf, groupOf, drugOf};
 ghost use Rattle.order.specs.Room.{Room};
 
 // All that the rules look at in a record; an empty item is 0, or false. `rp` is the first item of 201 to 391, `day` a
@@ -56,7 +56,7 @@ pub struct State {
 
 // A refusal's number, or the next state with the RP and the doctor's line of the record.
 pub enum Moved {
-    Refused(u32),
+    Fault(u32),
     On(State, u32, u32),
 }
 
@@ -120,7 +120,7 @@ fn kept_rp(placed: bool, same: bool) -> u32
 impl Had {
     // A group that has had its 5 only.
     pub fn none() -> Self
-        ensures { λ h. ⌜ h ≡ none ⌝ }
+        ensures { λ h. ⌜ h ≡ nothingYet ⌝ }
     {
         Had {
             had11: false,
@@ -455,7 +455,7 @@ impl State {
         if no == 0 {
             self.moved(r)
         } else {
-            Moved::Refused(no)
+            Moved::Fault(no)
         }
     }
 

@@ -6,7 +6,7 @@ use mathlib.Core.Option.{Option, none, some, Option·map}
 use mathlib.Core.List.{List, [], _∷_}
 use lib.Dec.{leb}
 use Rattle.packing.specs.Packing.{total, put, pack}
-use Rattle.packing.specs.Widths.{over, Plan, whole, fails, orNext, tries, plan}
+use Rattle.packing.specs.Widths.{over, Plan, inOne, noPlan, orNext, tries, plan}
 
 unfoldable pub packed : {A : Type 0} → (A → ℕ) → (ℕ → ℕ) → ℕ → ℕ → ℕ → List A → Option (List (List A))
 packed len o c k u [] = some ([] ∷ [])
@@ -20,11 +20,11 @@ packed len o c k u (r ∷ rs) =
     ]
 
 unfoldable pub tried : {A : Type 0} → (A → ℕ) → ℕ → ℕ → ℕ → List A → Plan A
-tried len c zero w rs = fails
+tried len c zero w rs = noPlan
 tried len c (suc f) w rs = orNext w (tried len c f (suc w) rs) (packed len (over w) c 1 (over w 1) rs)
 
 unfoldable pub planned : {A : Type 0} → (A → ℕ) → ℕ → List A → Plan A
-planned len c rs = cond (leb (13 + total len rs) c) whole (tried len c 3 1 rs)
+planned len c rs = cond (leb (13 + total len rs) c) inOne (tried len c 3 1 rs)
 
 pack-is : {A : Type 0} (len : A → ℕ) (o : ℕ → ℕ) (c k u : ℕ) (rs : List A) → pack len o c k u rs ≡ packed len o c k u rs
 unfolding pack packed
@@ -50,4 +50,4 @@ tries-is len c (suc f) w rs = rw (tries-is len c f (suc w) rs, pack-is len (over
 
 pub plan-is : {A : Type 0} (len : A → ℕ) (c : ℕ) (rs : List A) → plan len c rs ≡ planned len c rs
 unfolding plan planned
-plan-is {A} len c rs = ap (λ (p : Plan A). cond (leb (13 + total len rs) c) whole p) (tries-is len c 3 1 rs)
+plan-is {A} len c rs = ap (λ (p : Plan A). cond (leb (13 + total len rs) c) inOne p) (tries-is len c 3 1 rs)

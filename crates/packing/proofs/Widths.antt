@@ -16,7 +16,7 @@ use Rattle.digits.specs.Digits.{spell, digitCount}
 use Rattle.digits.proofs.Numbers.{length-spell, count-4, count-most, count-up, some-digit, to-999}
 use Rattle.packing.specs.Packing.{total, pack}
 use Rattle.packing.specs.Divisions.{concat, Fits}
-use Rattle.packing.specs.Widths.{over, Plan, whole, split, fails, serves, tries, plan}
+use Rattle.packing.specs.Widths.{over, Plan, inOne, inRuns, noPlan, serves, tries, plan}
 use Rattle.packing.proofs.Packing.{Way, Found, lighter, ahead, pack-good, Taken, Good, way-of, pairs-same, pack-none}
 
 -- a division into two or more pieces for the capacity
@@ -33,9 +33,9 @@ pub data Division {A : Type 0} (len : A → ℕ) (c : ℕ) (rs : List A) : ℕ �
 
 -- the plan has at most n pieces
 abbrev pub AtMost : {A : Type 0} → ℕ → Plan A → Type 0
-AtMost n whole = 1 ≤ n
-AtMost n (split xs) = length xs ≤ n
-AtMost n fails = ⊥
+AtMost n inOne = 1 ≤ n
+AtMost n (inRuns xs) = length xs ≤ n
+AtMost n noPlan = ⊥
 
 -- ---- what a piece holds besides its records
 
@@ -92,7 +92,7 @@ pack-start len c w (r ∷ rs) xs h e =
 
 module _ {A : Type 0} (len : A → ℕ) (c : ℕ) (rs : List A) where
   tries-serve : (f w : ℕ) (xs : List (List A)) → pack len (over w) c 1 (over w 1) rs ≡ some xs → serves w (length xs) ≡ true
-      → tries len c (suc f) w rs ≡ split xs
+      → tries len c (suc f) w rs ≡ inRuns xs
   unfolding tries
   tries-serve f w xs e h = rw (e, h, tries)
 
@@ -170,7 +170,7 @@ module _ {A : Type 0} (len : A → ℕ) (c : ℕ) (rs : List A) where
   fewest (suc f) w n big fit y a b low =
       fewest-step f w n big fit a low (narrow w (digitCount n) n a y) _ refl (λ m l. fewest f (suc w) n big fit y m (omega arith) l)
 
-  pub plan-whole : 13 + total len rs ≤ c → plan len c rs ≡ whole
+  pub plan-whole : 13 + total len rs ≤ c → plan len c rs ≡ inOne
   unfolding plan
   plan-whole h = rw (le-leb (13 + total len rs) c h, plan)
 
@@ -207,21 +207,21 @@ module _ {A : Type 0} (len : A → ℕ) (c : ℕ) (rs : List A) where
 
   -- what the plan finds is a division
   abbrev pub Planned : Plan A → Type 0
-  Planned whole = 13 + total len rs ≤ c
-  Planned (split xs) = Divides len c rs xs
-  Planned fails = Unit {0}
+  Planned inOne = 13 + total len rs ≤ c
+  Planned (inRuns xs) = Divides len c rs xs
+  Planned noPlan = Unit {0}
 
   taken-fits : (w : ℕ) (xs : List (List A)) → Taken len (over w) c 1 (over w 1) xs → Fits len (over w) c 1 xs
   unfolding Taken Fits
   taken-fits w [] t = absurd t
   taken-fits w (x ∷ xs) t = t
 
-  served : (w : ℕ) (xs : List (List A)) → w ≤ 3 → pack len (over w) c 1 (over w 1) rs ≡ some xs → serves w (length xs) ≡ true → Planned (split xs)
+  served : (w : ℕ) (xs : List (List A)) → w ≤ 3 → pack len (over w) c 1 (over w 1) rs ≡ some xs → serves w (length xs) ≡ true → Planned (inRuns xs)
   served w xs h e s =
       let d : (digitCount (length xs) ≡ w) × (2 ≤ length xs) = serves-digits w (length xs) s in
       go d (leb (over w 1) c) refl
     where
-      go : (digitCount (length xs) ≡ w) × (2 ≤ length xs) → (b : Bool) → leb (over w 1) c ≡ b → Planned (split xs)
+      go : (digitCount (length xs) ≡ w) × (2 ≤ length xs) → (b : Bool) → leb (over w 1) c ≡ b → Planned (inRuns xs)
       go (d, t) true q =
           let g : Good len (over w) c 1 (over w 1) rs xs = packed w xs (leb-true _ _ q) e in
           record {

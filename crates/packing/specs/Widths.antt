@@ -16,10 +16,10 @@ unfoldable pub over : ℕ → ℕ → ℕ
 over w k = 13 + (3 + 1 + 14 + 1 + w + 1 + digitCount k) + 2
 
 pub data Plan (A : Type 0) : Type 0 where
-  whole : Plan A
+  inOne : Plan A
   -- the runs of the pieces 1, 2, ..
-  split : List (List A) → Plan A
-  fails : Plan A
+  inRuns : List (List A) → Plan A
+  noPlan : Plan A
 
 -- "the count of pieces has that many digits"; "the pieces number n, 2 to 999"
 unfoldable pub serves : ℕ → ℕ → Bool
@@ -28,13 +28,13 @@ serves w n = eqb (digitCount n) w && leb 2 n
 -- a packing that serves is the plan; else another is sought
 abbrev pub orNext : {A : Type 0} → ℕ → Plan A → Option (List (List A)) → Plan A
 orNext w next none = next
-orNext w next (some xs) = cond (serves w (length xs)) (split xs) next
+orNext w next (some xs) = cond (serves w (length xs)) (inRuns xs) next
 
 -- f widths from w on, tried in turn
 unfoldable pub tries : {A : Type 0} → (A → ℕ) → ℕ → ℕ → ℕ → List A → Plan A
-tries len c zero w rs = fails
+tries len c zero w rs = noPlan
 tries len c (suc f) w rs = orNext w (tries len c f (suc w) rs) (pack len (over w) c 1 (over w 1) rs)
 
 -- 13: line 1 with its end
 unfoldable pub plan : {A : Type 0} → (A → ℕ) → ℕ → List A → Plan A
-plan len c rs = cond (leb (13 + total len rs) c) whole (tries len c 3 1 rs)
+plan len c rs = cond (leb (13 + total len rs) c) inOne (tries len c 3 1 rs)

@@ -21,7 +21,7 @@ use Rattle.heading.specs.declared.Heading.the-variants.{Line1, Other}
 use Rattle.heading.specs.Reading.{headingOf}
 use Rattle.heading.proofs.Laws.{heading-is, heading-not}
 use Rattle.pieces.specs.declared.Row.the-variants.{Head, EndHead, Body, End, Broken}
-use Rattle.division.specs.Pieces.{Kind, head, endHead, body, end, broken, kindOf}
+use Rattle.division.specs.Pieces.{RowKind, head, endHead, body, end, broken, kindOf}
 use Rattle.pieces.specs.Answers.{RowAt, KindIs}
 
 -- ---- the first row, by where the first 0Ah stands
@@ -111,13 +111,13 @@ pub ruleset line-laws = (line-start, line-end)
 -- ---- kinds
 
 -- a row that is no line 1 and no line
-abbrev noLine : List ℕ → Kind
+abbrev noLine : List ℕ → RowKind
 noLine r =
     cond (same r endMark) end
     (cond (same r (0x1a ∷ headRow true)) (endHead true) (cond (same r (0x1a ∷ headRow false)) (endHead false) broken))
 
 -- what a 1Ah is followed by
-abbrev behindMark : List ℕ → Kind
+abbrev behindMark : List ℕ → RowKind
 behindMark t = cond (same t (headRow true)) (endHead true) (cond (same t (headRow false)) (endHead false) broken)
 
 head-kind : (d : Bool) → kindOf (headRow d) ≡ head d

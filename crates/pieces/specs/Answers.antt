@@ -17,7 +17,7 @@ use Rattle.pieces.specs.declared.RowRead.{RowRead}
 use Rattle.pieces.specs.declared.Numbers.{Numbers}
 use Rattle.pieces.specs.declared.Numbers.the-variants.{Read, Unread}
 use Rattle.division.specs.Marks.{Mark, validID, markOf, readMark}
-use Rattle.division.specs.Pieces.{Kind, head, endHead, body, end, broken, kindOf}
+use Rattle.division.specs.Pieces.{RowKind, head, endHead, body, end, broken, kindOf}
 
 -- the row from at to e, and the rows behind it
 pub record RowAt (s : List ℕ) (at e : ℕ) : Type 0 where
@@ -25,7 +25,7 @@ pub record RowAt (s : List ℕ) (at e : ℕ) : Type 0 where
   pub inside : e ≤ length s
   pub cut : rows (drop at s) ≡ part s at e ∷ rows (drop e s)
 
-abbrev pub asKind : Row → Kind
+abbrev pub asKind : Row → RowKind
 asKind (Head d) = head d
 asKind (EndHead d) = endHead d
 asKind Body = body

@@ -14,12 +14,12 @@ use Rattle.lists.proofs.Tests.{member-more, both, neither, either, not-true′}
 use Rattle.order.specs.declared.State.{State}
 use Rattle.order.specs.declared.Facts.{Facts}
 use Rattle.order.specs.declared.Moved.{Moved}
-use Rattle.order.specs.declared.Moved.the-variants.{Refused, On}
+use Rattle.order.specs.declared.Moved.the-variants.{Fault, On}
 use Rattle.rules.specs.Places.{inHead, inFront, inRp, inDrugs, inGroup, mayFollow}
 use Rattle.rules.specs.Questions.{Before, Asked}
 use Rattle.rules.specs.Rules.{closesRp, lacking, missing, valueWrong, continues}
-use Rattle.order.specs.State.{none, start, advance, refusalOf, stepOf}
-use Rattle.order.specs.Run.{refusedAt, onward, runOf, after}
+use Rattle.order.specs.State.{nothingYet, start, advance, refusalOf, stepOf}
+use Rattle.order.specs.Run.{refusedAt, stepped, runOf, after}
 use Rattle.order.proofs.Laws.{taken as takenLaw}
 use Rattle.grammar.specs.Grammar.{Details, rec, _⇒_}
 use Rattle.prefixes.specs.Prefixes.{late}
@@ -285,14 +285,14 @@ never e = cc
 -- those before the first refusal are
 pub before-refusal : (rs : List Facts) (s : State) (r : Facts) (rest : List Facts) (n line : ℕ) → line ≡ s .line + length rs + 1
     → runOf s (rs ++ r ∷ rest) ≡ refusedAt n line → AllTaken s rs
-unfolding runOf onward
+unfolding runOf stepped
 before-refusal [] s r rest n line q e = tt
 before-refusal (x ∷ rs) s r rest n line q e = by (stepOf s x) refl e (before-refusal rs (advance s x) r rest n line)
   where
-    by : (m : Moved) → stepOf s x ≡ m → onward (s .line) (λ t. runOf t (rs ++ r ∷ rest)) m ≡ refusedAt n line
+    by : (m : Moved) → stepOf s x ≡ m → stepped (s .line) (λ t. runOf t (rs ++ r ∷ rest)) m ≡ refusedAt n line
         → (line ≡ advance s x .line + length rs + 1 → runOf (advance s x) (rs ++ r ∷ rest) ≡ refusedAt n line → AllTaken (advance s x) rs)
         → AllTaken s (x ∷ rs)
-    by (Refused k) w e ih = absurd (omega (arith, never e))
+    by (Fault k) w e ih = absurd (omega (arith, never e))
     by (On t p d) w e ih =
         let k = takenLaw s x t p d w in
         (k .good, ih (omega (arith, line-next s x)) (subst (λ (u : State). runOf u (rs ++ r ∷ rest) ≡ refusedAt n line) (k .state) e))
@@ -309,5 +309,5 @@ kept-after [] s t k = k
 kept-after (r ∷ rs) s (a, t) k = kept-after rs (advance s r) t (subst Kept (sym (next-core s r)) (kept-next (coreOf s) r (rw a) k))
 
 pub kept-start : (provider : Bool) → Kept (coreOf (start provider))
-unfolding start none inGroup
+unfolding start nothingYet inGroup
 kept-start provider = refl

@@ -13,7 +13,7 @@ use Rattle.lists.proofs.Tests.{both, not-true′}
 use Rattle.order.specs.declared.State.{State}
 use Rattle.order.specs.declared.Facts.{Facts}
 use Rattle.order.specs.declared.Moved.{Moved}
-use Rattle.order.specs.declared.Moved.the-variants.{Refused, On}
+use Rattle.order.specs.declared.Moved.the-variants.{Fault, On}
 use Rattle.lists.specs.Lists.{member, same, Res, refused}
 use Rattle.lists.proofs.Tests.{same-true}
 use Rattle.characters.specs.Text.{text}
@@ -27,7 +27,7 @@ use Rattle.verdict.proofs.Verdict.{TakenLine, taken-line, file-is-grammar}
 use Rattle.faults.proofs.FaultLaws.{prepended, closed-line, of-book, stepped}
 use Rattle.rules.specs.Places.{inGroup, mayFollow, inRp}
 use Rattle.order.specs.Questions.{beforeOf}
-use Rattle.rules.specs.Rules.{pairBroken, misplaced, continues, closesRp, lacking, missing, valueWrong, newerGroup, refusal, unfinished}
+use Rattle.rules.specs.Rules.{pairBroken, misplaced, continues, closesRp, lacking, missing, valueWrong, newerGroup, orderRefusal, unfinished}
 use Rattle.order.specs.State.{start}
 use Rattle.order.specs.Run.{after}
 use Rattle.order.proofs.Laws.{line-start, provider-start}
@@ -66,7 +66,7 @@ seen o p g c = record {
 -- ---- direction 2: record 1, or the 201 of a 55, or nothing
 
 patient : (p : ℕ) (g : Bool) (c : Core) → In p places → Completed (seen false p g c)
-unfolding refusal pairBroken misplaced missing valueWrong newerGroup mayFollow inGroup continues closesRp lacking unfinished
+unfolding orderRefusal pairBroken misplaced missing valueWrong newerGroup mayFollow inGroup continues closesRp lacking unfinished
 patient p g c m =
     let Done : ℕ → Type 0 = λ p. Completed (seen false p g c) in
     first-or Done (record { more = []; ends = finish (seen false 701 g c); few = omega arith; usual = λ a b. tt })
@@ -137,7 +137,7 @@ abbrev informing : List Facts
 informing = rec 5 dated ∷ rec 11 medical ∷ rec 411 plain ∷ []
 
 ahead : (p : ℕ) (c : Core) → In p headPlaces → Completed (seen true p true c)
-unfolding refusal pairBroken misplaced missing valueWrong newerGroup mayFollow inGroup continues closesRp lacking unfinished
+unfolding orderRefusal pairBroken misplaced missing valueWrong newerGroup mayFollow inGroup continues closesRp lacking unfinished
 ahead p c m = record {
   more = informing;
   ends =
@@ -278,7 +278,7 @@ lines-ahead (r ∷ rs) l st n line q e = by (same r endMark) (isLine r) refl (λ
     step-on : FirstLine l r rs → (m : Moved) → stepLine st (text r) ≡ m
         → ((t : State) → rows (flat rs) ≡ rs → recordsFrom t rs ≡ refused n line → Ahead t (flat rs) line)
         → onward (st .line + 1) (recordOf (text r)) (λ t. recordsFrom t rs) m ≡ refused n line → Ahead st l line
-    step-on f (Refused k) w ih e = none-ahead st l line (let z : st .line + 1 ≡ line = cc in sym z)
+    step-on f (Fault k) w ih e = none-ahead st l line (let z : st .line + 1 ≡ line = cc in sym z)
     step-on f (On t rp doctor) w ih e =
         one-ahead st t l r rs line f (taken-line st (text r) t rp doctor w) (stepped st (text r) t rp doctor w)
         (ih t (f .behind) (prepended (recordOf (text r)) (recordsFrom t rs) n line e))

@@ -20,8 +20,8 @@ use Rattle.calendar.specs.Era.{inEra, fromEra, readDay}
 use Rattle.calendar.proofs.Laws.{Plain}
 use Rattle.records.specs.Table.{table}
 use Rattle.records.specs.Split.{itemsOf, joined}
-use Rattle.records.specs.Items.{edge, oneWidth, prefecture, decimal, sized, fault, value}
-use Rattle.records.specs.Records.{Record, itemFault, itemValue, itemsFault, itemsValue, rowIn, rowOf, codePair, formPair, pairs, t911, recordFrom, faultFrom, lineFault, recordOf, 日分}
+use Rattle.records.specs.Items.{edge, oneWidth, prefecture, isDecimal, sized, fault, valueOf}
+use Rattle.records.specs.Records.{Record, itemFault, itemValue, itemsFault, itemsValue, rowIn, tableRow, codePair, formPair, pairs, t911, recordFrom, faultFrom, lineFault, recordOf, 日分}
 use Rattle.records.specs.Reading.{Read, readLine}
 use Rattle.order.specs.declared.Facts.{Facts}
 use Rattle.notebook.specs.Facts.{factsOf}
@@ -48,7 +48,7 @@ one = number-spell 1 (omega arith)
 
 -- records without an RP value
 fixed : (o : Bool) → Line o (rec 1 plain) × Line o (rec 5 dated) × Line o (rec 11 medical) × Line o (rec 411 plain)
-unfolding bytes digitsValue spell leap monthLength isReal isDay gregorian eraOf eraOn inEra fromEra readDay table edge oneWidth prefecture decimal sized fault value itemFault itemValue itemsFault itemsValue rowIn rowOf codePair formPair pairs t911 recordFrom faultFrom lineFault recordOf readLine factsOf
+unfolding bytes digitsValue spell leap monthLength isReal isDay gregorian eraOf eraOn inEra fromEra readDay table edge oneWidth prefecture isDecimal sized fault valueOf itemFault itemValue itemsFault itemsValue rowIn tableRow codePair formPair pairs t911 recordFrom faultFrom lineFault recordOf readLine factsOf
 fixed o = (
   record { line = bytes "1,A,1,19890108,,,,,,,"; rec′ = _; read = refl; facts = refl; short = omega arith },
   record { line = bytes "5,19890108,1"; rec′ = _; read = refl; facts = refl; short = omega arith },
@@ -74,11 +74,11 @@ items301 = bytes "A" ∷ bytes "1" ∷ 日分 ∷ bytes "1" ∷ bytes "1" ∷ []
 
 module _ (v : ℕ) (s : List ℕ) (filled : empty s ≡ false) (is : number s ≡ some v) (lo : leb 1 v ≡ true) where
   fault-rp : (o : Bool) → (faultFrom o (bytes "201" ∷ s ∷ items201) ≡ 0) × (faultFrom o (bytes "301" ∷ s ∷ items301) ≡ 0)
-  unfolding bytes spell table edge oneWidth prefecture decimal sized fault value itemFault itemValue itemsFault itemsValue rowIn rowOf codePair formPair pairs t911 recordFrom faultFrom factsOf
+  unfolding bytes spell table edge oneWidth prefecture isDecimal sized fault valueOf itemFault itemValue itemsFault itemsValue rowIn tableRow codePair formPair pairs t911 recordFrom faultFrom factsOf
   fault-rp o = (rw (filled, is, lo), rw (filled, is, lo, one))
 
   facts-rp : (factsOf (recordFrom (bytes "201" ∷ s ∷ items201)) ≡ rec 201 (ofRp v)) × (factsOf (recordFrom (bytes "301" ∷ s ∷ items301)) ≡ rec 301 (used v))
-  unfolding bytes spell table edge oneWidth prefecture decimal sized fault value itemFault itemValue itemsFault itemsValue rowIn rowOf codePair formPair pairs t911 recordFrom faultFrom factsOf
+  unfolding bytes spell table edge oneWidth prefecture isDecimal sized fault valueOf itemFault itemValue itemsFault itemsValue rowIn tableRow codePair formPair pairs t911 recordFrom faultFrom factsOf
   facts-rp = (rw (filled, is), rw (filled, is, one))
 
 days-chars : allChars 日分 ≡ true

@@ -2,9 +2,9 @@
 use mathlib.Core.Path.{_≡_, refl}
 use mathlib.Core.List.{map, _++_}
 use Rattle.lists.specs.Lists.{bytes}
-use Rattle.printing.specs.Printed.{digitsOf, decimal, numbers, line, printed}
+use Rattle.printing.specs.Printed.{digitList, decimal, spaced, line, printed}
 use Rattle.printing.specs.Examples.{lines, theirLines, values, theirDigits}
 
 pub examples-hold : map decimal values ++ lines ≡ theirDigits ++ theirLines
-unfolding bytes digitsOf decimal numbers line printed
+unfolding bytes digitList decimal spaced line printed
 examples-hold = refl

@@ -12,17 +12,17 @@ use lib.ListN.{length, length-append}
 use Rattle.lists.specs.Lists.{same}
 use Rattle.lists.proofs.Tests.{below, below-at, same-true}
 use Rattle.digits.specs.Digits.{spell}
-use Rattle.printing.specs.Printed.{digitsOf, decimal}
+use Rattle.printing.specs.Printed.{digitList, decimal}
 use Rattle.printing.specs.Digits.{Decimal-digits}
 
-none-of-zero : (k : ℕ) → digitsOf k 0 ≡ []
-unfolding digitsOf
+none-of-zero : (k : ℕ) → digitList k 0 ≡ []
+unfolding digitList
 none-of-zero zero = refl
 none-of-zero (suc k) = refl
 
 -- a bound that is large enough does not matter
-enough : (k j n : ℕ) → n ≤ k → n ≤ j → digitsOf k n ≡ digitsOf j n
-unfolding digitsOf
+enough : (k j n : ℕ) → n ≤ k → n ≤ j → digitList k n ≡ digitList j n
+unfolding digitList
 enough zero zero n h g = refl
 enough zero (suc j) zero h g = refl
 enough zero (suc j) (suc n) h g = absurd (omega arith)
@@ -33,20 +33,20 @@ enough (suc k) (suc j) (suc n) h g =
     ap (λ (s : List ℕ). s ++ ((48 + suc n % 10) ∷ [])) (enough k j (suc n / 10) (omega arith) (omega arith))
 
 -- the digits of a number that is not 0
-bounded : (k n : ℕ) → 1 ≤ n → n ≤ k → digitsOf k n ≡ decimal n
+bounded : (k n : ℕ) → 1 ≤ n → n ≤ k → digitList k n ≡ decimal n
 unfolding decimal
 bounded k zero p h = absurd (omega arith)
 bounded k (suc n) p h = enough k (suc n) (suc n) h (omega arith)
 
 pub decimal-digits : Decimal-digits
-unfolding decimal digitsOf
+unfolding decimal digitList
 decimal-digits zero = refl
 decimal-digits (suc n) = go (leb (suc n) 9) refl
   where
     last : List ℕ
     last = (48 + suc n % 10) ∷ []
 
-    go : (x : Bool) → leb (suc n) 9 ≡ x → digitsOf n (suc n / 10) ++ last ≡ cond x ((48 + suc n) ∷ []) (decimal (suc n / 10) ++ last)
+    go : (x : Bool) → leb (suc n) 9 ≡ x → digitList n (suc n / 10) ++ last ≡ cond x ((48 + suc n) ∷ []) (decimal (suc n / 10) ++ last)
     go true e =
         let h : suc n ≤ 9 = leb-true (suc n) 9 e in
         let q : suc n / 10 ≡ 0 = omega arith in
@@ -81,7 +81,7 @@ spelled : ℕ → Bool
 spelled n = same (decimal n) (spell n)
 
 all-spelled : below spelled 1000 ≡ true
-unfolding below spelled digitsOf decimal spell
+unfolding below spelled digitList decimal spell
 all-spelled = refl
 
 pub decimal-spell : (n : ℕ) → n < 1000 → decimal n ≡ spell n

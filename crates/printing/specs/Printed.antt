@@ -11,24 +11,24 @@ use Rattle.lists.specs.Lists.{bytes}
 use Rattle.replies.specs.declared.Reply.{Reply}
 
 -- the digits of n, none of 0; at most k of them, since a definition must say how often it calls itself
-unfoldable pub digitsOf : ℕ → ℕ → List ℕ
-digitsOf zero n = []
-digitsOf (suc k) zero = []
-digitsOf (suc k) (suc n) = digitsOf k (suc n / 10) ++ ((48 + suc n % 10) ∷ [])
+unfoldable pub digitList : ℕ → ℕ → List ℕ
+digitList zero n = []
+digitList (suc k) zero = []
+digitList (suc k) (suc n) = digitList k (suc n / 10) ++ ((48 + suc n % 10) ∷ [])
 
 -- n in decimal, without leading zeros; n has at most n digits
 unfoldable pub decimal : ℕ → List ℕ
 decimal zero = 48 ∷ []
-decimal (suc n) = digitsOf (suc n) (suc n)
+decimal (suc n) = digitList (suc n) (suc n)
 
 -- "with single spaces": one before each number
-unfoldable pub numbers : List ℕ → List ℕ
-numbers [] = []
-numbers (n ∷ ns) = 0x20 ∷ decimal n ++ numbers ns
+unfoldable pub spaced : List ℕ → List ℕ
+spaced [] = []
+spaced (n ∷ ns) = 0x20 ∷ decimal n ++ spaced ns
 
 -- a word, its numbers, "and 0Ah"
 unfoldable pub line : List ℕ → List ℕ → List ℕ
-line word ns = word ++ numbers ns ++ (0x0a ∷ [])
+line word ns = word ++ spaced ns ++ (0x0a ∷ [])
 
 -- A reply's line, where the call's result has so many values: check 3 ("records, groups, drugs"), cut 2 ("their count and total length"), index,
 -- canonical and join 1 ("the count of records", "the bytes written").

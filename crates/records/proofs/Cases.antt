@@ -5,10 +5,10 @@ use Rattle.digits.specs.Digits.{value, number, spell}
 use Rattle.characters.specs.Cells.{fullRow, partRow, allowed, isPair}
 use Rattle.calendar.specs.Era.{readDay}
 use Rattle.records.specs.Table.{table}
-use Rattle.records.specs.Items.{edge, oneWidth, seven, postal, prefecture, decimal, sized, fault, value as valueOf}
-use Rattle.records.specs.Records.{itemFault, itemValue, itemsFault, itemsValue, rowIn, rowOf, codePair, formPair, pairs, t911, recordFrom, faultFrom, lineFault, header, isMark}
+use Rattle.records.specs.Items.{edge, oneWidth, seven, postal, prefecture, isDecimal, sized, fault, valueOf as valueOf}
+use Rattle.records.specs.Records.{itemFault, itemValue, itemsFault, itemsValue, rowIn, tableRow, codePair, formPair, pairs, t911, recordFrom, faultFrom, lineFault, header, isMark}
 use Rattle.records.specs.Cases.{cases, allHold}
 
 pub cases-hold : T (allHold cases)
-unfolding bytes value number spell fullRow partRow allowed isPair readDay table edge oneWidth seven postal prefecture decimal sized fault valueOf itemFault itemValue itemsFault itemsValue rowIn rowOf codePair formPair pairs t911 recordFrom faultFrom lineFault header isMark
+unfolding bytes value number spell fullRow partRow allowed isPair readDay table edge oneWidth seven postal prefecture isDecimal sized fault valueOf itemFault itemValue itemsFault itemsValue rowIn tableRow codePair formPair pairs t911 recordFrom faultFrom lineFault header isMark
 cases-hold = tt

@@ -13,7 +13,7 @@ use Rattle.lists.specs.Lists.{All, _orElse_}
 use Rattle.lists.proofs.Tests.{or-zero, both-zero}
 use Rattle.calendar.proofs.Laws.{Plain}
 use Rattle.records.specs.Table.{Item}
-use Rattle.records.specs.Items.{Value, text, writeValue, fault, value}
+use Rattle.records.specs.Items.{Value, raw, writeValue, fault, valueOf}
 use Rattle.records.specs.Records.{itemFault, itemValue, itemsFault, itemsValue}
 use Rattle.records.proofs.KindLaws.{Good, good}
 use Rattle.records.proofs.Splits.{NoComma, AllChars, weight, plain-chars, plain-no-comma}
@@ -29,7 +29,7 @@ record Kept (d : Bool) (i : Item) (s : List ℕ) (v : Value) : Type 0 where
   short : length (writeValue v) ≤ length s
   spelled : (writeValue v ≡ s) ⊎ Plain (writeValue v)
 
-kind-of : (d : Bool) (i : Item) (w : List ℕ) → 1 ≤ length w → (itemFault d i w ≡ fault (i .kind) w) × (itemValue i w ≡ value (i .kind) w)
+kind-of : (d : Bool) (i : Item) (w : List ℕ) → 1 ≤ length w → (itemFault d i w ≡ fault (i .kind) w) × (itemValue i w ≡ valueOf (i .kind) w)
 unfolding itemFault itemValue
 kind-of d i [] h = absurd (omega arith)
 kind-of d i (b ∷ w) h = (refl, refl)
@@ -38,9 +38,9 @@ item-kept : (d : Bool) (i : Item) (s : List ℕ) → itemFault d i s ≡ 0 → K
 unfolding itemFault itemValue
 item-kept d i [] h = record { again = h; same = refl; short = omega arith; spelled = inl refl }
 item-kept d i (b ∷ s) h =
-    let g : Good (i .kind) (b ∷ s) (value (i .kind) (b ∷ s)) = good (i .kind) (b ∷ s) h in
-    let w = writeValue (value (i .kind) (b ∷ s)) in
-    let k : (itemFault d i w ≡ fault (i .kind) w) × (itemValue i w ≡ value (i .kind) w) = kind-of d i w (g .some (omega arith)) in
+    let g : Good (i .kind) (b ∷ s) (valueOf (i .kind) (b ∷ s)) = good (i .kind) (b ∷ s) h in
+    let w = writeValue (valueOf (i .kind) (b ∷ s)) in
+    let k : (itemFault d i w ≡ fault (i .kind) w) × (itemValue i w ≡ valueOf (i .kind) w) = kind-of d i w (g .some (omega arith)) in
     record { again = k .0 ∙ g .again; same = k .1 ∙ g .same; short = g .short; spelled = g .spelled }
 
 fine-written : (s w : List ℕ) → (w ≡ s) ⊎ Plain w → Fine s → Fine w

@@ -21,19 +21,19 @@ use Rattle.calendar.specs.Era.{readDay}
 use Rattle.eras.specs.Era.{writeDay}
 use Rattle.calendar.proofs.Laws.{Plain, read-write, read-is-day, write-shortest, write-plain, write-length}
 use Rattle.records.specs.Table.{Kind, N, U, X, A, F, C, P, R, W, Q, D, among}
-use Rattle.records.specs.Items.{Value, text, num, day, writeValue, numberFault, numberValue, dayFault, dayValue, seven, unhyphened, postal, fault, value}
+use Rattle.records.specs.Items.{Value, raw, num, day, writeValue, numberFault, numberValue, dayFault, dayValue, seven, unhyphened, postal, fault, valueOf}
 
 -- v is what the item s of kind k is read to
 pub record Good (k : Kind) (s : List ℕ) (v : Value) : Type 0 where
   pub again : fault k (writeValue v) ≡ 0
-  pub same : value k (writeValue v) ≡ v
+  pub same : valueOf k (writeValue v) ≡ v
   pub short : length (writeValue v) ≤ length s
   pub some : 1 ≤ length s → 1 ≤ length (writeValue v)
   pub spelled : (writeValue v ≡ s) ⊎ Plain (writeValue v)
 
 -- ---- kinds whose items are kept
 
-kept : (k : Kind) (s : List ℕ) → value k s ≡ text s → fault k s ≡ 0 → Good k s (value k s)
+kept : (k : Kind) (s : List ℕ) → valueOf k s ≡ raw s → fault k s ≡ 0 → Good k s (valueOf k s)
 kept k s e h =
     subst (Good k s) (sym e) (record { again = h; same = e; short = omega arith; some = λ g. g; spelled = inl refl })
 
@@ -54,8 +54,8 @@ seven-is s e =
     let p : (eqb (length s) 7 ≡ true) × (all isDigit s ≡ true) = both (eqb (length s) 7) (all isDigit s) e in
     (eqb-true (length s) 7 (p .0), digits-plain s (p .1))
 
-seven-good : (s w : List ℕ) → seven w ≡ true → length w ≤ length s → Good P s (text w)
-unfolding fault value postal
+seven-good : (s w : List ℕ) → seven w ≡ true → length w ≤ length s → Good P s (raw w)
+unfolding fault valueOf postal
 seven-good s w e h =
     let q : (length w ≡ 7) × Plain w = seven-is w e in
     record { again = zero-unless (postal w) 11 (or-first (seven w) _ e); same = rw e; short = h; some = λ g. omega arith; spelled = inr (q .1) }
@@ -63,17 +63,17 @@ seven-good s w e h =
 unhyphened-short : (s : List ℕ) → length (unhyphened s) ≤ length s
 unhyphened-short s = omega (arith, length-append (take 3 s) (drop 4 s), length-take 3 s, length-drop 4 s)
 
-postal-good : (s : List ℕ) → postal s ≡ true → Good P s (value P s)
-unfolding value postal
+postal-good : (s : List ℕ) → postal s ≡ true → Good P s (valueOf P s)
+unfolding valueOf postal
 postal-good s h =
-    cond-case (λ w. Good P s (text w)) (seven s) s (unhyphened s)
+    cond-case (λ w. Good P s (raw w)) (seven s) s (unhyphened s)
     (λ e. seven-good s s e (omega arith))
     (λ e. seven-good s (unhyphened s) (both (eqb (getD s 3 0) 0x2d) (seven (unhyphened s)) (or-second (seven s) _ e h) .1) (unhyphened-short s))
 
 -- ---- R
 
 number-good : (s : List ℕ) (o : Option ℕ) → number s ≡ o → numberFault o ≡ 0 → Good R s (numberValue o)
-unfolding fault value
+unfolding fault valueOf
 number-good s none e h = absurd (omega arith)
 number-good s (some n) e h =
     let b : (digitCount n ≤ length s) × (n ≤ 999) = number-length s n e in
@@ -89,7 +89,7 @@ number-good s (some n) e h =
 -- ---- D
 
 day-good : (s : List ℕ) (o : DateRead) → readDay s ≡ o → dayFault o ≡ 0 → Good D s (dayValue o)
-unfolding fault value
+unfolding fault valueOf
 day-good s NotADate e h = absurd (omega arith)
 day-good s (Date t) e h =
     let r : readDay (writeDay (t .ymd)) ≡ Date t = read-write (t .ymd) (read-is-day s (t .ymd) e) in
@@ -103,8 +103,8 @@ day-good s (Date t) e h =
 
 -- ---- every kind
 
-pub good : (k : Kind) (s : List ℕ) → fault k s ≡ 0 → Good k s (value k s)
-unfolding fault value
+pub good : (k : Kind) (s : List ℕ) → fault k s ≡ 0 → Good k s (valueOf k s)
+unfolding fault valueOf
 good (N m) s h = kept (N m) s refl h
 good (U m) s h = kept (U m) s refl h
 good (X m) s h = kept (X m) s refl h

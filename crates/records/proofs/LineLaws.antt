@@ -19,7 +19,7 @@ use Rattle.characters.proofs.CharLaws.{chars-clean}
 use Rattle.records.specs.Split.{itemsOf, joined}
 use Rattle.records.specs.Table.{Item, Row, table}
 use Rattle.records.specs.Items.{Value, writeValue}
-use Rattle.records.specs.Records.{Record, noRow, rowIn, rowOf, pairs, itemsFault, itemsValue, recordFrom, faultFrom, lineFault, recordOf, t911, write}
+use Rattle.records.specs.Records.{Record, noRow, rowIn, tableRow, pairs, itemsFault, itemsValue, recordFrom, faultFrom, lineFault, recordOf, t911, write}
 use Rattle.records.specs.Reading.{Read, ok, faulty, readLine}
 use Rattle.records.proofs.Splits.{NoComma, AllChars, Split, split, weight, items-joined, joined-length, chars-parts, chars-joined}
 use Rattle.records.proofs.ItemLaws.{Fine, written, Written, items-written}
@@ -35,24 +35,24 @@ row-spelled h (r ∷ rs) e =
 
 -- what is known where a line has no fault
 pub record Sound (d : Bool) (h : List ℕ) (ss : List (List ℕ)) : Type 0 where
-  pub listed : leb 1 ((rowOf h) .number) ≡ true
+  pub listed : leb 1 ((tableRow h) .number) ≡ true
   pub no-mark : same h t911 ≡ false
-  pub count : length ss ≡ length ((rowOf h) .items)
-  pub items : itemsFault d ((rowOf h) .items) ss ≡ 0
+  pub count : length ss ≡ length ((tableRow h) .items)
+  pub items : itemsFault d ((tableRow h) .items) ss ≡ 0
   pub paired : pairs (recordFrom (h ∷ ss)) ≡ true
 
 pub sound : (d : Bool) (h : List ℕ) (ss : List (List ℕ)) → faultFrom d (h ∷ ss) ≡ 0 → Sound d h ss
 unfolding faultFrom
 sound d h ss e =
-    let a = or-zero (unless (leb 1 ((rowOf h) .number) || same h t911) 5) _ e in
+    let a = or-zero (unless (leb 1 ((tableRow h) .number) || same h t911) 5) _ e in
     let b = or-zero (unless (not (same h t911)) 6) _ (a .1) in
-    let c = or-zero (unless (eqb (length ss) (length ((rowOf h) .items))) 7) _ (b .1) in
-    let f = or-zero (itemsFault d ((rowOf h) .items) ss) _ (c .1) in
+    let c = or-zero (unless (eqb (length ss) (length ((tableRow h) .items))) 7) _ (b .1) in
+    let f = or-zero (itemsFault d ((tableRow h) .items) ss) _ (c .1) in
     let m : same h t911 ≡ false = not-true′ (same h t911) (unless-zero (not (same h t911)) 5 (b .0)) in
     record {
-      listed = or-left (leb 1 ((rowOf h) .number)) (same h t911) m (unless-zero (leb 1 ((rowOf h) .number) || same h t911) 4 (a .0));
+      listed = or-left (leb 1 ((tableRow h) .number)) (same h t911) m (unless-zero (leb 1 ((tableRow h) .number) || same h t911) 4 (a .0));
       no-mark = m;
-      count = eqb-true _ _ (unless-zero (eqb (length ss) (length ((rowOf h) .items))) 6 (c .0));
+      count = eqb-true _ _ (unless-zero (eqb (length ss) (length ((tableRow h) .items))) 6 (c .0));
       items = f .0;
       paired = unless-zero (pairs (recordFrom (h ∷ ss))) 11 (f .1);
     }
@@ -64,9 +64,9 @@ sound d h ss e =
 no-fault : (d : Bool) (h : List ℕ) (ss : List (List ℕ)) → Sound d h ss → faultFrom d (h ∷ ss) ≡ 0
 unfolding faultFrom
 no-fault d h ss s =
-    both-zero _ _ (zero-unless (leb 1 ((rowOf h) .number) || same h t911) 5 (or-first _ _ (s .listed)))
+    both-zero _ _ (zero-unless (leb 1 ((tableRow h) .number) || same h t911) 5 (or-first _ _ (s .listed)))
     (both-zero _ _ (zero-unless (not (same h t911)) 6 (ap not (s .no-mark)))
-    (both-zero _ _ (zero-unless (eqb (length ss) (length ((rowOf h) .items))) 7 (eq-eqb _ _ (s .count)))
+    (both-zero _ _ (zero-unless (eqb (length ss) (length ((tableRow h) .items))) 7 (eq-eqb _ _ (s .count)))
     (both-zero _ _ (s .items) (zero-unless (pairs (recordFrom (h ∷ ss))) 12 (s .paired)))))
 
 -- a line that has no fault, and its record
@@ -81,7 +81,7 @@ pub record Good (d : Bool) (l : List ℕ) (r : Record) : Type 0 where
   pub sound : Sound d head rest
 
 pub line-good : (d : Bool) (l : List ℕ) → lineFault d l ≡ 0 → Good d l (recordOf l)
-unfolding lineFault recordOf recordFrom write rowOf
+unfolding lineFault recordOf recordFrom write tableRow
 line-good d l e =
     let z : (unless (allChars l) 4 ≡ 0) × (faultFrom d (itemsOf l) ≡ 0) = or-zero (unless (allChars l) 4) (faultFrom d (itemsOf l)) e in
     let chars : AllChars l = unless-zero (allChars l) 3 (z .0) in
@@ -90,13 +90,13 @@ line-good d l e =
     let ss : List (List ℕ) = p .rest in
     let cp : AllChars h × All AllChars ss = chars-parts h ss (ap allChars (p .joins) ∙ chars) in
     let s : Sound d h ss = sound d h ss (subst (λ (x : List (List ℕ)). faultFrom d x ≡ 0) (p .cut) (z .1)) in
-    let ri : List Item = (rowOf h) .items in
+    let ri : List Item = (tableRow h) .items in
     let w : Written d ri ss = items-written d ri ss (s .count) (s .items) (all-both AllChars NoComma ss (cp .1) (p .others)) in
     let ws : List (List ℕ) = written ri ss in
-    let sp : h ≡ spell ((rowOf h) .number) = row-spelled h table (s .listed) in
+    let sp : h ≡ spell ((tableRow h) .number) = row-spelled h table (s .listed) in
     let is : write (recordFrom (h ∷ ss)) ≡ joined h ws = ap (λ (x : List ℕ). joined x ws) (sym sp) in
     let back : itemsOf (joined h ws) ≡ h ∷ ws = items-joined h ws (p .first) (commas ws (w .fine)) in
-    let rec : recordFrom (h ∷ ws) ≡ recordFrom (h ∷ ss) = ap (λ (vs : List Value). record { number = (rowOf h) .number; values = vs }) (w .same) in
+    let rec : recordFrom (h ∷ ws) ≡ recordFrom (h ∷ ss) = ap (λ (vs : List Value). record { number = (tableRow h) .number; values = vs }) (w .same) in
     let s′ : Sound d h ws = record { listed = s .listed; no-mark = s .no-mark; count = w .count; items = w .again; paired = ap pairs rec ∙ s .paired } in
     let f : lineFault d (joined h ws) ≡ 0 =
     both-zero (unless (allChars (joined h ws)) 4) (faultFrom d (itemsOf (joined h ws))) (zero-unless (allChars (joined h ws)) 4 (chars-joined h ws (cp .0) (chars-all ws (w .fine))))

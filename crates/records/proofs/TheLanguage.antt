@@ -11,14 +11,14 @@ use Rattle.digits.specs.Digits.{spell}
 use Rattle.characters.specs.Scanning.{clean}
 use Rattle.records.specs.Split.{itemsOf}
 use Rattle.records.specs.Table.{table}
-use Rattle.records.specs.Records.{Record, write, lineFault, faultFrom, rowOf, rowIn, t911, firstOf, isMark, header}
+use Rattle.records.specs.Records.{Record, write, lineFault, faultFrom, tableRow, rowIn, t911, firstOf, isMark, header}
 use Rattle.records.specs.Reading.{Read, ok, readLine}
 use Rattle.records.specs.Language.{Language}
 use Rattle.records.proofs.LineLaws.{Good, line-read, read-is, reads}
 
 -- a line 1 is no record
 header-refused : (provider d : Bool) → lineFault provider (header d) ≡ 5
-unfolding lineFault faultFrom rowOf rowIn table spell t911 header bytes
+unfolding lineFault faultFrom tableRow rowIn table spell t911 header bytes
 header-refused provider true = refl
 header-refused provider false = refl
 

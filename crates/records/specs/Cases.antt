@@ -8,7 +8,7 @@ use mathlib.Core.List.{List, [], _∷_, _++_}
 use lib.Dec.{eqb}
 use Rattle.lists.specs.Lists.{bytes, same}
 use Rattle.records.specs.Table.{Kind, N, U, X, A, F, C, P, R, W, Q, among}
-use Rattle.records.specs.Items.{fault, value, writeValue}
+use Rattle.records.specs.Items.{fault, valueOf, writeValue}
 use Rattle.records.specs.Records.{lineFault, header, isMark}
 
 pub data Case : Type 0 where
@@ -112,7 +112,7 @@ holds (line2 s n) = eqb (lineFault false s) n
 holds (line s n) = eqb (lineFault true s) n && eqb (lineFault false s) n
 holds (opens s b) = Bool·beq (same s (header true) || same s (header false)) b
 holds (mark s b) = Bool·beq (isMark s) b
-holds (written k s w) = same (writeValue (value k s)) w
+holds (written k s w) = same (writeValue (valueOf k s)) w
 
 abbrev pub allHold : List Case → Bool
 allHold [] = true

@@ -19,13 +19,13 @@ use Rattle.records.specs.Table.{Kind, N, U, X, A, F, C, P, R, W, Q, D, a
 
 -- "D as days, P as seven digits, R as values, others as bytes"
 pub data Value : Type 0 where
-  text : List ℕ → Value
+  raw : List ℕ → Value
   num : ℕ → Value
   day : ℕ → Value
 
 -- "D in the era form, P without hyphen, R without leading zeros, .. all else kept"
 abbrev pub writeValue : Value → List ℕ
-writeValue (text s) = s
+writeValue (raw s) = s
 writeValue (num n) = spell n
 writeValue (day n) = writeDay n
 
@@ -63,9 +63,9 @@ isCode b = within 0x41 0x5a b || within 0x61 0x7a b || within 0x30 0x39 b || eqb
 -- ---- the kinds of digits
 
 -- spelled as one of the numbers: kind A and braces
-abbrev pub oneOf : List ℕ → List ℕ → Bool
-oneOf [] s = false
-oneOf (n ∷ ns) s = same s (spell n) || oneOf ns s
+abbrev pub spelledAs : List ℕ → List ℕ → Bool
+spelledAs [] s = false
+spelledAs (n ∷ ns) s = same s (spell n) || spelledAs ns s
 
 -- C: "seven digits"
 unfoldable pub seven : List ℕ → Bool
@@ -87,20 +87,20 @@ abbrev pub isPeriod : ℕ → Bool
 isPeriod b = eqb b 0x2e
 
 -- "whole part up to 3 (Q: 6) digits .. No extra leading zero .. 0 is good"
-abbrev pub whole : ℕ → List ℕ → Bool
-whole w a = (leb 1 (length a) && leb (length a) w) && (all isDigit a && (eqb (length a) 1 || not (eqb (getD a 0 0) 0x30)))
+abbrev pub wholePart : ℕ → List ℕ → Bool
+wholePart w a = (leb 1 (length a) && leb (length a) w) && (all isDigit a && (eqb (length a) 1 || not (eqb (getD a 0 0) 0x30)))
 
 -- "optionally a period and up to 3 (Q: 5) digits .. no trailing zero in the fraction, no bare period"
-abbrev pub places : ℕ → List ℕ → Bool
-places f b = (leb 1 (length b) && leb (length b) f) && (all isDigit b && not (eqb (last b) 0x30))
+abbrev pub fractionPart : ℕ → List ℕ → Bool
+fractionPart f b = (leb 1 (length b) && leb (length b) f) && (all isDigit b && not (eqb (last b) 0x30))
 
 abbrev pub fraction : ℕ → List ℕ → Bool
 fraction f [] = true
-fraction f (p ∷ b) = places f b
+fraction f (p ∷ b) = fractionPart f b
 
 -- W and Q: the whole part up to the period, and what follows it
-unfoldable pub decimal : ℕ → ℕ → List ℕ → Bool
-decimal w f s = whole w (upTo isPeriod s) && fraction f (drop (length (upTo isPeriod s)) s)
+unfoldable pub isDecimal : ℕ → ℕ → List ℕ → Bool
+isDecimal w f s = wholePart w (upTo isPeriod s) && fraction f (drop (length (upTo isPeriod s)) s)
 
 -- ---- R and D: what is read, and its fault
 
@@ -110,7 +110,7 @@ numberFault none = 11
 numberFault (some n) = unless (leb 1 n) 11
 
 abbrev pub numberValue : Option ℕ → Value
-numberValue none = text []
+numberValue none = raw []
 numberValue (some n) = num n
 
 abbrev pub dayFault : DateRead → ℕ
@@ -119,7 +119,7 @@ dayFault NotADate = 11
 
 abbrev pub dayValue : DateRead → Value
 dayValue (Date d) = day (d .ymd)
-dayValue NotADate = text []
+dayValue NotADate = raw []
 
 -- ---- an item that is not empty: its fault, and its value where there is none
 
@@ -131,26 +131,26 @@ unfoldable pub fault : Kind → List ℕ → ℕ
 fault (N m) s = sized m s true
 fault (U m) s = sized m s (oneWidth s)
 fault (X m) s = sized m s (all isCode s)
-fault A s = unless (oneOf (1 ∷ 2 ∷ 8 ∷ 9 ∷ []) s) 11
+fault A s = unless (spelledAs (1 ∷ 2 ∷ 8 ∷ 9 ∷ []) s) 11
 fault F s = unless (prefecture s) 11
 fault C s = unless (seven s) 11
 fault P s = unless (postal s) 11
 fault R s = numberFault (number s)
-fault W s = unless (decimal 3 3 s) 11
-fault Q s = unless (decimal 6 5 s) 11
+fault W s = unless (isDecimal 3 3 s) 11
+fault Q s = unless (isDecimal 6 5 s) 11
 fault D s = dayFault (readDay s)
-fault (among ns) s = unless (oneOf ns s) 11
+fault (among ns) s = unless (spelledAs ns s) 11
 
-unfoldable pub value : Kind → List ℕ → Value
-value (N m) s = text s
-value (U m) s = text s
-value (X m) s = text s
-value A s = text s
-value F s = text s
-value C s = text s
-value P s = text (cond (seven s) s (unhyphened s))
-value R s = numberValue (number s)
-value W s = text s
-value Q s = text s
-value D s = dayValue (readDay s)
-value (among ns) s = text s
+unfoldable pub valueOf : Kind → List ℕ → Value
+valueOf (N m) s = raw s
+valueOf (U m) s = raw s
+valueOf (X m) s = raw s
+valueOf A s = raw s
+valueOf F s = raw s
+valueOf C s = raw s
+valueOf P s = raw (cond (seven s) s (unhyphened s))
+valueOf R s = numberValue (number s)
+valueOf W s = raw s
+valueOf Q s = raw s
+valueOf D s = dayValue (readDay s)
+valueOf (among ns) s = raw s

@@ -58,9 +58,9 @@ abbrev pub isEnd : List Row → Bool
 isEnd [] = true
 isEnd (r ∷ rs) = false
 
-abbrev pub agree : List Printed → List Row → Bool
-agree [] rs = isEnd rs
-agree ((ns ∶ t) ∷ ps) rs = taken ns (bytes t) rs (agree ps)
+abbrev pub sameTable : List Printed → List Row → Bool
+sameTable [] rs = isEnd rs
+sameTable ((ns ∶ t) ∷ ps) rs = taken ns (bytes t) rs (sameTable ps)
 
 -- document 01, "Records"
 abbrev pub paper : List Printed
@@ -85,6 +85,6 @@ paper =
     []
 
 -- THE TABLE IS THE PAPER'S
-pub table-is-the-papers : T (agree paper table)
+pub table-is-the-papers : T (sameTable paper table)
 unfolding table bytes spell
 table-is-the-papers = tt

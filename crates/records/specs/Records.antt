@@ -12,7 +12,7 @@ use Rattle.digits.specs.Digits.{spell}
 use Rattle.characters.specs.Text.{allChars}
 use Rattle.records.specs.Split.{itemsOf, joined}
 use Rattle.records.specs.Table.{Item, Row, row, table, required}
-use Rattle.records.specs.Items.{Value, text, num, day, writeValue, oneOf, fault, value}
+use Rattle.records.specs.Items.{Value, raw, num, day, writeValue, spelledAs, fault, valueOf}
 
 pub record Record : Type 0 where
   pub number : ℕ
@@ -25,7 +25,7 @@ unfoldable pub itemFault : Bool → Item → List ℕ → ℕ
 itemFault provider i s = cond (empty s) (unless (not (required provider (i .need))) 8) (fault (i .kind) s)
 
 unfoldable pub itemValue : Item → List ℕ → Value
-itemValue i s = cond (empty s) (text []) (value (i .kind) s)
+itemValue i s = cond (empty s) (raw []) (valueOf (i .kind) s)
 
 -- ---- the items of a row: "8–11 item by item from the left"
 
@@ -49,38 +49,38 @@ unfoldable pub rowIn : List Row → List ℕ → Row
 rowIn [] h = noRow
 rowIn (r ∷ rs) h = cond (same h (spell (r .number))) r (rowIn rs h)
 
-unfoldable pub rowOf : List ℕ → Row
-rowOf h = rowIn table h
+unfoldable pub tableRow : List ℕ → Row
+tableRow h = rowIn table h
 
 -- ---- the pairs that are about one record's values alone
 
 -- an item by its place, from 1
 abbrev pub nth : List Value → ℕ → Value
-nth vs i = getD vs (i - 1) (text [])
+nth vs i = getD vs (i - 1) (raw [])
 
 abbrev pub item : Record → ℕ → Value
 item r i = nth (r .values) i
 
 abbrev pub isEmpty : Value → Bool
-isEmpty (text s) = empty s
+isEmpty (raw s) = empty s
 isEmpty (num n) = false
 isEmpty (day n) = false
 
 -- it is these bytes
 abbrev pub isText : Value → List ℕ → Bool
-isText (text s) t = same s t
+isText (raw s) t = same s t
 isText (num n) t = false
 isText (day n) t = false
 
 -- its value is this number
 abbrev pub isNum : Value → ℕ → Bool
-isNum (text s) n = false
+isNum (raw s) n = false
 isNum (num m) n = eqb m n
 isNum (day m) n = false
 
 -- its bytes spell one of the numbers
 abbrev pub isSpelled : Value → List ℕ → Bool
-isSpelled (text s) ns = oneOf ns s
+isSpelled (raw s) ns = spelledAs ns s
 isSpelled (num n) ns = false
 isSpelled (day n) ns = false
 
@@ -133,16 +133,16 @@ isMark l = same (firstOf (itemsOf l)) t911
 -- the record of a first item and the others
 unfoldable pub recordFrom : List (List ℕ) → Record
 recordFrom [] = record { number = 0; values = [] }
-recordFrom (h ∷ ss) = record { number = (rowOf h) .number; values = itemsValue ((rowOf h) .items) ss }
+recordFrom (h ∷ ss) = record { number = (tableRow h) .number; values = itemsValue ((tableRow h) .items) ss }
 
 -- 5 ("911 is known"), 6, 7, then 8 to 11, then 12
 unfoldable pub faultFrom : Bool → List (List ℕ) → ℕ
 faultFrom provider [] = 5
 faultFrom provider (h ∷ ss) =
-    unless (leb 1 ((rowOf h) .number) || same h t911) 5 orElse
+    unless (leb 1 ((tableRow h) .number) || same h t911) 5 orElse
     unless (not (same h t911)) 6 orElse
-    unless (eqb (length ss) (length ((rowOf h) .items))) 7 orElse
-    itemsFault provider ((rowOf h) .items) ss orElse
+    unless (eqb (length ss) (length ((tableRow h) .items))) 7 orElse
+    itemsFault provider ((tableRow h) .items) ss orElse
     unless (pairs (recordFrom (h ∷ ss))) 12
 
 -- 4 first

@@ -11,11 +11,11 @@ use Rattle.calendar.specs.Day.{gregorian}
 use Rattle.calendar.specs.Era.{inEra, fromEra, readDay}
 use Rattle.records.specs.Split.{joined}
 use Rattle.records.specs.Table.{table}
-use Rattle.records.specs.Items.{edge, oneWidth, decimal, sized, fault, value as valueOf, seven, postal, prefecture}
-use Rattle.records.specs.Records.{itemFault, itemValue, itemsFault, itemsValue, rowIn, rowOf, pairs, codePair, t911, isMark, recordFrom, faultFrom, lineFault, recordOf, header, write}
+use Rattle.records.specs.Items.{edge, oneWidth, isDecimal, sized, fault, valueOf as valueOf, seven, postal, prefecture}
+use Rattle.records.specs.Records.{itemFault, itemValue, itemsFault, itemsValue, rowIn, tableRow, pairs, codePair, t911, isMark, recordFrom, faultFrom, lineFault, recordOf, header, write}
 use Rattle.rules.specs.Places.{inGroup, mayFollow}
-use Rattle.rules.specs.Rules.{pairBroken, misplaced, continues, closesRp, lacking, missing, valueWrong, newerGroup, refusal, unfinished}
-use Rattle.order.specs.State.{none, start, hadAfter, advance, refusalOf, stepOf, finishOf}
+use Rattle.rules.specs.Rules.{pairBroken, misplaced, continues, closesRp, lacking, missing, valueWrong, newerGroup, orderRefusal, unfinished}
+use Rattle.order.specs.State.{nothingYet, start, hadAfter, advance, refusalOf, stepOf, finishOf}
 use Rattle.notebook.specs.Facts.{factsOf}
 use Rattle.notebook.specs.Notebook.{stepLine, closed, onward, recordsFrom, readRows, readFile}
 use Rattle.buffers.specs.Entries.{six}
@@ -28,7 +28,7 @@ use Rattle.packing.specs.Packing.{total, put, pack}
 use Rattle.packing.specs.Widths.{over, serves, tries, plan}
 use Rattle.division.specs.Marks.{validID, markLine, readMark}
 use Rattle.division.specs.Pieces.{kindOf, brokenFrom, brokenLine, bodyOf, piecesIn, splitRows, split, fileOf}
-use Rattle.division.specs.Join.{unmarked, partOf, partsOf, agree, find, gather, joinPieces, joinedFile, joinFile, joinResult}
+use Rattle.division.specs.Join.{unmarked, partOf, allParts, agree, findPart, gather, joinPieces, joinedFile, joinFile, joinResult}
 use Rattle.division.specs.Cut.{pieceBytes, numbered, cutting, cutList, cutResult}
 use Rattle.refusals.specs.Refusals.{lineEnds}
 use Rattle.refusals.specs.Examples.{checks, indexes, canonicals, cuts, joins, allHold, allReached}
@@ -37,5 +37,5 @@ pub examples-reach : allReached ≡ true
 examples-reach = refl
 
 pub examples-hold : allHold (checks ++ (indexes ++ (canonicals ++ (cuts ++ joins)))) ≡ true
-unfolding answerIn six entryOf entered entriesFrom entriesBehind entriesOf numbers numbersOf bytes value number spell isLine leap monthLength isReal isDay gregorian eraOf eraOn inEra fromEra readDay writeDay joined table edge oneWidth decimal sized fault valueOf seven postal prefecture itemFault itemValue itemsFault itemsValue rowIn rowOf pairs codePair t911 isMark recordFrom faultFrom lineFault recordOf header write inGroup mayFollow pairBroken misplaced continues closesRp lacking missing valueWrong newerGroup refusal unfinished none start hadAfter advance refusalOf stepOf finishOf factsOf stepLine closed onward recordsFrom readRows readFile checkResult indexResult recordRows arrange writeFile canonicalBytes canonicalFile canonicalResult total put pack digitCount over serves tries plan validID markLine readMark kindOf brokenFrom brokenLine bodyOf piecesIn splitRows split fileOf unmarked partOf partsOf agree find gather joinPieces joinedFile joinFile joinResult pieceBytes numbered cutting cutList cutResult lineEnds
+unfolding answerIn six entryOf entered entriesFrom entriesBehind entriesOf numbers numbersOf bytes value number spell isLine leap monthLength isReal isDay gregorian eraOf eraOn inEra fromEra readDay writeDay joined table edge oneWidth isDecimal sized fault valueOf seven postal prefecture itemFault itemValue itemsFault itemsValue rowIn tableRow pairs codePair t911 isMark recordFrom faultFrom lineFault recordOf header write inGroup mayFollow pairBroken misplaced continues closesRp lacking missing valueWrong newerGroup orderRefusal unfinished nothingYet start hadAfter advance refusalOf stepOf finishOf factsOf stepLine closed onward recordsFrom readRows readFile checkResult indexResult recordRows arrange writeFile canonicalBytes canonicalFile canonicalResult total put pack digitCount over serves tries plan validID markLine readMark kindOf brokenFrom brokenLine bodyOf piecesIn splitRows split fileOf unmarked partOf allParts agree findPart gather joinPieces joinedFile joinFile joinResult pieceBytes numbered cutting cutList cutResult lineEnds
 examples-hold = refl

@@ -20,8 +20,8 @@ use Rattle.notebook.specs.Notebook.{Notebook, recordsFrom, notebookOf, readRows
 use Rattle.notebook.specs.Canonical.{headRow}
 use Rattle.notebook.proofs.Accepted.{IsLine, head-line, row-cut, rows-flat}
 use Rattle.division.specs.Marks.{Mark, readMark}
-use Rattle.division.specs.Pieces.{Kind, head, endHead, body, end, broken, kindOf, judged, brokenFrom, brokenLine, Piece, startsWell, splitRows, split, fileOf}
-use Rattle.division.specs.Join.{unmarked, Part, before, lastMark, partOf, with, partsOf, find, behind, gather, joinParts, joinPieces}
+use Rattle.division.specs.Pieces.{RowKind, head, endHead, body, end, broken, kindOf, judged, brokenFrom, brokenLine, Piece, startsWell, splitRows, split, fileOf}
+use Rattle.division.specs.Join.{unmarked, Part, before, lastMark, partOf, with, allParts, findPart, behind, gather, joinParts, joinPieces}
 use Rattle.division.specs.Join.{orSet, joinSplit, joinedFile, checkedFile, thenChecked, joinFile}
 use Rattle.division.proofs.Chunks.{Chunk, mark, chunkBytes, pieceOf, Body, Good, body-line, Chunked, split-is}
 use Rattle.division.proofs.Orders.{all-append, all-map}
@@ -53,7 +53,7 @@ mark-last (a ∷ b ∷ s) = go (eqb a 0x0a) refl (first-row b s) (mark-last (b �
         (λ e. absurd (nil≢cons (sym (tail-eq-of-cons-eq e))), subst MarkLast (f .cut) i .1)
 
 -- what stands before t in a row of a kind
-abbrev Ends : List ℕ → Kind → Type 0
+abbrev Ends : List ℕ → RowKind → Type 0
 Ends r (head d) = (t : List ℕ) → lineEnds (r ++ t) ≡ suc (lineEnds t)
 Ends r (endHead d) = (t : List ℕ) → lineEnds (r ++ t) ≡ suc (lineEnds t)
 Ends r body = (t : List ℕ) → lineEnds (r ++ t) ≡ suc (lineEnds t)
@@ -88,7 +88,7 @@ broken-from (r ∷ rs) begun n (m, ms) = go (kindOf r) (kind-ends r) begun (λ b
     over : r ≡ endMark → brokenFrom true (n + 1) rs ≤ n + lineEnds (r ++ flat rs)
     over e = rw (m e) (omega arith)
 
-    go : (k : Kind) → Ends r k → (b : Bool) → ((b : Bool) → brokenFrom b (n + 1) rs ≤ n + 1 + lineEnds (flat rs))
+    go : (k : RowKind) → Ends r k → (b : Bool) → ((b : Bool) → brokenFrom b (n + 1) rs ≤ n + 1 + lineEnds (flat rs))
         → judged b n (λ x. brokenFrom x (n + 1) rs) k ≤ n + lineEnds (r ++ flat rs)
     go (head d) e b ih = after true e ih
     go (endHead d) e true ih = after true e ih
@@ -185,11 +185,11 @@ rowsFrom : ℕ → List Part → ℕ
 rowsFrom k [] = 0
 rowsFrom k (p ∷ ps) = cond (leb k (p .mark .place)) (length (p .rows)) 0 + rowsFrom k ps
 
-parts-kept : (xs : List Piece) (ps : List Part) (k : ℕ) → partsOf xs ≡ some ps → All (λ x. All Body (x .rows)) xs
+parts-kept : (xs : List Piece) (ps : List Part) (k : ℕ) → allParts xs ≡ some ps → All (λ x. All Body (x .rows)) xs
     → All KeptPart ps × (length ps + rowsFrom k ps ≤ linesOf xs)
-unfolding partsOf linesOf rowsFrom
+unfolding allParts linesOf rowsFrom
 parts-kept [] ps k e h = subst (λ (z : List Part). All KeptPart z × (length z + rowsFrom k z ≤ 0)) (some-inj e) (tt, omega arith)
-parts-kept (x ∷ xs) ps k e (h, t) = go (partOf (x .provider) (x .rows)) refl (partsOf xs) (λ us f. parts-kept xs us k f t) e
+parts-kept (x ∷ xs) ps k e (h, t) = go (partOf (x .provider) (x .rows)) refl (allParts xs) (λ us f. parts-kept xs us k f t) e
   where
     some-of : (c : Bool) (n : ℕ) → cond c n 0 ≤ n
     some-of true n = omega arith
@@ -216,13 +216,13 @@ fewer k (p ∷ ps) = omega (arith, go (leb (suc k) (p .mark .place)) refl, fewer
     go true e = rw (le-leb k (p .mark .place) (omega (arith, leb-true (suc k) (p .mark .place) e))) (omega arith)
     go false e = omega arith
 
-find-rows : (k : ℕ) (ps : List Part) (p : Part) → find k ps ≡ some p → All KeptPart ps → KeptPart p × (length (p .rows) + rowsFrom (suc k) ps ≤ rowsFrom k ps)
-unfolding find rowsFrom
+find-rows : (k : ℕ) (ps : List Part) (p : Part) → findPart k ps ≡ some p → All KeptPart ps → KeptPart p × (length (p .rows) + rowsFrom (suc k) ps ≤ rowsFrom k ps)
+unfolding findPart rowsFrom
 find-rows k [] p e h = absurd (no-none e)
 find-rows k (q ∷ qs) p e (h, t) = go (eqb (q .mark .place) k) refl (λ f. find-rows k qs p f t) e
   where
-    go : (b : Bool) → eqb (q .mark .place) k ≡ b → (find k qs ≡ some p → KeptPart p × (length (p .rows) + rowsFrom (suc k) qs ≤ rowsFrom k qs))
-        → cond b (some q) (find k qs) ≡ some p → KeptPart p × (length (p .rows) + rowsFrom (suc k) (q ∷ qs) ≤ rowsFrom k (q ∷ qs))
+    go : (b : Bool) → eqb (q .mark .place) k ≡ b → (findPart k qs ≡ some p → KeptPart p × (length (p .rows) + rowsFrom (suc k) qs ≤ rowsFrom k qs))
+        → cond b (some q) (findPart k qs) ≡ some p → KeptPart p × (length (p .rows) + rowsFrom (suc k) (q ∷ qs) ≤ rowsFrom k (q ∷ qs))
     go true r ih f =
         let z : q .mark .place ≡ k = eqb-true _ _ r in
         subst (λ (x : Part). KeptPart x × (length (x .rows) + rowsFrom (suc k) (q ∷ qs) ≤ rowsFrom k (q ∷ qs))) (some-inj f)
@@ -232,9 +232,9 @@ find-rows k (q ∷ qs) p e (h, t) = go (eqb (q .mark .place) k) refl (λ f. find
 gather-rows : (ps : List Part) → All KeptPart ps → (n k : ℕ) (ls : List (List ℕ)) → gather ps n k ≡ some ls → All Kept ls × (length ls ≤ rowsFrom k ps)
 unfolding gather
 gather-rows ps h zero k ls e = subst (λ (z : List (List ℕ)). All Kept z × (length z ≤ rowsFrom k ps)) (some-inj e) (tt, omega arith)
-gather-rows ps h (suc n) k ls e = go (find k ps) refl (gather ps n (suc k)) (gather-rows ps h n (suc k)) e
+gather-rows ps h (suc n) k ls e = go (findPart k ps) refl (gather ps n (suc k)) (gather-rows ps h n (suc k)) e
   where
-    go : (m : Option Part) → find k ps ≡ m → (g : Option (List (List ℕ)))
+    go : (m : Option Part) → findPart k ps ≡ m → (g : Option (List (List ℕ)))
         → ((us : List (List ℕ)) → g ≡ some us → All Kept us × (length us ≤ rowsFrom (suc k) ps)) → behind m g ≡ some ls
         → All Kept ls × (length ls ≤ rowsFrom k ps)
     go none q g ih f = absurd (no-none f)
@@ -252,10 +252,10 @@ record Set (xs : List Piece) (w : Piece) : Type 0 where
 abbrev Bodies : Piece → Type 0
 Bodies x = All Body (x .rows)
 
-parts-set : (xs : List Piece) (w : Piece) → All Bodies xs → joinParts (partsOf xs) ≡ some w → Set xs w
-parts-set xs w h e = go (partsOf xs) refl e
+parts-set : (xs : List Piece) (w : Piece) → All Bodies xs → joinParts (allParts xs) ≡ some w → Set xs w
+parts-set xs w h e = go (allParts xs) refl e
   where
-    go : (m : Option (List Part)) → partsOf xs ≡ m → joinParts m ≡ some w → Set xs w
+    go : (m : Option (List Part)) → allParts xs ≡ m → joinParts m ≡ some w → Set xs w
     go none q e = absurd (no-none e)
     go (some ps) q e =
         let j : Joined ps w = parts-joined ps w e in
@@ -268,7 +268,7 @@ unfolding joinPieces linesOf
 joined-set [] w h e = absurd (no-none e)
 joined-set (x ∷ []) w h e = go (unmarked (x .rows)) refl e
   where
-    go : (b : Bool) → unmarked (x .rows) ≡ b → cond b (some x) (joinParts (partsOf (x ∷ []))) ≡ some w → Set (x ∷ []) w
+    go : (b : Bool) → unmarked (x .rows) ≡ b → cond b (some x) (joinParts (allParts (x ∷ []))) ≡ some w → Set (x ∷ []) w
     go true q f = subst (Set (x ∷ [])) (some-inj f) (record { kept = unmarked-kept (x .rows) (h .0) q; few = omega arith })
     go false q f = parts-set (x ∷ []) w h f
 joined-set (x ∷ y ∷ xs) w h e = parts-set (x ∷ y ∷ xs) w h e

@@ -9,15 +9,15 @@ use lib.ListN.{length}
 use Rattle.lists.specs.Lists.{same, unless}
 use Rattle.characters.specs.Text.{allChars}
 use Rattle.records.specs.Split.{itemsOf}
-use Rattle.records.specs.Records.{recordOf, recordFrom, itemsFault, rowOf, pairs, t911, firstOf, isMark}
+use Rattle.records.specs.Records.{recordOf, recordFrom, itemsFault, tableRow, pairs, t911, firstOf, isMark}
 use Rattle.order.specs.declared.State.{State}
 use Rattle.order.specs.declared.Facts.{Facts}
-use Rattle.order.specs.declared.Moved.the-variants.{Refused}
+use Rattle.order.specs.declared.Moved.the-variants.{Fault}
 use Rattle.order.specs.Questions.{beforeOf, askedOf}
 use Rattle.rules.specs.Rules.{pairBroken, misplaced, missing, valueWrong, newerGroup}
 use Rattle.notebook.specs.Facts.{factsOf}
 use Rattle.notebook.specs.Notebook.{stepLine}
-use Rattle.faults.specs.Faults.{when, itemFaults, orderFaults, faultsOf, Given, here, there, Lowest}
+use Rattle.faults.specs.Faults.{onlyIf, itemFaults, orderFaults, faultsOf, FirstGiven, here, there, Lowest}
 use Rattle.faults.proofs.FaultLaws.{OfItem, items-item, lowest-number}
 
 -- 0, or a number that a line can have; marked: the line is a record 911
@@ -28,7 +28,7 @@ data Numbers (marked : Bool) : List ℕ → Type 0 where
   end : Numbers marked []
   more : {n : ℕ} {ns : List ℕ} → OfLine marked n → Numbers marked ns → Numbers marked (n ∷ ns)
 
-among : {marked : Bool} {n : ℕ} {ns : List ℕ} → Given n ns → Numbers marked ns → OfLine marked n
+among : {marked : Bool} {n : ℕ} {ns : List ℕ} → FirstGiven n ns → Numbers marked ns → OfLine marked n
 among here (more h t) = h
 among (there g) (more h t) = among g t
 
@@ -37,7 +37,7 @@ unless-number : {marked : Bool} {ns : List ℕ} (b : Bool) (n : ℕ) → 4 ≤ n
 unless-number true n lo hi other r = more {n = 0} (λ (z : 0 < 0). absurd (omega arith)) r
 unless-number false n lo hi other r = more {n = n} (λ z. (lo, hi, λ e. absurd (other e))) r
 
-when-number : {marked : Bool} {ns : List ℕ} (b : Bool) (n : ℕ) → 4 ≤ n → n ≤ 16 → (n ≡ 6 → ⊥) → Numbers marked ns → Numbers marked (when b n ∷ ns)
+when-number : {marked : Bool} {ns : List ℕ} (b : Bool) (n : ℕ) → 4 ≤ n → n ≤ 16 → (n ≡ 6 → ⊥) → Numbers marked ns → Numbers marked (onlyIf b n ∷ ns)
 when-number true n lo hi other r = more {n = n} (λ z. (lo, hi, λ e. absurd (other e))) r
 when-number false n lo hi other r = more {n = 0} (λ (z : 0 < 0). absurd (omega arith)) r
 
@@ -62,10 +62,10 @@ item-numbers : (provider : Bool) (hs : List (List ℕ)) (ns : List ℕ) → Numb
     → Numbers (same (firstOf hs) t911) (itemFaults provider hs ++ ns)
 item-numbers provider [] ns r = unless-number false 5 (omega arith) (omega arith) (λ e. omega arith) r
 item-numbers provider (h ∷ ss) ns r =
-    unless-number (leb 1 ((rowOf h) .number) || same h t911) 5 (omega arith) (omega arith) (λ e. omega arith)
+    unless-number (leb 1 ((tableRow h) .number) || same h t911) 5 (omega arith) (omega arith) (λ e. omega arith)
     (more (six (same h t911))
-    (unless-number (eqb (length ss) (length ((rowOf h) .items))) 7 (omega arith) (omega arith) (λ e. omega arith)
-    (more (of-item (same h t911) (itemsFault provider ((rowOf h) .items) ss) (items-item provider ((rowOf h) .items) ss))
+    (unless-number (eqb (length ss) (length ((tableRow h) .items))) 7 (omega arith) (omega arith) (λ e. omega arith)
+    (more (of-item (same h t911) (itemsFault provider ((tableRow h) .items) ss) (items-item provider ((tableRow h) .items) ss))
     (unless-number (pairs (recordFrom (h ∷ ss))) 12 (omega arith) (omega arith) (λ e. omega arith) r))))
 
 line-numbers : (st : State) (l : List ℕ) → Numbers (isMark l) (faultsOf st l)
@@ -80,7 +80,7 @@ pub record LineRefused (marked : Bool) (n : ℕ) : Type 0 where
   pub high : n ≤ 16
   pub six : n ≡ 6 → marked ≡ true
 
-pub step-number : (st : State) (l : List ℕ) (n : ℕ) → stepLine st l ≡ Refused n → LineRefused (isMark l) n
+pub step-number : (st : State) (l : List ℕ) (n : ℕ) → stepLine st l ≡ Fault n → LineRefused (isMark l) n
 step-number st l n e =
     let g : Lowest n (faultsOf st l) = lowest-number st l n .0 e in
     let z = among (g .given) (line-numbers st l) (g .some) in

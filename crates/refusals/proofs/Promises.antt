@@ -23,8 +23,8 @@ use Rattle.notebook.specs.Canonical.{canonicalFile, canonicalResult}
 use Rattle.division.specs.Marks.{validID}
 use Rattle.division.specs.Cut.{cutting, listed, found, cutList, cutResult}
 use Rattle.division.specs.Join.{joinedFile, joinFile, joinResult}
-use Rattle.refusals.specs.Refusals.{Call, check, index, canonical, cut, join, resultOf, lent, limit, checkNumbers, writingNumbers, cutNumbers, joinNumbers, numbersOf}
-use Rattle.refusals.specs.Refusals.{given, Given, Answer, gives, refuses, IsResult, Always-answered, Refusal-keeps, Zero-is-a-result, Large-first}
+use Rattle.refusals.specs.Refusals.{Call, check, index, canonical, cut, join, resultOf, lent, limit, checkNumbers, writingNumbers, cutNumbers, joinNumbers, numbersGiven}
+use Rattle.refusals.specs.Refusals.{given, Given, IsAnswer, gives, refuses, IsResult, Always-answered, Refusal-keeps, Zero-is-a-result, Large-first}
 use Rattle.refusals.proofs.Reading.{Refuses, without-line, file-refuses}
 use Rattle.refusals.proofs.Joining.{join-refuses}
 
@@ -40,22 +40,22 @@ then-refuses P f (ok a) h k = k a
 then-refuses P f (refused n line) h k = h
 
 -- then 20, and the reply
-answers : {ns s : List ℕ} (x : Res Result) (d : List ℕ) → member ns 20 ≡ true → Refuses (Given ns s) x → Answer ns s (replyTo x d)
+answers : {ns s : List ℕ} (x : Res Result) (d : List ℕ) → member ns 20 ≡ true → Refuses (Given ns s) x → IsAnswer ns s (replyTo x d)
 unfolding answerIn
 answers {ns} {s} (refused n line) d m h = refuses h
 answers {ns} {s} (ok r) d m h = fits (leb (length (r .written)) (length d))
   where
-    fits : (b : Bool) → Answer ns s (replyOf (answerOf (cond b (ok r) (refused 20 0))))
+    fits : (b : Bool) → IsAnswer ns s (replyOf (answerOf (cond b (ok r) (refused 20 0))))
     fits true = gives
     fits false = refuses (without-line 20 (omega arith) m refl)
 
 -- ---- the calls: check writes nothing, so that it never gives 20
 
-check-answers : (s : List ℕ) → Answer checkNumbers s (replyTo (checkResult s) [])
+check-answers : (s : List ℕ) → IsAnswer checkNumbers s (replyTo (checkResult s) [])
 unfolding answerIn checkResult below
 check-answers s = go (readFile s) (file-refuses checkNumbers refl s)
   where
-    go : (x : Res Notebook) → Refuses (Given checkNumbers s) x → Answer checkNumbers s (replyOf (answerOf (fitting (mapRes counted x) [])))
+    go : (x : Res Notebook) → Refuses (Given checkNumbers s) x → IsAnswer checkNumbers s (replyOf (answerOf (fitting (mapRes counted x) [])))
     go (ok b) h = gives
     go (refused n line) h = refuses h
 
@@ -84,7 +84,7 @@ always-answered (join s out) = answers (joinResult s) out refl (mapped _ _ (join
 pub zero-is-a-result : Zero-is-a-result
 zero-is-a-result x e = go (always-answered x) e
   where
-    go : {r : Reply} → Answer (numbersOf x) (given x) r → r .refusal ≡ 0 → IsResult r
+    go : {r : Reply} → IsAnswer (numbersGiven x) (given x) r → r .refusal ≡ 0 → IsResult r
     go (gives {a = a} {b = b} {c = c}) e = record { a = a; b = b; c = c; is = refl }
     go (refuses h) e = absurd (omega (arith, h .some))
 

@@ -16,7 +16,7 @@ use Rattle.characters.proofs.RowLaws.{flat-rows}
 use Rattle.records.specs.Records.{Record, recordOf, header, isMark}
 use Rattle.order.specs.declared.State.{State}
 use Rattle.order.specs.declared.Moved.{Moved}
-use Rattle.order.specs.declared.Moved.the-variants.{Refused, On}
+use Rattle.order.specs.declared.Moved.the-variants.{Fault, On}
 use Rattle.rules.specs.Rules.{unfinished}
 use Rattle.order.specs.Questions.{beforeOf}
 use Rattle.order.specs.State.{start, finishOf}
@@ -97,7 +97,7 @@ records-refuse (r ∷ rs) st ends h =
     step : isLine r ≡ true → (m : Moved) → stepLine st (text r) ≡ m
         → ((t : State) → t .line + lineEnds (flat rs) ≤ ends → Refuses (RowsRefused ends (unmarked rs)) (recordsFrom t rs))
         → P (onward (st .line + 1) (recordOf (text r)) (λ t. recordsFrom t rs) m)
-    step l (Refused n) q ih =
+    step l (Fault n) q ih =
         let x : LineRefused (isMark (text r)) n = step-number st (text r) n q in
         record {
           low = omega (arith, x .low);

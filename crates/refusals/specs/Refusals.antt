@@ -44,11 +44,11 @@ lent (cut f c id out) = out
 lent (join s out) = out
 
 -- the reply, and the lent buffer at exit, as the contract promises them
-abbrev pub replyOf : Call → Reply
-replyOf x = replyTo (resultOf x) (lent x)
+abbrev pub replied : Call → Reply
+replied x = replyTo (resultOf x) (lent x)
 
-abbrev pub left : Call → List ℕ
-left x = outputOf (resultOf x) (lent x)
+abbrev pub leftIn : Call → List ℕ
+leftIn x = outputOf (resultOf x) (lent x)
 
 -- the bytes whose lines are counted: the file, or the pieces as given
 abbrev pub given : Call → List ℕ
@@ -77,12 +77,12 @@ cutNumbers = checkNumbers ++ 17 ∷ 18 ∷ 20 ∷ []
 abbrev pub joinNumbers : List ℕ
 joinNumbers = 1 ∷ 2 ∷ 4 ∷ 5 ∷ 7 ∷ 8 ∷ 9 ∷ 10 ∷ 11 ∷ 12 ∷ 13 ∷ 14 ∷ 15 ∷ 16 ∷ 19 ∷ 20 ∷ []
 
-abbrev pub numbersOf : Call → List ℕ
-numbersOf (check f) = checkNumbers
-numbersOf (index f out) = writingNumbers
-numbersOf (canonical f out) = writingNumbers
-numbersOf (cut f c id out) = cutNumbers
-numbersOf (join s out) = joinNumbers
+abbrev pub numbersGiven : Call → List ℕ
+numbersGiven (check f) = checkNumbers
+numbersGiven (index f out) = writingNumbers
+numbersGiven (canonical f out) = writingNumbers
+numbersGiven (cut f c id out) = cutNumbers
+numbersGiven (join s out) = joinNumbers
 
 -- ---- the lines
 
@@ -111,18 +111,18 @@ pub record Given (numbers s : List ℕ) (n line : ℕ) : Type 0 where
   pub at : member lineless n ≡ false → AtLine s line
 
 -- a result has refusal 0 and line 0, a refusal has 0 for each value (replies, specs/Replies.antt)
-pub data Answer (numbers s : List ℕ) : Reply → Type 0 where
-  gives : {a b c : ℕ} → Answer numbers s (result a b c)
-  refuses : {n line : ℕ} → Given numbers s n line → Answer numbers s (refusal n line)
+pub data IsAnswer (numbers s : List ℕ) : Reply → Type 0 where
+  gives : {a b c : ℕ} → IsAnswer numbers s (result a b c)
+  refuses : {n line : ℕ} → Given numbers s n line → IsAnswer numbers s (refusal n line)
 
 -- "The answer to every input, of any length and content, is a result or one refusal from document 01 with its line. It always comes": the functions of
 -- `gateway` are proved to end, for any input, with this reply
 abbrev pub Always-answered : Type 0
-Always-answered = (x : Call) → Answer (numbersOf x) (given x) (replyOf x)
+Always-answered = (x : Call) → IsAnswer (numbersGiven x) (given x) (replied x)
 
 -- "a refusal leaves all lent memory as lent"
 abbrev pub Refusal-keeps : Type 0
-Refusal-keeps = (x : Call) → (replyOf x .refusal ≡ 0 → ⊥) → left x ≡ lent x
+Refusal-keeps = (x : Call) → (replied x .refusal ≡ 0 → ⊥) → leftIn x ≡ lent x
 
 -- no refusal has the number 0: a reply with refusal 0 is a result
 pub record IsResult (r : Reply) : Type 0 where
@@ -132,7 +132,7 @@ pub record IsResult (r : Reply) : Type 0 where
   pub is : r ≡ result a b c
 
 abbrev pub Zero-is-a-result : Type 0
-Zero-is-a-result = (x : Call) → replyOf x .refusal ≡ 0 → IsResult (replyOf x)
+Zero-is-a-result = (x : Call) → replied x .refusal ≡ 0 → IsResult (replied x)
 
 -- ---- "Number 1 comes first, with line 0"
 
@@ -145,4 +145,4 @@ limit (cut f c id out) = 65536
 limit (join s out) = 131072
 
 abbrev pub Large-first : Type 0
-Large-first = (x : Call) → limit x < length (given x) → replyOf x ≡ refusal 1 0
+Large-first = (x : Call) → limit x < length (given x) → replied x ≡ refusal 1 0

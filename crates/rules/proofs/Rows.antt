@@ -5,9 +5,9 @@ use mathlib.Core.Path.{_≡_, refl}
 use mathlib.Core.Bool.{Bool, false}
 use mathlib.Core.List.{List, [], _∷_}
 use borrow.Author.Tests.{ne-eqb}
-use Rattle.rules.specs.Places.{rowOf, rows, mayFollow}
+use Rattle.rules.specs.Places.{lookUp, pattern, mayFollow}
 
-pub row : (p n : ℕ) → mayFollow p n ≡ rowOf n (rows p)
+pub row : (p n : ℕ) → mayFollow p n ≡ lookUp n (pattern p)
 unfolding mayFollow
 row p n = refl
 
@@ -16,7 +16,7 @@ abbrev pub Other : Type 0 → ℕ → List (ℕ × Bool) → Type 0
 Other A n [] = A
 Other A n (x ∷ xs) = Other (A × (n ≡ x .0 → ⊥)) n xs
 
-pub no-row : (A : Type 0) (n : ℕ) (xs : List (ℕ × Bool)) → Other A n xs → A × (rowOf n xs ≡ false)
+pub no-row : (A : Type 0) (n : ℕ) (xs : List (ℕ × Bool)) → Other A n xs → A × (lookUp n xs ≡ false)
 no-row A n [] o = (o, refl)
 no-row A n (x ∷ xs) o =
     let q = no-row (A × (n ≡ x .0 → ⊥)) n xs o in

@@ -7,7 +7,7 @@ use mathlib.Core.List.{List, [], _∷_}
 use lib.Dec.{eqb}
 use Rattle.lists.specs.Lists.{member}
 use Rattle.rules.specs.Questions.{Before, Asked}
-use Rattle.rules.specs.Rules.{refusal, unfinished}
+use Rattle.rules.specs.Rules.{orderRefusal, unfinished}
 
 -- ---- what the reader has seen
 
@@ -146,7 +146,7 @@ lines =
 
 abbrev pub linesHold : List Line → Bool
 linesHold [] = true
-linesHold (l ∷ ls) = eqb (refusal (l .before) (l .asked)) (l .number) && linesHold ls
+linesHold (l ∷ ls) = eqb (orderRefusal (l .before) (l .asked)) (l .number) && linesHold ls
 
 -- ---- the end: what the reader has seen there, and whether it is 14
 

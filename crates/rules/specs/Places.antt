@@ -8,9 +8,9 @@ use lib.Dec.{eqb}
 use Rattle.lists.specs.Lists.{member}
 
 -- the answer of the row n, false where there is no such row
-abbrev pub rowOf : ℕ → List (ℕ × Bool) → Bool
-rowOf n [] = false
-rowOf n (x ∷ xs) = cond (eqb n (x .0)) (x .1) (rowOf n xs)
+abbrev pub lookUp : ℕ → List (ℕ × Bool) → Bool
+lookUp n [] = false
+lookUp n (x ∷ xs) = cond (eqb n (x .0)) (x .1) (lookUp n xs)
 
 -- ---- parts of the pattern
 
@@ -46,8 +46,8 @@ ofOpenRp n = member (281 ∷ 291 ∷ 301 ∷ 311 ∷ 391 ∷ []) n
 
 -- A row for each record number: whether it may stand after place p. 15-106 3.2.8, last column: at most one 1 in a file, one 5, 11, 15, 51
 -- in a group, one 301 in an RP. A 55 "is followed by 201"; a 201 after a drug is of the same RP or of the next.
-abbrev pub rows : ℕ → List (ℕ × Bool)
-rows p =
+abbrev pub pattern : ℕ → List (ℕ × Bool)
+pattern p =
     (1, eqb p 0)
     ∷ (2, member (0 ∷ 1 ∷ 2 ∷ []) p)
     ∷ (3, member (0 ∷ 1 ∷ 2 ∷ 3 ∷ []) p)
@@ -72,4 +72,4 @@ rows p =
 
 -- record n may stand after place p; no other number stands anywhere
 unfoldable pub mayFollow : ℕ → ℕ → Bool
-mayFollow p n = rowOf n (rows p)
+mayFollow p n = lookUp n (pattern p)

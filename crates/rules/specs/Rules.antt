@@ -74,8 +74,8 @@ newerGroup b r = eqb (r .number) 5 && not (b .noGroup) && r .newer
 -- ---- one line, and the end
 
 -- "within it the lowest number"; 0 where the line is good
-unfoldable pub refusal : Before → Asked → ℕ
-refusal b r =
+unfoldable pub orderRefusal : Before → Asked → ℕ
+orderRefusal b r =
     cond
     (pairBroken b r)
     12

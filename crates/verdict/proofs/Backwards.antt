@@ -10,10 +10,10 @@ use borrow.Author.Tests.{eq-eqb, eqb-true}
 use Rattle.lists.specs.Lists.{member}
 use Rattle.lists.proofs.Tests.{both, either, or-second, not-true′, not-false′}
 use Rattle.order.specs.declared.Facts.{Facts}
-use Rattle.rules.specs.Places.{inFront, inRp, inDrugs, rowOf, rows, mayFollow}
-use Rattle.rules.specs.Rules.{pairBroken, misplaced, continues, missing, valueWrong, newerGroup, refusal, unfinished}
-use Rattle.order.specs.State.{none, start}
-use Rattle.grammar.specs.Grammar.{Details, Tree, rec, opt, any, records, _⇒_, Grammatical}
+use Rattle.rules.specs.Places.{inFront, inRp, inDrugs, lookUp, pattern, mayFollow}
+use Rattle.rules.specs.Rules.{pairBroken, misplaced, continues, missing, valueWrong, newerGroup, orderRefusal, unfinished}
+use Rattle.order.specs.State.{nothingYet, start}
+use Rattle.grammar.specs.Grammar.{Details, Tree, rec, opt, anyOf, records, _⇒_, Grammatical}
 use Rattle.verdict.proofs.Computed.{taut, In, here, there, Each, each, every, every-at, at-each, member-in}
 use Rattle.verdict.proofs.Machine.{Core, before, asked, taken, next, runs, finish, accepts, coreOf, machine-core}
 use Rattle.verdict.proofs.Steps.{rpPlaces, drugPlaces, frontPlaces, to401, to411, to501, to601, toEnd, headPlaces}
@@ -59,17 +59,17 @@ abbrev heads : List (ℕ × Bool) → List ℕ
 heads [] = []
 heads (x ∷ xs) = x .0 ∷ heads xs
 
-listed : (n : ℕ) (xs : List (ℕ × Bool)) → rowOf n xs ≡ true → In n (heads xs)
+listed : (n : ℕ) (xs : List (ℕ × Bool)) → lookUp n xs ≡ true → In n (heads xs)
 listed n [] h = absurd (false≢true h)
 listed n (x ∷ xs) h = by (eqb n (x .0)) refl (listed n xs) h
   where
-    by : (b : Bool) → eqb n (x .0) ≡ b → (rowOf n xs ≡ true → In n (heads xs)) → cond b (x .1) (rowOf n xs) ≡ true → In n (x .0 ∷ heads xs)
+    by : (b : Bool) → eqb n (x .0) ≡ b → (lookUp n xs ≡ true → In n (heads xs)) → cond b (x .1) (lookUp n xs) ≡ true → In n (x .0 ∷ heads xs)
     by true e f h = subst (λ y. In n (y ∷ heads xs)) (eqb-true n (x .0) e) here
     by false e f h = there (f h)
 
 pub known : (p n : ℕ) → mayFollow p n ≡ true → In n numbers
 unfolding mayFollow
-known p n h = listed n (rows p) h
+known p n h = listed n (pattern p) h
 
 -- ---- what is still to come at place p; v: the open RP's value; c: a doctor is named
 
@@ -168,7 +168,7 @@ pub record Told (c : Core) (r : Facts) : Type 0 where
   pub value : valueWrong (before c) (asked c r) ≡ false
 
 pub told : (c : Core) (r : Facts) → taken c r ≡ true → Told c r
-unfolding refusal misplaced
+unfolding orderRefusal misplaced
 told c r h =
     let b = before c in
     let a = asked c r in
@@ -490,7 +490,7 @@ shaped (r ∷ rs) s p m v c h =
 
 -- what the machine accepts, the grammar has
 pub machine-grammar : (provider : Bool) (rs : List Facts) → accepts (start provider) rs ≡ true → Grammatical provider rs
-unfolding start none
+unfolding start nothingYet
 machine-grammar provider rs h =
     let g : runs (coreOf (start provider)) rs ≡ true = sym (machine-core rs (start provider)) ∙ h in
     let a1 : From1 rs = shaped rs (coreOf (start provider)) 0 (member-in 0 places refl) 0 false g in
@@ -499,8 +499,8 @@ machine-grammar provider rs h =
     let a4 = a3 .after in
     let gs = a4 .after in
     let t : Tree = record { r1 = a1 .item; r2s = a2 .items; r3s = a3 .items; r4s = a4 .items; groups = gs .gs; r701s = gs .zs } in
-    let w4 = ap (any 4 (a4 .items)) (gs .written) ∙ a4 .written in
-    let w3 = ap (any 3 (a3 .items)) w4 ∙ a3 .written in
-    let w2 = ap (any 2 (a2 .items)) w3 ∙ a2 .written in
+    let w4 = ap (anyOf 4 (a4 .items)) (gs .written) ∙ a4 .written in
+    let w3 = ap (anyOf 3 (a3 .items)) w4 ∙ a3 .written in
+    let w2 = ap (anyOf 2 (a2 .items)) w3 ∙ a2 .written in
     let w : records t ≡ rs = ap (opt 1 (a1 .item)) w2 ∙ a1 .written in
     record { tree = t; written = w; meets = sym (tree-run provider t (gs .valued-so)) ∙ ap (runs (coreOf (start provider))) w ∙ g }

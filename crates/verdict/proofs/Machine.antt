@@ -10,12 +10,12 @@ use Rattle.order.specs.declared.State.{State}
 use Rattle.order.specs.declared.Facts.{Facts}
 use Rattle.lists.specs.Lists.{member}
 use Rattle.rules.specs.Questions.{Before, Asked}
-use Rattle.rules.specs.Rules.{refusal, unfinished}
+use Rattle.rules.specs.Rules.{orderRefusal, unfinished}
 use Rattle.order.specs.State.{advance, hadAfter, refusalOf, finishOf}
 
 -- a record that is taken, and an end that is good
 abbrev pub sound : Before → Asked → Bool
-sound b r = eqb (refusal b r) 0
+sound b r = eqb (orderRefusal b r) 0
 
 -- the machine: no refusal at any record, none at the end
 unfoldable pub accepts : State → List Facts → Bool

@@ -8,9 +8,9 @@ use mathlib.Core.Option.{Option, none, some}
 use mathlib.Core.List.{List, [], _∷_}
 use Rattle.lists.proofs.Tests.{both}
 use Rattle.order.specs.declared.Facts.{Facts}
-use Rattle.grammar.specs.Grammar.{Details, Drug, Usage, Prescription, Later, Prescriptions, withoutDoctors, withDoctors, Group, rec, opt, any}
+use Rattle.grammar.specs.Grammar.{Details, Drug, Usage, Prescription, Later, Prescriptions, withoutDoctors, withDoctors, Group, rec, opt, anyOf}
 use Rattle.grammar.specs.Grammar.{drugsRecords, usageRecords, rpRecords, plainRecords, laterRecords, prescriptionsRecords, groupsRecords}
-use Rattle.grammar.specs.Grammar.{all, stands, laterOnes, rps, valued, drugValued, usageValued, oneValue, valuesFrom, values}
+use Rattle.grammar.specs.Grammar.{allOf, stands, laterOnes, rps, valued, drugValued, usageValued, oneValue, valuesFrom, values}
 
 -- ---- what is still to come
 
@@ -21,8 +21,8 @@ anything b = true
 pub record Any (n : ℕ) (g : Details → Bool) (X : List Facts → Type 0) (rs : List Facts) : Type 0 where
   pub items : List Details
   pub left : List Facts
-  pub written : any n items left ≡ rs
-  pub fits : all g items ≡ true
+  pub written : anyOf n items left ≡ rs
+  pub fits : allOf g items ≡ true
   pub after : X left
 
 -- at most one n, then X
@@ -58,8 +58,8 @@ Over rs = [] ≡ rs
 pub record FromGroups (rs : List Facts) : Type 0 where
   pub gs : List Group
   pub zs : List Details
-  pub written : groupsRecords gs (any 701 zs []) ≡ rs
-  pub valued-so : all values gs ≡ true
+  pub written : groupsRecords gs (anyOf 701 zs []) ≡ rs
+  pub valued-so : allOf values gs ≡ true
 
 abbrev pub From601 : List Facts → Type 0
 From601 = Any 601 anything FromGroups
@@ -97,7 +97,7 @@ pub record FromDrugs (v : ℕ) (c : Bool) (rs : List Facts) : Type 0 where
   pub ds : List Drug
   pub left : List Facts
   pub written : drugsRecords ds left ≡ rs
-  pub valued-so : all (drugValued v) ds ≡ true
+  pub valued-so : allOf (drugValued v) ds ≡ true
   pub after : FromUsage v c left
 
 abbrev pub From391 : ℕ → Bool → List Facts → Type 0
@@ -158,7 +158,7 @@ add-drug {v} {c} {rs} b h a =
     record {
       ds = record { r201 = b; r281s = a .items; r291s = a2 .items } ∷ a3 .ds;
       left = a3 .left;
-      written = ap (λ l. rec 201 b ∷ any 281 (a .items) (any 291 (a2 .items) l)) (a3 .written) ∙ ap (λ l. rec 201 b ∷ any 281 (a .items) l) (a2 .written)
+      written = ap (λ l. rec 201 b ∷ anyOf 281 (a .items) (anyOf 291 (a2 .items) l)) (a3 .written) ∙ ap (λ l. rec 201 b ∷ anyOf 281 (a .items) l) (a2 .written)
           ∙ ap (λ l. rec 201 b ∷ l) (a .written);
       valued-so = rw (h, a .fits, a2 .fits) (a3 .valued-so);
       after = a3 .after;
@@ -190,10 +190,10 @@ begin-rp {v} {c} {rs} b h a =
       rp = record { drug = record { r201 = b; r281s = a .items; r291s = a2 .items }; drugs = a3 .ds; usage = a4 .part; r391s = a5 .items };
       left = a5 .left;
       written =
-          ap (λ l. rec 201 b ∷ any 281 (a .items) (any 291 (a2 .items) (drugsRecords (a3 .ds) (usageRecords (a4 .part) l)))) (a5 .written)
-          ∙ ap (λ l. rec 201 b ∷ any 281 (a .items) (any 291 (a2 .items) (drugsRecords (a3 .ds) l))) (a4 .written)
-          ∙ ap (λ l. rec 201 b ∷ any 281 (a .items) (any 291 (a2 .items) l)) (a3 .written)
-          ∙ ap (λ l. rec 201 b ∷ any 281 (a .items) l) (a2 .written)
+          ap (λ l. rec 201 b ∷ anyOf 281 (a .items) (anyOf 291 (a2 .items) (drugsRecords (a3 .ds) (usageRecords (a4 .part) l)))) (a5 .written)
+          ∙ ap (λ l. rec 201 b ∷ anyOf 281 (a .items) (anyOf 291 (a2 .items) (drugsRecords (a3 .ds) l))) (a4 .written)
+          ∙ ap (λ l. rec 201 b ∷ anyOf 281 (a .items) (anyOf 291 (a2 .items) l)) (a3 .written)
+          ∙ ap (λ l. rec 201 b ∷ anyOf 281 (a .items) l) (a2 .written)
           ∙ ap (λ l. rec 201 b ∷ l) (a .written);
       valued-so = rw (h, a .fits, a2 .fits, a3 .valued-so, a4 .valued-so) (a5 .fits);
       after = a5 .after;
@@ -291,7 +291,7 @@ add-group {rs} b a =
           (ap (λ l. opt 15 (a15 .item) l)
           (ap (λ l. opt 51 (a51 .item) l)
           (ap (prescriptionsRecords (s .parts))
-          (ap (any 401 (l4 .items)) (ap (any 411 (l41 .items)) (ap (any 501 (l5 .items)) (ap (any 601 (l6 .items)) (g .written) ∙ l6 .written) ∙ l5 .written)
+          (ap (anyOf 401 (l4 .items)) (ap (anyOf 411 (l41 .items)) (ap (anyOf 501 (l5 .items)) (ap (anyOf 601 (l6 .items)) (g .written) ∙ l6 .written) ∙ l5 .written)
           ∙ l41 .written) ∙ l4 .written)
           ∙ s .written)
           ∙ a51 .written)
@@ -301,4 +301,4 @@ add-group {rs} b a =
     }
 
 pub no-group : {rs : List Facts} → Any 701 anything Over rs → FromGroups rs
-no-group {rs} a = record { gs = []; zs = a .items; written = ap (any 701 (a .items)) (a .after) ∙ a .written; valued-so = refl }
+no-group {rs} a = record { gs = []; zs = a .items; written = ap (anyOf 701 (a .items)) (a .after) ∙ a .written; valued-so = refl }

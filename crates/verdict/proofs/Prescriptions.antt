@@ -11,8 +11,8 @@ use borrow.Author.Tests.{ne-eqb, eqb-true}
 use Rattle.lists.proofs.Tests.{both, and-same}
 use Rattle.order.specs.declared.Facts.{Facts}
 use Rattle.rules.specs.Places.{inRp, inDrugs}
-use Rattle.grammar.specs.Grammar.{Details, Drug, Usage, Prescription, Later, rec, any, opt, drugsRecords, usageRecords, rpRecords, plainRecords, laterRecords}
-use Rattle.grammar.specs.Grammar.{all, stands, _⇒_, laterOnes, nameAsked, usageNamed, allNamed, valued, drugValued, usageValued, oneValue, valuesFrom, each301}
+use Rattle.grammar.specs.Grammar.{Details, Drug, Usage, Prescription, Later, rec, anyOf, opt, drugsRecords, usageRecords, rpRecords, plainRecords, laterRecords}
+use Rattle.grammar.specs.Grammar.{allOf, stands, _⇒_, laterOnes, nameAsked, usageNamed, allNamed, valued, drugValued, usageValued, oneValue, valuesFrom, each301}
 use Rattle.verdict.proofs.Computed.{taut, In, here, there, every-at, among}
 use Rattle.verdict.proofs.Machine.{runs, step}
 use Rattle.verdict.proofs.Steps.{st, rpPlaces, drugPlaces, to401, treats, at-55, at-201, at-281, at-291, at-301, at-311, at-391}
@@ -21,11 +21,11 @@ use Rattle.verdict.proofs.Steps.{st, rpPlaces, drugPlaces, to401, treat
 pub any-on : (Q : ℕ → List Facts → Bool) (n : ℕ) (xs : List ℕ) (g : Details → Bool) (W : Bool) (rs : List Facts)
     → ((p : ℕ) → In p (n ∷ xs) → (b : Details) (l : List Facts) → g b ≡ true → Q p (rec n b ∷ l) ≡ Q n l)
     → ((p : ℕ) → In p (n ∷ xs) → Q p rs ≡ W)
-    → (bs : List Details) → all g bs ≡ true → (p : ℕ) → In p (n ∷ xs) → Q p (any n bs rs) ≡ W
+    → (bs : List Details) → allOf g bs ≡ true → (p : ℕ) → In p (n ∷ xs) → Q p (anyOf n bs rs) ≡ W
 any-on Q n xs g W rs s h [] e p m = h p m
 any-on Q n xs g W rs s h (b ∷ bs) e p m =
-    let e2 = both (g b) (all g bs) e in
-    s p m b (any n bs rs) (e2 .0) ∙ any-on Q n xs g W rs s h bs (e2 .1) n here
+    let e2 = both (g b) (allOf g bs) e in
+    s p m b (anyOf n bs rs) (e2 .0) ∙ any-on Q n xs g W rs s h bs (e2 .1) n here
 
 pub in-rp : {p : ℕ} → In p rpPlaces → inRp p ≡ true
 in-rp m = every-at inRp refl m
@@ -45,47 +45,47 @@ module _ (o : Bool) (d : ℕ) (e : Bool) (k : ℕ) (f i : Bool) where
   abbrev pub Behind : ℕ → Bool → Bool → List Facts → Type 0
   Behind v c W rs = (p : ℕ) → In p rpPlaces → (u : Bool) → runs (st o p d e k f i v u c) rs ≡ ((o ⇒ u) && W)
 
-  notes : (v : ℕ) (u c W : Bool) (rs : List Facts) → Behind v c W rs → (bs : List Details) → all (valued v) bs ≡ true
-      → (p : ℕ) → In p rpPlaces → runs (st o p d e k f i v u c) (any 391 bs rs) ≡ ((o ⇒ u) && W)
+  notes : (v : ℕ) (u c W : Bool) (rs : List Facts) → Behind v c W rs → (bs : List Details) → allOf (valued v) bs ≡ true
+      → (p : ℕ) → In p rpPlaces → runs (st o p d e k f i v u c) (anyOf 391 bs rs) ≡ ((o ⇒ u) && W)
   notes v u c W rs h bs g p m =
       any-on (λ p l. runs (st o p d e k f i v u c) l) 391 _ (valued v) ((o ⇒ u) && W) rs
       (λ p m b l x. step (st o p d e k f i v u c) (rec 391 b) l (at-391 o d e k f i v u c b m ∙ x)) (λ p m. h p m u) bs g p m
 
   usage-read : (v : ℕ) (c W : Bool) (rs : List Facts) → Behind v c W rs → (y : Option Usage) → usageValued v y ≡ true
-      → (bs : List Details) → all (valued v) bs ≡ true → (p : ℕ) → In p drugPlaces
-      → runs (st o p d e k f i v false c) (usageRecords y (any 391 bs rs)) ≡ (usageNamed o k y && ((o ⇒ stands y) && W))
+      → (bs : List Details) → allOf (valued v) bs ≡ true → (p : ℕ) → In p drugPlaces
+      → runs (st o p d e k f i v false c) (usageRecords y (anyOf 391 bs rs)) ≡ (usageNamed o k y && ((o ⇒ stands y) && W))
   usage-read v c W rs h none w bs g p m = notes v false c W rs h bs g p (among rpPlaces refl m)
   usage-read v c W rs h (some y) w bs g p m =
-      let w2 = both (valued v (y .r301)) (all (valued v) (y .r311s)) w in
+      let w2 = both (valued v (y .r301)) (allOf (valued v) (y .r311s)) w in
       let named : Bool = nameAsked o k (y .r301 .form) ⇒ y .r301 .named in
       step (st o p d e k f i v false c) (rec 301 (y .r301)) _ (at-301 o d e k f i v false c (y .r301) m ∙ ap (λ x. named && x) (w2 .0) ∙ and-same named)
       ∙ ap (λ x. named && x)
-      (any-on (λ p l. runs (st o p d e k f i v true c) l) 311 _ (valued v) ((o ⇒ true) && W) (any 391 bs rs)
+      (any-on (λ p l. runs (st o p d e k f i v true c) l) 311 _ (valued v) ((o ⇒ true) && W) (anyOf 391 bs rs)
       (λ p m b l x. step (st o p d e k f i v true c) (rec 311 b) l (at-311 o d e k f i v true c b m ∙ x))
       (λ p m. notes v true c W rs h bs g p (among rpPlaces refl m))
       (y .r311s) (w2 .1) 301 (there here))
 
   -- the 281s and 291s of a drug, behind its 201
   one-drug : (v : ℕ) (c W : Bool) (rs : List Facts) → ((p : ℕ) → In p drugPlaces → runs (st o p d e k f i v false c) rs ≡ W)
-      → (xs bs : List Details) → all (valued v) xs ≡ true → all (valued v) bs ≡ true
-      → runs (st o 201 d e k f i v false c) (any 281 xs (any 291 bs rs)) ≡ W
+      → (xs bs : List Details) → allOf (valued v) xs ≡ true → allOf (valued v) bs ≡ true
+      → runs (st o 201 d e k f i v false c) (anyOf 281 xs (anyOf 291 bs rs)) ≡ W
   one-drug v c W rs h xs bs g g2 =
-      any-on (λ p l. runs (st o p d e k f i v false c) l) 281 _ (valued v) W (any 291 bs rs)
+      any-on (λ p l. runs (st o p d e k f i v false c) l) 281 _ (valued v) W (anyOf 291 bs rs)
       (λ p m b l x. step (st o p d e k f i v false c) (rec 281 b) l (at-281 o d e k f i v false c b m ∙ x))
       (λ p m. any-on (λ p l. runs (st o p d e k f i v false c) l) 291 _ (valued v) W rs
       (λ p m b l x. step (st o p d e k f i v false c) (rec 291 b) l (at-291 o d e k f i v false c b m ∙ x)) h bs g2 p (there m))
       xs g 201 (there here)
 
   more-drugs : (v : ℕ) (c W : Bool) (rs : List Facts) → ((p : ℕ) → In p drugPlaces → runs (st o p d e k f i v false c) rs ≡ W)
-      → (ds : List Drug) → all (drugValued v) ds ≡ true → (p : ℕ) → In p drugPlaces → runs (st o p d e k f i v false c) (drugsRecords ds rs) ≡ W
+      → (ds : List Drug) → allOf (drugValued v) ds ≡ true → (p : ℕ) → In p drugPlaces → runs (st o p d e k f i v false c) (drugsRecords ds rs) ≡ W
   more-drugs v c W rs h [] g p m = h p m
   more-drugs v c W rs h (x ∷ ds) g p m =
-      let g2 = both (drugValued v x) (all (drugValued v) ds) g in
-      let g3 = both (valued v (x .r201)) (all (valued v) (x .r281s) && all (valued v) (x .r291s)) (g2 .0) in
-      let g4 = both (all (valued v) (x .r281s)) (all (valued v) (x .r291s)) (g3 .1) in
+      let g2 = both (drugValued v x) (allOf (drugValued v) ds) g in
+      let g3 = both (valued v (x .r201)) (allOf (valued v) (x .r281s) && allOf (valued v) (x .r291s)) (g2 .0) in
+      let g4 = both (allOf (valued v) (x .r281s)) (allOf (valued v) (x .r291s)) (g3 .1) in
       step (st o p d e k f i v false c) (rec 201 (x .r201)) _
       (at-201 o d e k f i v false c (x .r201) (among (55 ∷ to401) refl m) ∙ goes-on _ _ _ (every-at inDrugs refl m) (g3 .0))
-      ∙ ap (λ w. runs (st o 201 d e k f i w false c) (any 281 (x .r281s) (any 291 (x .r291s) (drugsRecords ds rs)))) (eqb-true _ _ (g3 .0))
+      ∙ ap (λ w. runs (st o 201 d e k f i w false c) (anyOf 281 (x .r281s) (anyOf 291 (x .r291s) (drugsRecords ds rs)))) (eqb-true _ _ (g3 .0))
       ∙ one-drug v c W (drugsRecords ds rs) (more-drugs v c W rs h ds (g2 .1)) (x .r281s) (x .r291s) (g4 .0) (g4 .1)
 
   -- an RP of the next value
@@ -95,18 +95,18 @@ module _ (o : Bool) (d : ℕ) (e : Bool) (k : ℕ) (f i : Bool) where
   rp-read v u c W rs x g h p m =
       let y = x .drug in
       let q : Details → Bool = valued (v + 1) in
-      let g2 = both (drugValued (v + 1) y) (all (drugValued (v + 1)) (x .drugs) && (usageValued (v + 1) (x .usage) && all q (x .r391s))) g in
-      let g3 = both (q (y .r201)) (all q (y .r281s) && all q (y .r291s)) (g2 .0) in
-      let g4 = both (all q (y .r281s)) (all q (y .r291s)) (g3 .1) in
-      let g5 = both (all (drugValued (v + 1)) (x .drugs)) (usageValued (v + 1) (x .usage) && all q (x .r391s)) (g2 .1) in
-      let g6 = both (usageValued (v + 1) (x .usage)) (all q (x .r391s)) (g5 .1) in
+      let g2 = both (drugValued (v + 1) y) (allOf (drugValued (v + 1)) (x .drugs) && (usageValued (v + 1) (x .usage) && allOf q (x .r391s))) g in
+      let g3 = both (q (y .r201)) (allOf q (y .r281s) && allOf q (y .r291s)) (g2 .0) in
+      let g4 = both (allOf q (y .r281s)) (allOf q (y .r291s)) (g3 .1) in
+      let g5 = both (allOf (drugValued (v + 1)) (x .drugs)) (usageValued (v + 1) (x .usage) && allOf q (x .r391s)) (g2 .1) in
+      let g6 = both (usageValued (v + 1) (x .usage)) (allOf q (x .r391s)) (g5 .1) in
       let w : y .r201 .rp ≡ v + 1 = eqb-true _ _ (g3 .0) in
-      let tail : List Facts = usageRecords (x .usage) (any 391 (x .r391s) rs) in
+      let tail : List Facts = usageRecords (x .usage) (anyOf 391 (x .r391s) rs) in
       step (st o p d e k f i v u c) (rec 201 (y .r201)) _
       (at-201 o d e k f i v u c (y .r201) m ∙ begins (inDrugs p) (eqb (y .r201 .rp) v) (eqb (y .r201 .rp) (v + 1)) (o ⇒ not (inRp p && not u))
       (ne-eqb _ _ (λ (z : y .r201 .rp ≡ v). omega arith)) (g3 .0))
       ∙ ap (λ y. (o ⇒ not (inRp p && not u)) && y)
-      (ap (λ w. runs (st o 201 d e k f i w false c) (any 281 (y .r281s) (any 291 (y .r291s) (drugsRecords (x .drugs) tail)))) w
+      (ap (λ w. runs (st o 201 d e k f i w false c) (anyOf 281 (y .r281s) (anyOf 291 (y .r291s) (drugsRecords (x .drugs) tail)))) w
       ∙ one-drug (v + 1) c (usageNamed o k (x .usage) && ((o ⇒ stands (x .usage)) && W)) _
       (more-drugs (v + 1) c _ _ (usage-read (v + 1) c W rs h (x .usage) (g6 .0) (x .r391s) (g6 .1)) (x .drugs) (g5 .0))
       (y .r281s) (y .r291s) (g4 .0) (g4 .1))

@@ -9,7 +9,7 @@ use Rattle.lists.specs.Lists.{member}
 use Rattle.lists.proofs.Tests.{member-left}
 use Rattle.rules.specs.Places.{inRp, inDrugs, inGroup, mayFollow}
 use Rattle.rules.specs.Questions.{Before, Asked}
-use Rattle.rules.specs.Rules.{pairBroken, misplaced, continues, closesRp, lacking, missing, valueWrong, newerGroup, refusal, unfinished}
+use Rattle.rules.specs.Rules.{pairBroken, misplaced, continues, closesRp, lacking, missing, valueWrong, newerGroup, orderRefusal, unfinished}
 use Rattle.grammar.specs.Grammar.{Details, rec, _⇒_, nameAsked}
 use Rattle.verdict.proofs.Computed.{In, taut, agree, every, at-each}
 use Rattle.verdict.proofs.Machine.{sound, Core, before, taken}
@@ -147,11 +147,11 @@ module _ (o : Bool) (p : ℕ) (e q t f i z u c : Bool) where
 
   module _ (s x l a m : Bool) where
     5-lacked : sound (bf o p e q t f i z u c) (ask 5 s x l a m) ≡ sound (lk o p (lacks e q f i z) t z u c) (ask 5 s x l a m)
-    unfolding refusal pairBroken misplaced missing valueWrong newerGroup continues closesRp
+    unfolding orderRefusal pairBroken misplaced missing valueWrong newerGroup continues closesRp
     5-lacked = rw lacked
 
     701-lacked : sound (bf o p e q t f i z u c) (ask 701 s x l a m) ≡ sound (lk o p (lacks e q f i z) t z u c) (ask 701 s x l a m)
-    unfolding refusal pairBroken misplaced missing valueWrong newerGroup continues closesRp
+    unfolding orderRefusal pairBroken misplaced missing valueWrong newerGroup continues closesRp
     701-lacked = rw lacked
 
 -- ---- in a group
@@ -166,14 +166,14 @@ module _ {p : ℕ} (o : Bool) (d : ℕ) (e : Bool) (k : ℕ) (f i : Bool) (v : �
 
   module _ (b : Details) where
     pub at-5 : In p toEnd → taken (st o p d e k f i v u c) (rec 5 b) ≡ (mayClose o p e (eqb k 4) f i (eqb v 0) u && not (ltb d (b .day)))
-    unfolding refusal pairBroken misplaced missing valueWrong newerGroup mayFollow inGroup continues closesRp lacking
+    unfolding orderRefusal pairBroken misplaced missing valueWrong newerGroup mayFollow inGroup continues closesRp lacking
     at-5 m =
         5-lacked o p e (eqb k 4) (treats k) f i (eqb v 0) u c (eqb (b .rp) v) (eqb (b .rp) (v + 1)) (ltb d (b .day)) (b .named) (material b)
         ∙ at-each 5 (λ p o y z u l. sound (lk o p y (treats k) z u c) (ask 5 (eqb (b .rp) v) (eqb (b .rp) (v + 1)) l (b .named) (material b)))
         (λ p o y z u l. mayCloseBy o p y u && not l) refl m o (lacks e (eqb k 4) f i (eqb v 0)) (eqb v 0) u (ltb d (b .day))
 
     pub at-701 : In p toEnd → taken (st o p d e k f i v u c) (rec 701 b) ≡ mayClose o p e (eqb k 4) f i (eqb v 0) u
-    unfolding refusal pairBroken misplaced missing valueWrong newerGroup mayFollow inGroup continues closesRp lacking
+    unfolding orderRefusal pairBroken misplaced missing valueWrong newerGroup mayFollow inGroup continues closesRp lacking
     at-701 m =
         701-lacked o p e (eqb k 4) (treats k) f i (eqb v 0) u c (eqb (b .rp) v) (eqb (b .rp) (v + 1)) (ltb d (b .day)) (b .named) (material b)
         ∙ at-each 4 (λ p o y z u. sound (lk o p y (treats k) z u c) (asking 701 d v b)) (λ p o y z u. mayCloseBy o p y u) refl m
@@ -181,21 +181,21 @@ module _ {p : ℕ} (o : Bool) (d : ℕ) (e : Bool) (k : ℕ) (f i : Bool) (v : �
 
     -- 11 and 15 ask nothing
     pub at-11 : In p (5 ∷ []) → taken (st o p d e k f i v u c) (rec 11 b) ≡ true
-    unfolding refusal pairBroken misplaced missing valueWrong newerGroup mayFollow inGroup continues closesRp lacking
+    unfolding orderRefusal pairBroken misplaced missing valueWrong newerGroup mayFollow inGroup continues closesRp lacking
     at-11 m = at-each 1 (λ p o. sound (bf o p e (eqb k 4) (treats k) f i (eqb v 0) u c) (asking 11 d v b)) (λ p o. true) refl m o
 
     pub at-15 : In p (11 ∷ 5 ∷ []) → taken (st o p d e k f i v u c) (rec 15 b) ≡ true
-    unfolding refusal pairBroken misplaced missing valueWrong newerGroup mayFollow inGroup continues closesRp lacking
+    unfolding orderRefusal pairBroken misplaced missing valueWrong newerGroup mayFollow inGroup continues closesRp lacking
     at-15 m = at-each 1 (λ p o. sound (bf o p e (eqb k 4) (treats k) f i (eqb v 0) u c) (asking 15 d v b)) (λ p o. true) refl m o
 
     pub at-51 : In p (15 ∷ 11 ∷ 5 ∷ []) → taken (st o p d e k f i v u c) (rec 51 b) ≡ (o ⇒ not (treats k))
-    unfolding refusal pairBroken misplaced missing valueWrong newerGroup mayFollow inGroup continues closesRp lacking
+    unfolding orderRefusal pairBroken misplaced missing valueWrong newerGroup mayFollow inGroup continues closesRp lacking
     at-51 m =
         at-each 2 (λ p o t. sound (bf o p e (eqb k 4) t f i (eqb v 0) u c) (asking 51 d v b)) (λ p o t. o ⇒ not t) refl m
         o (treats k)
 
     pub at-55 : In p to401 → taken (st o p d e k f i v u c) (rec 55 b) ≡ ((inRp p ⇒ c) && (o ⇒ not (treats k) && not (inRp p && not u)))
-    unfolding refusal pairBroken misplaced missing valueWrong newerGroup mayFollow inGroup continues closesRp lacking
+    unfolding orderRefusal pairBroken misplaced missing valueWrong newerGroup mayFollow inGroup continues closesRp lacking
     at-55 m =
         at-each 4 (λ p o t u c. sound (bf o p e (eqb k 4) t f i (eqb v 0) u c) (asking 55 d v b))
         (λ p o t u c. (inRp p ⇒ c) && (o ⇒ not t && not (inRp p && not u))) refl m o (treats k) u c
@@ -203,13 +203,13 @@ module _ {p : ℕ} (o : Bool) (d : ℕ) (e : Bool) (k : ℕ) (f i : Bool) (v : �
     -- a 201 continues its RP or begins the next
     pub at-201 : In p (55 ∷ to401)
         → taken (st o p d e k f i v u c) (rec 201 b) ≡ (inDrugs p && eqb (b .rp) v || (o ⇒ not (inRp p && not u)) && eqb (b .rp) (v + 1))
-    unfolding refusal pairBroken misplaced missing valueWrong newerGroup mayFollow inGroup continues closesRp lacking
+    unfolding orderRefusal pairBroken misplaced missing valueWrong newerGroup mayFollow inGroup continues closesRp lacking
     at-201 m =
         at-each 4 (λ p o u s x. sound (bf o p e (eqb k 4) (treats k) f i (eqb v 0) u c) (ask 201 s x (ltb d (b .day)) (b .named) (material b)))
         (λ p o u s x. inDrugs p && s || (o ⇒ not (inRp p && not u)) && x) refl m o u (eqb (b .rp) v) (eqb (b .rp) (v + 1))
 
     pub at-301 : In p drugPlaces → taken (st o p d e k f i v u c) (rec 301 b) ≡ ((nameAsked o k (b .form) ⇒ b .named) && eqb (b .rp) v)
-    unfolding refusal pairBroken misplaced missing valueWrong newerGroup mayFollow inGroup continues closesRp lacking
+    unfolding orderRefusal pairBroken misplaced missing valueWrong newerGroup mayFollow inGroup continues closesRp lacking
     at-301 m =
         at-each 5 (λ p o q m a s. sound (bf o p e q (treats k) f i (eqb v 0) u c) (ask 301 s (eqb (b .rp) (v + 1)) (ltb d (b .day)) a m))
         (λ p o q m a s. ((o ⇒ q && not m) ⇒ a) && s) refl m o (eqb k 4) (material b) (b .named) (eqb (b .rp) v)
@@ -229,23 +229,23 @@ module _ {p : ℕ} (o : Bool) (d : ℕ) (e : Bool) (k : ℕ) (f i : Bool) (v : �
           (ask n s (eqb (b .rp) (v + 1)) (ltb d (b .day)) (b .named) (material b))) (λ p o s. s) w m o (eqb (b .rp) v)
 
     pub at-281 : In p (281 ∷ 201 ∷ []) → taken (st o p d e k f i v u c) (rec 281 b) ≡ eqb (b .rp) v
-    unfolding refusal pairBroken misplaced missing valueWrong newerGroup mayFollow inGroup continues closesRp lacking
+    unfolding orderRefusal pairBroken misplaced missing valueWrong newerGroup mayFollow inGroup continues closesRp lacking
     at-281 = at-value 281 (281 ∷ 201 ∷ []) refl
 
     pub at-291 : In p drugPlaces → taken (st o p d e k f i v u c) (rec 291 b) ≡ eqb (b .rp) v
-    unfolding refusal pairBroken misplaced missing valueWrong newerGroup mayFollow inGroup continues closesRp lacking
+    unfolding orderRefusal pairBroken misplaced missing valueWrong newerGroup mayFollow inGroup continues closesRp lacking
     at-291 = at-value 291 drugPlaces refl
 
     pub at-311 : In p (311 ∷ 301 ∷ []) → taken (st o p d e k f i v u c) (rec 311 b) ≡ eqb (b .rp) v
-    unfolding refusal pairBroken misplaced missing valueWrong newerGroup mayFollow inGroup continues closesRp lacking
+    unfolding orderRefusal pairBroken misplaced missing valueWrong newerGroup mayFollow inGroup continues closesRp lacking
     at-311 = at-value 311 (311 ∷ 301 ∷ []) refl
 
     pub at-391 : In p rpPlaces → taken (st o p d e k f i v u c) (rec 391 b) ≡ eqb (b .rp) v
-    unfolding refusal pairBroken misplaced missing valueWrong newerGroup mayFollow inGroup continues closesRp lacking
+    unfolding orderRefusal pairBroken misplaced missing valueWrong newerGroup mayFollow inGroup continues closesRp lacking
     at-391 = at-value 391 rpPlaces refl
 
     pub at-401 : In p to411 → taken (st o p d e k f i v u c) (rec 401 b) ≡ (rpOver o p u && (o ⇒ not (eqb v 0)))
-    unfolding refusal pairBroken misplaced missing valueWrong newerGroup mayFollow inGroup continues closesRp lacking
+    unfolding orderRefusal pairBroken misplaced missing valueWrong newerGroup mayFollow inGroup continues closesRp lacking
     at-401 m =
         at-each 3 (λ p o z u. sound (bf o p e (eqb k 4) (treats k) f i z u c) (asking 401 d v b))
         (λ p o z u. rpOver o p u && (o ⇒ not z)) refl m o (eqb v 0) u
@@ -258,15 +258,15 @@ module _ {p : ℕ} (o : Bool) (d : ℕ) (e : Bool) (k : ℕ) (f i : Bool) (v : �
           at-each 2 (λ p o u. sound (bf o p e (eqb k 4) (treats k) f i (eqb v 0) u c) (asking n d v b)) (λ p o u. rpOver o p u) w m o u
 
     pub at-411 : In p to501 → taken (st o p d e k f i v u c) (rec 411 b) ≡ rpOver o p u
-    unfolding refusal pairBroken misplaced missing valueWrong newerGroup mayFollow inGroup continues closesRp lacking
+    unfolding orderRefusal pairBroken misplaced missing valueWrong newerGroup mayFollow inGroup continues closesRp lacking
     at-411 = at-rest 411 to501 refl
 
     pub at-501 : In p to601 → taken (st o p d e k f i v u c) (rec 501 b) ≡ rpOver o p u
-    unfolding refusal pairBroken misplaced missing valueWrong newerGroup mayFollow inGroup continues closesRp lacking
+    unfolding orderRefusal pairBroken misplaced missing valueWrong newerGroup mayFollow inGroup continues closesRp lacking
     at-501 = at-rest 501 to601 refl
 
     pub at-601 : In p toEnd → taken (st o p d e k f i v u c) (rec 601 b) ≡ rpOver o p u
-    unfolding refusal pairBroken misplaced missing valueWrong newerGroup mayFollow inGroup continues closesRp lacking
+    unfolding orderRefusal pairBroken misplaced missing valueWrong newerGroup mayFollow inGroup continues closesRp lacking
     at-601 = at-rest 601 toEnd refl
 
 -- ---- before the groups, and behind them
@@ -287,26 +287,26 @@ module _ {p : ℕ} (o : Bool) where
       at-head w m = at-each 1 (λ p o. taken (hd o p) (rec n b)) (λ p o. oneStood o p) w m o
 
     pub head-2 : In p (2 ∷ 1 ∷ 0 ∷ []) → taken (hd o p) (rec 2 b) ≡ oneStood o p
-    unfolding refusal pairBroken misplaced missing valueWrong newerGroup mayFollow inGroup continues closesRp lacking
+    unfolding orderRefusal pairBroken misplaced missing valueWrong newerGroup mayFollow inGroup continues closesRp lacking
     head-2 = at-head 2 (2 ∷ 1 ∷ 0 ∷ []) refl
 
     pub head-3 : In p (3 ∷ 2 ∷ 1 ∷ 0 ∷ []) → taken (hd o p) (rec 3 b) ≡ oneStood o p
-    unfolding refusal pairBroken misplaced missing valueWrong newerGroup mayFollow inGroup continues closesRp lacking
+    unfolding orderRefusal pairBroken misplaced missing valueWrong newerGroup mayFollow inGroup continues closesRp lacking
     head-3 = at-head 3 (3 ∷ 2 ∷ 1 ∷ 0 ∷ []) refl
 
     pub head-4 : In p headPlaces → taken (hd o p) (rec 4 b) ≡ oneStood o p
-    unfolding refusal pairBroken misplaced missing valueWrong newerGroup mayFollow inGroup continues closesRp lacking
+    unfolding orderRefusal pairBroken misplaced missing valueWrong newerGroup mayFollow inGroup continues closesRp lacking
     head-4 = at-head 4 headPlaces refl
 
     pub head-5 : In p headPlaces → taken (hd o p) (rec 5 b) ≡ oneStood o p
-    unfolding refusal pairBroken misplaced missing valueWrong newerGroup mayFollow inGroup continues closesRp lacking
+    unfolding orderRefusal pairBroken misplaced missing valueWrong newerGroup mayFollow inGroup continues closesRp lacking
     head-5 = at-head 5 headPlaces refl
 
     pub head-1 : In p (0 ∷ []) → taken (hd o p) (rec 1 b) ≡ true
-    unfolding refusal pairBroken misplaced missing valueWrong newerGroup mayFollow inGroup continues closesRp lacking
+    unfolding orderRefusal pairBroken misplaced missing valueWrong newerGroup mayFollow inGroup continues closesRp lacking
     head-1 m = at-each 1 (λ p o. taken (hd o p) (rec 1 b)) (λ p o. true) refl m o
 
     -- a 701 before any group
     pub head-701 : In p headPlaces → taken (hd o p) (rec 701 b) ≡ (oneStood o p && not o)
-    unfolding refusal pairBroken misplaced missing valueWrong newerGroup mayFollow inGroup continues closesRp lacking
+    unfolding orderRefusal pairBroken misplaced missing valueWrong newerGroup mayFollow inGroup continues closesRp lacking
     head-701 m = at-each 1 (λ p o. taken (hd o p) (rec 701 b)) (λ p o. oneStood o p && not o) refl m o

@@ -15,93 +15,93 @@ use Rattle.order.specs.declared.State.{State}
 use Rattle.order.specs.declared.Facts.{Facts}
 use Rattle.lists.specs.Lists.{member}
 use Rattle.rules.specs.Places.{inFront, inRp, inRest, inGroup}
-use Rattle.order.specs.State.{none as noHad, start, hadAfter, advance, doctorOf, groupOf, drugOf}
+use Rattle.order.specs.State.{nothingYet as noHad, start, hadAfter, advance, doctorOf, groupOf, drugOf}
 use Rattle.order.proofs.Laws.{taken}
 use Rattle.notebook.specs.Facts.{factsOf}
 use Rattle.notebook.specs.Index.{Entry, entryOf}
 use Rattle.notebook.proofs.Walk.{Walk, over, more, accepted}
-use Rattle.grammar.specs.Grammar.{Details, Drug, Usage, Prescription, Later, Prescriptions, withoutDoctors, withDoctors, Group, Tree, rec, opt, any, drugRecords}
+use Rattle.grammar.specs.Grammar.{Details, Drug, Usage, Prescription, Later, Prescriptions, withoutDoctors, withDoctors, Group, Tree, rec, opt, anyOf, drugRecords}
 use Rattle.grammar.specs.Grammar.{drugsRecords, usageRecords, rpRecords, plainRecords, laterRecords, prescriptionsRecords, restRecords, groupRecords, groupsRecords, records}
-use Rattle.grammar.specs.TreeRows.{Row, row, bare, optRows, anyRows, drugRows, drugsRows, usageRows, rpRows, plainRows, underRows, laterRows}
-use Rattle.verdict.specs.TreeIndex.{Among, here, there, TreeSharesNone, rowOf, IndexIsTheTrees, IsEntry, NoSharedDoctor}
+use Rattle.grammar.specs.TreeRows.{TreeRow, treeRow, bare, optRows, anyRows, drugRows, drugsRows, usageRows, rpRows, plainRows, underRows, laterRows}
+use Rattle.verdict.specs.TreeIndex.{Among, here, there, TreeSharesNone, entryRow, IndexIsTheTrees, IsEntry, NoSharedDoctor}
 use Rattle.verdict.proofs.Computed.{taut}
 use Rattle.verdict.proofs.Verdict.{file-is-grammar}
 use Rattle.grammar.specs.TreeRows.{prescriptionsRows, restRows, groupRows, groupsRows, treeRows}
 
 -- ---- the machine's rows, by the line, the count of groups, the doctor and the drug before a record
 
-hand : ℕ → ℕ → ℕ → ℕ → List Facts → List Row
+hand : ℕ → ℕ → ℕ → ℕ → List Facts → List TreeRow
 hand l g c a [] = []
 hand l g c a (r ∷ rs) =
     let g′ = cond (eqb (r .number) 5) (g + 1) g in
     let a′ = cond (eqb (r .number) 5) 0 (cond (eqb (r .number) 201) (l + 1) a) in
-    row (r .number) (cond (inGroup (r .number)) g′ 0) (cond (inRp (r .number)) c 0) (cond (member (281 ∷ 291 ∷ []) (r .number)) a′ 0)
+    treeRow (r .number) (cond (inGroup (r .number)) g′ 0) (cond (inRp (r .number)) c 0) (cond (member (281 ∷ 291 ∷ []) (r .number)) a′ 0)
     ∷ hand (l + 1) g′ (cond (eqb (r .number) 5) 0 (cond (eqb (r .number) 55) (l + 1) c)) a′ rs
 
-abbrev handFrom : State → List Facts → List Row
+abbrev handFrom : State → List Facts → List TreeRow
 handFrom s rs = hand (s .line) (s .groups) (s .had .doctor) (s .had .drug) rs
 
 hand-on : (s : State) (r : Facts) (rs : List Facts)
-    → row (r .number) (groupOf (advance s r)) (doctorOf s r) (drugOf (advance s r)) ∷ handFrom (advance s r) rs ≡ handFrom s (r ∷ rs)
+    → treeRow (r .number) (groupOf (advance s r)) (doctorOf s r) (drugOf (advance s r)) ∷ handFrom (advance s r) rs ≡ handFrom s (r ∷ rs)
 unfolding hand advance hadAfter groupOf drugOf doctorOf
 hand-on s r rs = refl
 
 walk-rows : {st : State} {at : ℕ} {rs : List (List ℕ)} {recs : List Record} {es : List Entry} → Walk st at rs recs es
-    → map rowOf es ≡ handFrom st (map factsOf recs)
+    → map entryRow es ≡ handFrom st (map factsOf recs)
 unfolding hand entryOf factsOf
 walk-rows over = refl
 walk-rows (more {st = st} {r = r} {after = after} {rp = rp} {doctor = doctor} {recs = recs} l p w) =
     let f : Facts = factsOf (recordOf (text r)) in
     let d : doctor ≡ doctorOf st f = taken st f after rp doctor (p .step) .doctor in
-    ap₂ (λ (x : Row) (xs : List Row). x ∷ xs)
-    (ap (λ (t : State). row (f .number) (groupOf t) doctor (drugOf t)) (p .state)
-    ∙ ap (λ (c : ℕ). row (f .number) (groupOf (advance st f)) c (drugOf (advance st f))) d)
+    ap₂ (λ (x : TreeRow) (xs : List TreeRow). x ∷ xs)
+    (ap (λ (t : State). treeRow (f .number) (groupOf t) doctor (drugOf t)) (p .state)
+    ∙ ap (λ (c : ℕ). treeRow (f .number) (groupOf (advance st f)) c (drugOf (advance st f))) d)
     (walk-rows w ∙ ap (λ (t : State). handFrom t (map factsOf recs)) (p .state))
     ∙ hand-on st f (map factsOf recs)
 
 -- ---- part by part
 
 -- what follows has the rows k, whatever the drug; or whatever the doctor and the drug
-abbrev Then : ℕ → ℕ → List Facts → (ℕ → List Row) → Type 0
+abbrev Then : ℕ → ℕ → List Facts → (ℕ → List TreeRow) → Type 0
 Then g c rs k = (l a : ℕ) → hand l g c a rs ≡ k l
 
-abbrev ThenAll : ℕ → List Facts → (ℕ → List Row) → Type 0
+abbrev ThenAll : ℕ → List Facts → (ℕ → List TreeRow) → Type 0
 ThenAll g rs k = (l c a : ℕ) → hand l g c a rs ≡ k l
 
-any-rows : (n : ℕ) (w : Row) (g c a : ℕ) → ((l : ℕ) (b : Details) (rs : List Facts) → hand l g c a (rec n b ∷ rs) ≡ w ∷ hand (l + 1) g c a rs)
-    → (rs : List Facts) (k : ℕ → List Row) → ((l : ℕ) → hand l g c a rs ≡ k l) → (bs : List Details) (l : ℕ) → hand l g c a (any n bs rs) ≡ anyRows w l bs k
+any-rows : (n : ℕ) (w : TreeRow) (g c a : ℕ) → ((l : ℕ) (b : Details) (rs : List Facts) → hand l g c a (rec n b ∷ rs) ≡ w ∷ hand (l + 1) g c a rs)
+    → (rs : List Facts) (k : ℕ → List TreeRow) → ((l : ℕ) → hand l g c a rs ≡ k l) → (bs : List Details) (l : ℕ) → hand l g c a (anyOf n bs rs) ≡ anyRows w l bs k
 any-rows n w g c a s rs k h [] l = h l
-any-rows n w g c a s rs k h (b ∷ bs) l = s l b (any n bs rs) ∙ ap (λ x. w ∷ x) (any-rows n w g c a s rs k h bs (l + 1))
+any-rows n w g c a s rs k h (b ∷ bs) l = s l b (anyOf n bs rs) ∙ ap (λ x. w ∷ x) (any-rows n w g c a s rs k h bs (l + 1))
 
-opt-rows : (n : ℕ) (w : Row) (g c a : ℕ) → ((l : ℕ) (b : Details) (rs : List Facts) → hand l g c a (rec n b ∷ rs) ≡ w ∷ hand (l + 1) g c a rs)
-    → (rs : List Facts) (k : ℕ → List Row) → ((l : ℕ) → hand l g c a rs ≡ k l) → (o : Option Details) (l : ℕ) → hand l g c a (opt n o rs) ≡ optRows w l o k
+opt-rows : (n : ℕ) (w : TreeRow) (g c a : ℕ) → ((l : ℕ) (b : Details) (rs : List Facts) → hand l g c a (rec n b ∷ rs) ≡ w ∷ hand (l + 1) g c a rs)
+    → (rs : List Facts) (k : ℕ → List TreeRow) → ((l : ℕ) → hand l g c a rs ≡ k l) → (o : Option Details) (l : ℕ) → hand l g c a (opt n o rs) ≡ optRows w l o k
 opt-rows n w g c a s rs k h none l = h l
 opt-rows n w g c a s rs k h (some b) l = s l b rs ∙ ap (λ x. w ∷ x) (h (l + 1))
 
 module _ (g c : ℕ) where
-  drug-rows : (d : Drug) (rs : List Facts) (k : ℕ → List Row) → Then g c rs k → Then g c (drugRecords d rs) (λ l. drugRows g c l d k)
+  drug-rows : (d : Drug) (rs : List Facts) (k : ℕ → List TreeRow) → Then g c rs k → Then g c (drugRecords d rs) (λ l. drugRows g c l d k)
   unfolding hand inGroup
   drug-rows d rs k h l a =
-      ap (λ x. row 201 g c 0 ∷ x)
-      (any-rows 281 (row 281 g c (l + 1)) g c (l + 1) (λ l b rs. refl) _ (λ m. anyRows (row 291 g c (l + 1)) m (d .r291s) k)
-      (any-rows 291 (row 291 g c (l + 1)) g c (l + 1) (λ l b rs. refl) rs k (λ m. h m (l + 1)) (d .r291s)) (d .r281s) (l + 1))
+      ap (λ x. treeRow 201 g c 0 ∷ x)
+      (any-rows 281 (treeRow 281 g c (l + 1)) g c (l + 1) (λ l b rs. refl) _ (λ m. anyRows (treeRow 291 g c (l + 1)) m (d .r291s) k)
+      (any-rows 291 (treeRow 291 g c (l + 1)) g c (l + 1) (λ l b rs. refl) rs k (λ m. h m (l + 1)) (d .r291s)) (d .r281s) (l + 1))
 
-  drugs-rows : (ds : List Drug) (rs : List Facts) (k : ℕ → List Row) → Then g c rs k → Then g c (drugsRecords ds rs) (λ l. drugsRows g c l ds k)
+  drugs-rows : (ds : List Drug) (rs : List Facts) (k : ℕ → List TreeRow) → Then g c rs k → Then g c (drugsRecords ds rs) (λ l. drugsRows g c l ds k)
   drugs-rows [] rs k h l a = h l a
   drugs-rows (d ∷ ds) rs k h l a = drug-rows d (drugsRecords ds rs) (λ m. drugsRows g c m ds k) (drugs-rows ds rs k h) l a
 
-  usage-rows : (y : Option Usage) (rs : List Facts) (k : ℕ → List Row) → Then g c rs k → Then g c (usageRecords y rs) (λ l. usageRows g c l y k)
+  usage-rows : (y : Option Usage) (rs : List Facts) (k : ℕ → List TreeRow) → Then g c rs k → Then g c (usageRecords y rs) (λ l. usageRows g c l y k)
   unfolding hand inGroup
   usage-rows none rs k h l a = h l a
-  usage-rows (some y) rs k h l a = ap (λ x. row 301 g c 0 ∷ x) (any-rows 311 (row 311 g c 0) g c a (λ l b rs. refl) rs k (λ m. h m a) (y .r311s) (l + 1))
+  usage-rows (some y) rs k h l a = ap (λ x. treeRow 301 g c 0 ∷ x) (any-rows 311 (treeRow 311 g c 0) g c a (λ l b rs. refl) rs k (λ m. h m a) (y .r311s) (l + 1))
 
-  rp-rows : (p : Prescription) (rs : List Facts) (k : ℕ → List Row) → Then g c rs k → Then g c (rpRecords p rs) (λ l. rpRows g c l p k)
+  rp-rows : (p : Prescription) (rs : List Facts) (k : ℕ → List TreeRow) → Then g c rs k → Then g c (rpRecords p rs) (λ l. rpRows g c l p k)
   unfolding hand inGroup
   rp-rows p rs k h =
-      drug-rows (p .drug) _ _ (drugs-rows (p .drugs) _ _ (usage-rows (p .usage) _ (λ l. anyRows (row 391 g c 0) l (p .r391s) k)
-      (λ l a. any-rows 391 (row 391 g c 0) g c a (λ l b rs. refl) rs k (λ m. h m a) (p .r391s) l)))
+      drug-rows (p .drug) _ _ (drugs-rows (p .drugs) _ _ (usage-rows (p .usage) _ (λ l. anyRows (treeRow 391 g c 0) l (p .r391s) k)
+      (λ l a. any-rows 391 (treeRow 391 g c 0) g c a (λ l b rs. refl) rs k (λ m. h m a) (p .r391s) l)))
 
-module _ (g : ℕ) (rs : List Facts) (k : ℕ → List Row) (h : ThenAll g rs k) where
+module _ (g : ℕ) (rs : List Facts) (k : ℕ → List TreeRow) (h : ThenAll g rs k) where
   plain-rows : (ps : List Prescription) → Then g 0 (plainRecords ps rs) (λ l. plainRows g l ps k)
   plain-rows [] l a = h l 0 a
   plain-rows (p ∷ ps) l a = rp-rows g 0 p (plainRecords ps rs) (λ m. plainRows g m ps k) (plain-rows ps) l a
@@ -115,15 +115,15 @@ module _ (g : ℕ) (rs : List Facts) (k : ℕ → List Row) (h : ThenAll g rs k)
           → hand l g c a (opt 55 o (rpRecords (y .prescription) (laterRecords ys rs))) ≡ underRows g c l o (y .prescription) (λ c′ m. laterRows g c′ m ys k)
       by none ih = rp-rows g c (y .prescription) (laterRecords ys rs) (λ m. laterRows g c m ys k) (ih c) l a
       by (some b) ih =
-          ap (λ x. row 55 g 0 0 ∷ x) (rp-rows g (l + 1) (y .prescription) (laterRecords ys rs) (λ m. laterRows g (l + 1) m ys k) (ih (l + 1)) (l + 1) a)
+          ap (λ x. treeRow 55 g 0 0 ∷ x) (rp-rows g (l + 1) (y .prescription) (laterRecords ys rs) (λ m. laterRows g (l + 1) m ys k) (ih (l + 1)) (l + 1) a)
 
   prescriptions-rows : (x : Prescriptions) → Then g 0 (prescriptionsRecords x rs) (λ l. prescriptionsRows g l x k)
   unfolding hand inGroup
   prescriptions-rows (withoutDoctors ps) l a = plain-rows ps l a
   prescriptions-rows (withDoctors b p ls) l a =
-      ap (λ x. row 55 g 0 0 ∷ x) (rp-rows g (l + 1) p (laterRecords ls rs) (λ m. laterRows g (l + 1) m ls k) (later-rows ls (l + 1)) (l + 1) a)
+      ap (λ x. treeRow 55 g 0 0 ∷ x) (rp-rows g (l + 1) p (laterRecords ls rs) (λ m. laterRows g (l + 1) m ls k) (later-rows ls (l + 1)) (l + 1) a)
 
-rest-rows : (g : ℕ) (x : Group) (rs : List Facts) (k : ℕ → List Row) → ThenAll g rs k → ThenAll g (restRecords x rs) (λ l. restRows g l x k)
+rest-rows : (g : ℕ) (x : Group) (rs : List Facts) (k : ℕ → List TreeRow) → ThenAll g rs k → ThenAll g (restRecords x rs) (λ l. restRows g l x k)
 unfolding hand inGroup
 rest-rows g x rs k h l c a =
     any-rows 401 (bare g 401) g c a (λ l b rs. refl) _ _
@@ -131,7 +131,7 @@ rest-rows g x rs k h l c a =
     (any-rows 501 (bare g 501) g c a (λ l b rs. refl) _ _
     (any-rows 601 (bare g 601) g c a (λ l b rs. refl) rs k (λ m. h m c a) (x .r601s)) (x .r501s)) (x .r411s)) (x .r401s) l
 
-group-rows : (g : ℕ) (x : Group) (rs : List Facts) (k : ℕ → List Row) → ThenAll (g + 1) rs k → (l c a : ℕ)
+group-rows : (g : ℕ) (x : Group) (rs : List Facts) (k : ℕ → List TreeRow) → ThenAll (g + 1) rs k → (l c a : ℕ)
     → hand l g c a (groupRecords x rs) ≡ groupRows (g + 1) l x k
 unfolding hand inGroup
 group-rows g x rs k h l c a =
@@ -142,7 +142,7 @@ group-rows g x rs k h l c a =
     (λ l. prescriptions-rows (g + 1) _ (λ l. restRows (g + 1) l x k) (rest-rows (g + 1) x rs k h) (x .prescriptions) l 0)
     (x .r51)) (x .r15)) (x .r11) (l + 1))
 
-groups-rows : (xs : List Group) (rs : List Facts) (k : ℕ → List Row) → ((g : ℕ) → ThenAll g rs k) → (g : ℕ)
+groups-rows : (xs : List Group) (rs : List Facts) (k : ℕ → List TreeRow) → ((g : ℕ) → ThenAll g rs k) → (g : ℕ)
     → ThenAll g (groupsRecords xs rs) (λ l. groupsRows g l xs k)
 groups-rows [] rs k h g l c a = h g l c a
 groups-rows (x ∷ xs) rs k h g l c a = group-rows g x (groupsRecords xs rs) (λ m. groupsRows (g + 1) m xs k) (groups-rows xs rs k h (g + 1)) l c a
@@ -172,7 +172,7 @@ index-is-the-trees s b t e w =
 -- ---- no doctor of two groups
 
 -- no doctor; or the doctor before, in the group before; or one named behind line l
-abbrev Owned : ℕ → ℕ → ℕ → Row → Type 0
+abbrev Owned : ℕ → ℕ → ℕ → TreeRow → Type 0
 Owned l g c w = (w .doctor ≡ 0) ⊎ (((w .doctor ≡ c) × (w .group ≡ g)) ⊎ (l < w .doctor))
 
 -- a row of an RP has the doctor and the group before
@@ -196,15 +196,15 @@ of-rp n g h = record {
     rp-grouped a b c d e = rw e (taut 3 (λ a b d. a || b || true || d) (λ a b d. true) refl a b d)
 
 first-owned : (r : Facts) (l g c x : ℕ)
-    → Owned l g c (row (r .number) (cond (inGroup (r .number)) (cond (eqb (r .number) 5) (g + 1) g) 0) (cond (inRp (r .number)) c 0) x)
+    → Owned l g c (treeRow (r .number) (cond (inGroup (r .number)) (cond (eqb (r .number) 5) (g + 1) g) 0) (cond (inRp (r .number)) c 0) x)
 first-owned r l g c x = by (inRp (r .number)) refl
   where
-    by : (b : Bool) → inRp (r .number) ≡ b → Owned l g c (row (r .number) (cond (inGroup (r .number)) (cond (eqb (r .number) 5) (g + 1) g) 0) (cond b c 0) x)
+    by : (b : Bool) → inRp (r .number) ≡ b → Owned l g c (treeRow (r .number) (cond (inGroup (r .number)) (cond (eqb (r .number) 5) (g + 1) g) 0) (cond b c 0) x)
     by true q = let k = of-rp (r .number) g q in inr (inl (refl, rw (k .grouped, k .no-group)))
     by false q = inl refl
 
 -- what is owned behind a record is owned before it
-before-owned : (n l g c : ℕ) (w : Row)
+before-owned : (n l g c : ℕ) (w : TreeRow)
     → Owned (l + 1) (cond (eqb n 5) (g + 1) g) (cond (eqb n 5) 0 (cond (eqb n 55) (l + 1) c)) w → Owned l g c w
 before-owned n l g c w (inl e) = inl e
 before-owned n l g c w (inr (inr h)) = inr (inr (omega arith))
@@ -215,14 +215,14 @@ before-owned n l g c w (inr (inl (p, q))) = by (eqb n 5) (eqb n 55) p q
     by false true p q = inr (inr (omega arith))
     by false false p q = inr (inl (p, q))
 
-hand-owned : (rs : List Facts) (l g c a : ℕ) (w : Row) → Among w (hand l g c a rs) → Owned l g c w
+hand-owned : (rs : List Facts) (l g c a : ℕ) (w : TreeRow) → Among w (hand l g c a rs) → Owned l g c w
 unfolding hand
 hand-owned (r ∷ rs) l g c a w here =
     first-owned r l g c (cond (member (281 ∷ 291 ∷ []) (r .number)) (cond (eqb (r .number) 5) 0 (cond (eqb (r .number) 201) (l + 1) a)) 0)
 hand-owned (r ∷ rs) l g c a w (there m) = before-owned (r .number) l g c w (hand-owned rs (l + 1) _ _ _ w m)
 
 -- the first row's doctor, met again behind it
-first-shares : (n l g c : ℕ) (y : Row) → c ≤ l → Owned (l + 1) (cond (eqb n 5) (g + 1) g) (cond (eqb n 5) 0 (cond (eqb n 55) (l + 1) c)) y
+first-shares : (n l g c : ℕ) (y : TreeRow) → c ≤ l → Owned (l + 1) (cond (eqb n 5) (g + 1) g) (cond (eqb n 5) 0 (cond (eqb n 55) (l + 1) c)) y
     → cond (inRp n) c 0 ≡ y .doctor → (cond (inRp n) c 0 ≡ 0 → ⊥) → cond (inGroup n) (cond (eqb n 5) (g + 1) g) 0 ≡ y .group
 first-shares n l g c y h o = by (inRp n) refl o
   where
@@ -238,7 +238,7 @@ doctor-low true b l c h = omega arith
 doctor-low false true l c h = omega arith
 doctor-low false false l c h = omega arith
 
-hand-shares : (rs : List Facts) (l g c a : ℕ) → c ≤ l → (x y : Row) → Among x (hand l g c a rs) → Among y (hand l g c a rs)
+hand-shares : (rs : List Facts) (l g c a : ℕ) → c ≤ l → (x y : TreeRow) → Among x (hand l g c a rs) → Among y (hand l g c a rs)
     → x .doctor ≡ y .doctor → (x .doctor ≡ 0 → ⊥) → x .group ≡ y .group
 unfolding hand
 hand-shares (r ∷ rs) l g c a h x y here here e z = refl
@@ -252,7 +252,7 @@ pub tree-shares-none : TreeSharesNone
 tree-shares-none t x y m n e z =
     hand-shares (records t) 1 0 0 0 (omega arith) x y (subst (Among x) (sym (tree-rows t)) m) (subst (Among y) (sym (tree-rows t)) n) e z
 
-among-map : (ahead behind : List Entry) (e : Entry) → Among (rowOf e) (map rowOf (ahead ++ e ∷ behind))
+among-map : (ahead behind : List Entry) (e : Entry) → Among (entryRow e) (map entryRow (ahead ++ e ∷ behind))
 among-map [] behind e = here
 among-map (a ∷ ahead) behind e = there (among-map ahead behind e)
 
@@ -260,6 +260,6 @@ pub no-shared-doctor : NoSharedDoctor
 no-shared-doctor s b e x y i j d z =
     let g = file-is-grammar s b .0 e .order in
     let rows-of = index-is-the-trees s b (g .tree) e (g .written) in
-    let in-tree : (w : Entry) → IsEntry s w → Among (rowOf w) (treeRows (g .tree)) =
-    λ w k. subst (Among (rowOf w)) (ap (map rowOf) (sym (k .is)) ∙ rows-of) (among-map (k .ahead) (k .behind) w) in
-    tree-shares-none (g .tree) (rowOf x) (rowOf y) (in-tree x i) (in-tree y j) d z
+    let in-tree : (w : Entry) → IsEntry s w → Among (entryRow w) (treeRows (g .tree)) =
+    λ w k. subst (Among (entryRow w)) (ap (map entryRow) (sym (k .is)) ∙ rows-of) (among-map (k .ahead) (k .behind) w) in
+    tree-shares-none (g .tree) (entryRow x) (entryRow y) (in-tree x i) (in-tree y j) d z

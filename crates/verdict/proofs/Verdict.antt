@@ -19,9 +19,9 @@ use Rattle.records.proofs.LineLaws.{reads, read-is, line-good}
 use Rattle.order.specs.declared.State.{State}
 use Rattle.order.specs.declared.Facts.{Facts}
 use Rattle.order.specs.declared.Moved.{Moved}
-use Rattle.order.specs.declared.Moved.the-variants.{Refused, On}
+use Rattle.order.specs.declared.Moved.the-variants.{Fault, On}
 use Rattle.order.specs.State.{start, advance, refusalOf, stepOf, finishOf, rpOf, doctorOf}
-use Rattle.order.specs.Run.{refusedAt, ranTo, ended, onward as orderOnward, runOf, after}
+use Rattle.order.specs.Run.{refusedAt, ranTo, atEnd, stepped as orderOnward, runOf, after}
 use Rattle.order.proofs.Laws.{taken, takes, provider-kept, provider-start}
 use Rattle.order.proofs.Run.{run-on, ran-after}
 use Rattle.notebook.specs.Facts.{factsOf}
@@ -55,7 +55,7 @@ unfolding accepts
 end-accepts s e = rw e
 
 ran-through : (rs : List Facts) (s : State) → accepts s rs ≡ true → (t : State) × (runOf s rs ≡ ranTo t)
-unfolding runOf ended
+unfolding runOf atEnd
 ran-through [] s h = (s, rw (accepts-end s h))
 ran-through (r ∷ rs) s h =
     let g = accepts-on s r rs h in
@@ -72,7 +72,7 @@ through-ran (r ∷ rs) s t e = by (stepOf s r) refl e (through-ran rs (advance s
   where
     by : (m : Moved) → stepOf s r ≡ m → orderOnward (s .line) (λ u. runOf u rs) m ≡ ranTo t
         → (runOf (advance s r) rs ≡ ranTo t → accepts (advance s r) rs ≡ true) → accepts s (r ∷ rs) ≡ true
-    by (Refused n) q f i = absurd (never f)
+    by (Fault n) q f i = absurd (never f)
     by (On u p d) q f i = let k = taken s r u p d q in on-accepts s r rs (k .good) (i (subst (λ v. runOf v rs ≡ ranTo t) (k .state) f))
 
 -- the machine and the grammar
@@ -120,7 +120,7 @@ unfolding stepLine
 taken-line st l t rp doctor e = go (eqb (lineFault (st .provider) l) 0) refl e
   where
     go : (x : Bool) → eqb (lineFault (st .provider) l) 0 ≡ x
-        → cond x (stepOf st (factsOf (recordOf l))) (Refused (lineFault (st .provider) l)) ≡ On t rp doctor → TakenLine st l t
+        → cond x (stepOf st (factsOf (recordOf l))) (Fault (lineFault (st .provider) l)) ≡ On t rp doctor → TakenLine st l t
     go true q e =
         let k = taken st (factsOf (recordOf l)) t rp doctor e in
         record { sound = eqb-true _ _ q; good = k .good; state = k .state; side = provider-kept st (factsOf (recordOf l)) t rp doctor e }
@@ -152,7 +152,7 @@ parse (r ∷ rs) l st recs q e = by (same r endMark) refl (isLine r) refl (λ t 
     step : FirstLine l r rs → (m : Moved) → stepLine st (text r) ≡ m
         → ((t : State) (u : List Record) → rows (flat rs) ≡ rs → recordsFrom t rs ≡ ok u → Parsed t (flat rs) u)
         → onward (st .line + 1) (recordOf (text r)) (λ t. recordsFrom t rs) m ≡ ok recs → Parsed st l recs
-    step f (Refused n) w ih e = absurd (no-refusal e)
+    step f (Fault n) w ih e = absurd (no-refusal e)
     step f (On t rp doctor) w ih e = on t f (taken-line st (text r) t rp doctor w) (recordsFrom t rs) refl (ih t) e
 
     by : (x : Bool) → same r endMark ≡ x → (y : Bool) → isLine r ≡ y

@@ -9,24 +9,24 @@ use Rattle.notebook.specs.Facts.{factsOf}
 use Rattle.notebook.specs.Notebook.{Notebook, readFile}
 use Rattle.notebook.specs.Index.{Entry, entriesOf}
 use Rattle.grammar.specs.Grammar.{Tree, records}
-use Rattle.grammar.specs.TreeRows.{Row, row, treeRows}
+use Rattle.grammar.specs.TreeRows.{TreeRow, treeRow, treeRows}
 
-abbrev pub rowOf : Entry → Row
-rowOf e = row (e .number) (e .group) (e .doctor) (e .drug)
+abbrev pub entryRow : Entry → TreeRow
+entryRow e = treeRow (e .number) (e .group) (e .doctor) (e .drug)
 
 -- the entries of an accepted file are those of every tree of its records
 abbrev pub IndexIsTheTrees : Type 0
-IndexIsTheTrees = (s : List ℕ) (b : Notebook) (t : Tree) → readFile s ≡ ok b → records t ≡ map factsOf (b .records) → map rowOf (entriesOf s) ≡ treeRows t
+IndexIsTheTrees = (s : List ℕ) (b : Notebook) (t : Tree) → readFile s ≡ ok b → records t ≡ map factsOf (b .records) → map entryRow (entriesOf s) ≡ treeRows t
 
 -- a row of the list
-pub data Among (x : Row) : List Row → Type 0 where
-  here : {ws : List Row} → Among x (x ∷ ws)
-  there : {w : Row} {ws : List Row} → Among x ws → Among x (w ∷ ws)
+pub data Among (x : TreeRow) : List TreeRow → Type 0 where
+  here : {ws : List TreeRow} → Among x (x ∷ ws)
+  there : {w : TreeRow} {ws : List TreeRow} → Among x ws → Among x (w ∷ ws)
 
 -- in every tree two records under one doctor are of one group
 abbrev pub TreeSharesNone : Type 0
 TreeSharesNone =
-    (t : Tree) (x y : Row) → Among x (treeRows t) → Among y (treeRows t) → x .doctor ≡ y .doctor → (x .doctor ≡ 0 → ⊥) → x .group ≡ y .group
+    (t : Tree) (x y : TreeRow) → Among x (treeRows t) → Among y (treeRows t) → x .doctor ≡ y .doctor → (x .doctor ≡ 0 → ⊥) → x .group ≡ y .group
 
 -- an entry of the file
 pub record IsEntry (s : List ℕ) (e : Entry) : Type 0 where

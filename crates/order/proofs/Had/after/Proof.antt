@@ -1,5 +1,5 @@
 -- `Had::after` meets its contract: each arm of the `match` sets the fields that its record changes. Assumes nothing.
-use Rattle.order.specs.State.{hadAfter, none}
+use Rattle.order.specs.State.{hadAfter, nothingYet}
 use borrow.Author.Tests.{ne-eqb}
 use Rattle.order.proofs.Had.after.Statement.{statement}
 use Rattle.order.proofs.Had.after.Tie as tie
@@ -8,7 +8,7 @@ none-requires : tie.Need-none-requires
 none-requires c κs = tt
 
 returns : tie.Need-returns
-unfolding hadAfter none
+unfolding hadAfter nothingYet
 returns c = simp (c .before .match .keys1, c .none .ensures)
 
 returns-2 : tie.Need-returns-2

@@ -1,11 +1,11 @@
 -- `Had::none` meets its contract. Assumes nothing.
-use Rattle.order.specs.State.{none}
+use Rattle.order.specs.State.{nothingYet}
 use mathlib.Core.Path.{refl}
 use Rattle.order.proofs.Had.none.Statement.{statement}
 use Rattle.order.proofs.Had.none.Tie as tie
 
 returns : tie.Need-returns
-unfolding none
+unfolding nothingYet
 returns c = refl
 
 pub none-spec : {M : Type 1} → statement M

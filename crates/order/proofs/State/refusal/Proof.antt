@@ -1,7 +1,7 @@
 -- `State::refusal` meets its contract, by the law of each number. Assumes nothing.
 use Rattle.order.proofs.ByNumber.{of-1, of-2, of-3, of-4, of-11, of-15, of-51, of-281, of-291, of-311, of-391, of-401, of-411, of-501, of-601, of-other}
 use Rattle.rules.proofs.Rows.{no-row}
-use Rattle.rules.specs.Places.{rows, mayFollow}
+use Rattle.rules.specs.Places.{pattern, mayFollow}
 use mathlib.Core.Path.{refl, sym, _∙_}
 use borrow.Author.Tests.{ne-eqb}
 use borrow.Author.Needs.{needs}
@@ -200,7 +200,7 @@ unfolding mayFollow
 returns-21 c =
     let d3 = c .before .before .before in
     let n = d3 .args .r .number in
-    let h = no-row (Unit {0}) n (rows (d3 .args .self .place)) (c .match .rest) .1 in
+    let h = no-row (Unit {0}) n (pattern (d3 .args .self .place)) (c .match .rest) .1 in
     sym (of-other (d3 .args .self) (d3 .args .r) h (ne-eqb n 301 (c .match .rest .0 .0 .0 .0 .0 .0 .0 .1)))
 
 pub refusal-spec : {M : Type 1} → statement M
