@@ -290,7 +290,7 @@ module _ (s : List ℕ) (b : Notebook) (e : readFile s ≡ ok b) where
 
   in-pattern : Pattern (start (b .provider) .place) (b .records)
   unfolding start places
-  in-pattern = ruled-in-pattern refl ruled
+  in-pattern = ruled-pattern refl ruled
 
   numbers : Numbers false (partsOf (b .records))
   unfolding start inGroup
