@@ -23,8 +23,8 @@ use Rattle.notebook.specs.Canonical.{canonicalFile, canonicalResult}
 use Rattle.division.specs.Marks.{validID}
 use Rattle.division.specs.Cut.{cutting, listed, found, cutList, cutResult}
 use Rattle.division.specs.Join.{joinedFile, joinFile, joinResult}
-use Rattle.refusals.specs.Refusals.{Call, check, index, canonical, cut, join, resultOf, lent, limit, checkNumbers, writingNumbers, cutNumbers, joinNumbers, numbersGiven}
-use Rattle.refusals.specs.Refusals.{given, Given, IsAnswer, gives, refuses, IsResult, Always-answered, Refusal-keeps, Zero-is-a-result, Large-first}
+use Rattle.refusals.specs.Refusals.{Call, check, index, canonical, cut, join, about, checkNumbers, writingNumbers, cutNumbers, joinNumbers}
+use Rattle.refusals.specs.Refusals.{Given, IsAnswer, gives, refuses, IsResult, Always-answered, Refusal-keeps, Zero-is-a-result, Large-first}
 use Rattle.refusals.proofs.Reading.{Refuses, without-line, file-refuses}
 use Rattle.refusals.proofs.Joining.{join-refuses}
 
@@ -84,7 +84,7 @@ always-answered (join s out) = answers (joinResult s) out refl (mapped _ _ (join
 pub zero-is-a-result : Zero-is-a-result
 zero-is-a-result x e = go (always-answered x) e
   where
-    go : {r : Reply} → IsAnswer (numbersGiven x) (given x) r → r .refusal ≡ 0 → IsResult r
+    go : {r : Reply} → IsAnswer (about x .numbers) (about x .given) r → r .refusal ≡ 0 → IsResult r
     go (gives {a = a} {b = b} {c = c}) e = record { a = a; b = b; c = c; is = refl }
     go (refuses h) e = absurd (omega (arith, h .some))
 
@@ -99,7 +99,7 @@ keeps x d h = go (fitting x d) h
     go (refused n line) h = refl
 
 pub refusal-keeps : Refusal-keeps
-refusal-keeps x h = keeps (resultOf x) (lent x) h
+refusal-keeps x h = keeps (about x .result) (about x .lent) h
 
 -- ---- number 1
 
@@ -111,7 +111,7 @@ large-pieces : (s : List ℕ) → 131072 < length s → joinFile s ≡ refused 1
 unfolding joinFile joinedFile
 large-pieces s h = rw (lt-leb (length s) 131072 h)
 
-large-result : (x : Call) → limit x < length (given x) → resultOf x ≡ refused 1 0
+large-result : (x : Call) → about x .limit < length (about x .given) → about x .result ≡ refused 1 0
 unfolding checkResult indexResult canonicalFile canonicalResult cutResult cutList joinResult
 large-result (check f) h = rw (large f (omega arith))
 large-result (index f out) h = rw (large f (omega arith))
@@ -120,4 +120,4 @@ large-result (cut f c id out) h = rw (large f (omega arith))
 large-result (join s out) h = rw (large-pieces s (omega arith))
 
 pub large-first : Large-first
-large-first x h = sym (ap replyOf (gives-refusal (lent x) (large-result x h) .answer))
+large-first x h = sym (ap replyOf (gives-refusal (about x .lent) (large-result x h) .answer))

@@ -9,7 +9,7 @@ use Rattle.lists.specs.Lists.{bytes, all, member}
 use Rattle.characters.specs.Rows.{endMark}
 use Rattle.notebook.specs.Samples.{smallFile}
 use Rattle.division.specs.Examples.{lines, ident}
-use Rattle.refusals.specs.Refusals.{Call, check, index, canonical, cut, join, replied, given, lineEnds, checkNumbers, writingNumbers, cutNumbers, joinNumbers}
+use Rattle.refusals.specs.Refusals.{Call, check, index, canonical, cut, join, about, replied, lineEnds, checkNumbers, writingNumbers, cutNumbers, joinNumbers}
 
 -- ---- files, with the refusal that they have in every call
 
@@ -130,7 +130,7 @@ joins =
 
 abbrev pub holds : Example → Bool
 holds e =
-    (eqb (replied (e .call) .refusal) (e .number) && eqb (replied (e .call) .line) (e .line)) && eqb (lineEnds (given (e .call))) (e .ends)
+    (eqb (replied (e .call) .refusal) (e .number) && eqb (replied (e .call) .line) (e .line)) && eqb (lineEnds (about (e .call) .given)) (e .ends)
 
 abbrev pub allHold : List Example → Bool
 allHold [] = true

@@ -27,37 +27,6 @@ pub data Call : Type 0 where
   cut : (file : List ℕ) (capacity : ℕ) (id out : List ℕ) → Call
   join : (pieces out : List ℕ) → Call
 
--- what the call has to give
-abbrev pub resultOf : Call → Res Result
-resultOf (check f) = checkResult f
-resultOf (index f out) = indexResult f
-resultOf (canonical f out) = canonicalResult f
-resultOf (cut f c id out) = cutResult f c id
-resultOf (join s out) = joinResult s
-
--- the lent buffer at entry; check is lent none
-abbrev pub lent : Call → List ℕ
-lent (check f) = []
-lent (index f out) = out
-lent (canonical f out) = out
-lent (cut f c id out) = out
-lent (join s out) = out
-
--- the reply, and the lent buffer at exit, as the contract promises them
-abbrev pub replied : Call → Reply
-replied x = replyTo (resultOf x) (lent x)
-
-abbrev pub leftIn : Call → List ℕ
-leftIn x = outputOf (resultOf x) (lent x)
-
--- the bytes whose lines are counted: the file, or the pieces as given
-abbrev pub given : Call → List ℕ
-given (check f) = f
-given (index f out) = f
-given (canonical f out) = f
-given (cut f c id out) = f
-given (join s out) = s
-
 -- ---- the numbers that a call gives
 
 -- 1 to 16 of the table
@@ -77,12 +46,31 @@ cutNumbers = checkNumbers ++ 17 ∷ 18 ∷ 20 ∷ []
 abbrev pub joinNumbers : List ℕ
 joinNumbers = 1 ∷ 2 ∷ 4 ∷ 5 ∷ 7 ∷ 8 ∷ 9 ∷ 10 ∷ 11 ∷ 12 ∷ 13 ∷ 14 ∷ 15 ∷ 16 ∷ 19 ∷ 20 ∷ []
 
-abbrev pub numbersGiven : Call → List ℕ
-numbersGiven (check f) = checkNumbers
-numbersGiven (index f out) = writingNumbers
-numbersGiven (canonical f out) = writingNumbers
-numbersGiven (cut f c id out) = cutNumbers
-numbersGiven (join s out) = joinNumbers
+-- ---- what is said of the calls, a row a call
+
+-- what it has to give; the lent buffer at entry; the bytes whose lines are counted: the file, or the pieces as given; the numbers that it gives; how many of
+-- these bytes it takes
+pub record About : Type 0 where
+  pub result : Res Result
+  pub lent : List ℕ
+  pub given : List ℕ
+  pub numbers : List ℕ
+  pub limit : ℕ
+
+-- check is lent no buffer; "A file has at most 65,536 bytes"; "Joining takes such bytes, at most 131,072"
+abbrev pub about : Call → About
+about (check f) = record { result = checkResult f; lent = []; given = f; numbers = checkNumbers; limit = 65536 }
+about (index f out) = record { result = indexResult f; lent = out; given = f; numbers = writingNumbers; limit = 65536 }
+about (canonical f out) = record { result = canonicalResult f; lent = out; given = f; numbers = writingNumbers; limit = 65536 }
+about (cut f c id out) = record { result = cutResult f c id; lent = out; given = f; numbers = cutNumbers; limit = 65536 }
+about (join s out) = record { result = joinResult s; lent = out; given = s; numbers = joinNumbers; limit = 131072 }
+
+-- the reply, and the lent buffer at exit, as the contract promises them
+abbrev pub replied : Call → Reply
+replied x = replyTo (about x .result) (about x .lent)
+
+abbrev pub leftIn : Call → List ℕ
+leftIn x = outputOf (about x .result) (about x .lent)
 
 -- ---- the lines
 
@@ -118,11 +106,11 @@ pub data IsAnswer (numbers s : List ℕ) : Reply → Type 0 where
 -- "The answer to every input, of any length and content, is a result or one refusal from document 01 with its line. It always comes": the functions of
 -- `gateway` are proved to end, for any input, with this reply
 abbrev pub Always-answered : Type 0
-Always-answered = (x : Call) → IsAnswer (numbersGiven x) (given x) (replied x)
+Always-answered = (x : Call) → IsAnswer (about x .numbers) (about x .given) (replied x)
 
 -- "a refusal leaves all lent memory as lent"
 abbrev pub Refusal-keeps : Type 0
-Refusal-keeps = (x : Call) → (replied x .refusal ≡ 0 → ⊥) → leftIn x ≡ lent x
+Refusal-keeps = (x : Call) → (replied x .refusal ≡ 0 → ⊥) → leftIn x ≡ about x .lent
 
 -- no refusal has the number 0: a reply with refusal 0 is a result
 pub record IsResult (r : Reply) : Type 0 where
@@ -136,13 +124,5 @@ Zero-is-a-result = (x : Call) → replied x .refusal ≡ 0 → IsResult (replied
 
 -- ---- "Number 1 comes first, with line 0"
 
--- "A file has at most 65,536 bytes"; "Joining takes such bytes, at most 131,072"
-abbrev pub limit : Call → ℕ
-limit (check f) = 65536
-limit (index f out) = 65536
-limit (canonical f out) = 65536
-limit (cut f c id out) = 65536
-limit (join s out) = 131072
-
 abbrev pub Large-first : Type 0
-Large-first = (x : Call) → limit x < length (given x) → replied x ≡ refusal 1 0
+Large-first = (x : Call) → about x .limit < length (about x .given) → replied x ≡ refusal 1 0
