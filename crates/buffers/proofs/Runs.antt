@@ -1,6 +1,6 @@
 -- Laws of a run of stores, `sets` of lib.Seq: one writing after another, a loop's turn, and what was written read back; and the ways
 -- through the code of this crate. Stores past the end do nothing, so few laws ask for room. Assumes nothing.
-use Prim.Native.Nat.{ℕ, zero, suc, _+_, _-_, _/_, _%_, _≤_, _<_}
+use Prim.Native.Nat.{ℕ, suc, _+_, _/_, _%_, _≤_, _<_}
 use native.Mathlib.Nat.{add-zero, add-suc, suc-add, zero-add}
 use native.Mathlib.Numerals.{add-one}
 use native.Mathlib.Omega.{arith}

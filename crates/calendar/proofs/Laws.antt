@@ -1,11 +1,11 @@
 -- The laws of the calendar's definitions. Assumes nothing.
-use Prim.Native.Nat.{ℕ, _+_, _-_, _*_, _/_, _%_, _<_, _≤_, suc}
+use Prim.Native.Nat.{ℕ, _+_, _-_, _*_, _/_, _%_, _≤_}
 use mathlib.Core.Path.{_≡_, refl, ap, _∙_, sym, subst}
-use mathlib.Core.Bool.{Bool, true, false, cond, _&&_}
+use mathlib.Core.Bool.{true, _&&_}
 use mathlib.Core.List.{List, [], _∷_}
 use native.Mathlib.Nat.{div-div-eq-div-mul}
 use native.Mathlib.Omega.{arith}
-use borrow.Author.Tests.{le-leb, lt-leb, leb-true, leb-false, eqb-true}
+use borrow.Author.Tests.{le-leb, eqb-true}
 use lib.Dec.{T, leb, leb→le, eqb}
 use lib.ListN.{length, getD, drop}
 use Rattle.lists.specs.Lists.{all}
@@ -15,11 +15,11 @@ use Rattle.eras.specs.declared.Era.{Era}
 use Rattle.calendar.specs.declared.Day.{Day}
 use Rattle.calendar.specs.declared.DateRead.{DateRead}
 use Rattle.calendar.specs.declared.DateRead.the-variants.{Date, NotADate}
-use Rattle.eras.specs.Era.{sixDigits, eraOf, eraOn, writeDay}
+use Rattle.eras.specs.Era.{sixDigits, eraOn, writeDay}
 use Rattle.eras.specs.Day.{firstDay, lastDay, isDay}
 use Rattle.calendar.specs.Day.{gregorian}
 use Rattle.calendar.specs.Era.{inEra, fromEra, readDay}
-use Rattle.eras.proofs.Eras.{Good, good-day, before-le, Named, day-named, and-l, and-r}
+use Rattle.eras.proofs.Eras.{good-day, before-le, day-named, and-l, and-r}
 
 digit-step : (n x : ℕ) (s : List ℕ) → value n ((x % 10 + 48) ∷ s) ≡ value (10 * n + x % 10) s
 unfolding value

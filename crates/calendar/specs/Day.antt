@@ -2,7 +2,6 @@
 -- The day that a number names, as the code answers it. The rule and the range: eras, specs/Day.antt.
 use Prim.Native.Nat.{ℕ}
 use mathlib.Core.Bool.{cond}
-use Rattle.calendar.specs.declared.Day.{Day}
 use Rattle.calendar.specs.declared.DateRead.{DateRead}
 use Rattle.calendar.specs.declared.DateRead.the-variants.{Date, NotADate}
 use Rattle.eras.specs.Day.{isDay}

@@ -9,7 +9,7 @@ use Rattle.lists.specs.Lists.{all}
 use Rattle.digits.specs.Digits.{isDigit, value}
 use Rattle.eras.specs.declared.Era.{Era}
 use Rattle.calendar.specs.declared.DateRead.{DateRead}
-use Rattle.calendar.specs.declared.DateRead.the-variants.{Date, NotADate}
+use Rattle.calendar.specs.declared.DateRead.the-variants.{NotADate}
 use Rattle.eras.specs.Era.{eraOf}
 use Rattle.calendar.specs.Day.{gregorian}
 

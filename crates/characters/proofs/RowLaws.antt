@@ -1,19 +1,17 @@
 -- Rows are the file, a whole line is the first row, and what is no whole line is a row that is no line. Assumes nothing.
-use Prim.Native.Nat.{ℕ, zero, suc, _+_, _-_, _≤_, _<_}
-use native.Mathlib.Nat.{add-sub-cancel-left}
-use mathlib.Core.Path.{_≡_, refl, sym, ap, ap₂, _∙_, subst}
-use mathlib.Core.Bool.{Bool, true, false, cond, not, _&&_, _||_, false≢true, true≢false}
-use mathlib.Core.Logic.{_⊎_}
+use Prim.Native.Nat.{ℕ, _+_, _-_, _≤_, _<_}
+use mathlib.Core.Path.{_≡_, refl, sym, ap, ap₂, _∙_}
+use mathlib.Core.Bool.{Bool, true, false, cond, not, _&&_, _||_, false≢true}
 use mathlib.Core.List.{List, [], _∷_, _++_, append-assoc, nil≢cons, head-eq-of-cons-eq, tail-eq-of-cons-eq}
 use native.Mathlib.Omega.{arith}
-use borrow.Author.Tests.{eq-eqb, ne-eqb, eqb-true}
-use lib.Dec.{leb, eqb}
-use lib.ListN.{length, take, drop, getD, length-drop, length-append}
-use lib.Seq.{drop-drop, getD-drop, getD-append-seam, getD-append-add}
-use Rattle.lists.specs.Lists.{all, same, upTo}
+use borrow.Author.Tests.{eqb-true}
+use lib.Dec.{eqb}
+use lib.ListN.{length, take, drop, getD, length-append}
+use lib.Seq.{drop-drop, getD-append-seam, getD-append-add}
+use Rattle.lists.specs.Lists.{same}
 use Rattle.lists.specs.Searching.{part}
-use Rattle.lists.proofs.Tests.{both, neither, same-refl, same-true}
-use Rattle.lists.proofs.Cuts.{drop-step, drop-end, two-on, last-on, take-upTo, upTo-le, upTo-split}
+use Rattle.lists.proofs.Tests.{neither, same-refl, same-true}
+use Rattle.lists.proofs.Cuts.{two-on, take-upTo, upTo-split}
 use Rattle.characters.specs.Text.{allChars, isStop, text}
 use Rattle.characters.specs.Scanning.{clean, WholeLine, BrokenRow}
 use Rattle.characters.specs.Rows.{consRow, rows, flat, lineEnd, isLine, endMark}

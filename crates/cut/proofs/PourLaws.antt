@@ -1,6 +1,6 @@
 -- The writing of the pieces: the record 911, one piece, and the loop over the pieces. What is left from a piece on, written behind what is
 -- written, gives all pieces. Assumes nothing.
-use Prim.Native.Nat.{ℕ, suc, _+_, _-_, _≤_, _<_}
+use Prim.Native.Nat.{ℕ, _+_, _-_, _≤_, _<_}
 use native.Mathlib.Omega.{arith}
 use native.Mathlib.Numerals.{add-one}
 use mathlib.Core.Path.{_≡_, refl, sym, ap, _∙_}
@@ -25,7 +25,7 @@ use Rattle.packing.specs.Widths.{over}
 use Rattle.division.specs.Marks.{markLine, markRow}
 use Rattle.cut.specs.Loops.{OverOf, RunAt, runsAt, pastLast, ends, numberedAs, piecesAs, poured, pieceAs, MarkRoom, PieceRoom, Ready}
 use Rattle.cut.proofs.RowLaws.{part-length}
-use Rattle.cut.proofs.CountLaws.{no-some, runs-last, runs-next, ends-last, ends-next, ends-stuck, ends-from}
+use Rattle.cut.proofs.CountLaws.{no-some, runs-last, runs-next, ends-next, ends-stuck, ends-from}
 
 -- ---- the record 911
 

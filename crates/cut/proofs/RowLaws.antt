@@ -10,9 +10,9 @@ use lib.ListN.{length, take, drop, getD, length-drop, length-append}
 use lib.Seq.{length-take-le, drop-drop, getD-drop}
 use Rattle.lists.specs.Lists.{upTo, is}
 use Rattle.lists.specs.Searching.{part, findFrom}
-use Rattle.lists.proofs.Cuts.{drop-step, drop-end, rest-all, upTo-go}
+use Rattle.lists.proofs.Cuts.{drop-end, rest-all, upTo-go}
 use Rattle.characters.specs.Rows.{consRow, rows, flat}
-use Rattle.characters.proofs.RowLaws.{First, first-row, flat-rows}
+use Rattle.characters.proofs.RowLaws.{first-row, flat-rows}
 use Rattle.packing.specs.Packing.{total}
 use Rattle.cut.specs.Loops.{firstLength, RunAt}
 

@@ -1,17 +1,17 @@
 -- A list is spelled as n exactly where its plain number is n: this one law turns every comparison of bytes with a listed number
 -- into a comparison of numbers. Assumes nothing.
-use Prim.Native.Nat.{ℕ, zero, suc, _+_, _*_, _-_, _/_, _%_, _≤_, _<_}
-use mathlib.Core.Path.{_≡_, refl, sym, ap, _∙_}
-use mathlib.Core.Bool.{Bool, true, false, cond, _&&_, _||_, or-false}
+use Prim.Native.Nat.{ℕ, zero, suc, _+_, _*_, _-_, _/_, _%_, _≤_}
+use mathlib.Core.Path.{_≡_, refl, ap, _∙_}
+use mathlib.Core.Bool.{Bool, true, false, cond, _&&_}
 use mathlib.Core.Option.{Option, none, some}
 use mathlib.Core.List.{List, [], _∷_}
 use native.Mathlib.Omega.{arith}
 use borrow.Author.Tests.{leb-true, le-leb, lt-leb, eqb-true, eqb-false}
 use lib.Dec.{leb, eqb}
-use lib.ListN.{length, getD}
-use Rattle.lists.specs.Lists.{all, same}
+use lib.ListN.{getD}
+use Rattle.lists.specs.Lists.{same}
 use Rattle.lists.proofs.Tests.{both, same-refl, same-true, below, below-at}
-use Rattle.digits.specs.Digits.{isDigit, value, number, spell, digitCount}
+use Rattle.digits.specs.Digits.{isDigit, value, number, spell}
 use Rattle.digits.specs.Short.{orThousand, shortValue, plainNumber}
 use Rattle.digits.proofs.Numbers.{digit-is, Digits, number-is}
 

@@ -2,7 +2,7 @@
 -- The call cut. Document 01, "Cutting and joining": "Piece k is line 1, a run of canonical records, and 911,ID,n,k"; "Pieces are written one
 -- after another; the result holds their count and total length"; "Cutting: 1–16, 17, 18, 20".
 use Prim.Native.Nat.{ℕ, suc}
-use mathlib.Core.Bool.{Bool, true, false, cond}
+use mathlib.Core.Bool.{Bool, cond}
 use mathlib.Core.Option.{Option, none, some}
 use mathlib.Core.List.{List, [], _∷_, _++_}
 use lib.ListN.{length}

@@ -4,7 +4,7 @@
 -- once"; "The joined file is line 1 and the records by k, without 911 and 1Ah; it is then checked as a file". "Joining: 1 and 2 on the input,
 -- 19, then 1–16 on the joined file, then 20".
 use Prim.Native.Nat.{ℕ, zero, suc}
-use mathlib.Core.Bool.{Bool, true, false, cond, not, _&&_, Bool·beq}
+use mathlib.Core.Bool.{Bool, true, cond, not, _&&_, Bool·beq}
 use mathlib.Core.Option.{Option, none, some}
 use mathlib.Core.List.{List, [], _∷_, _++_}
 use lib.Dec.{leb, eqb}

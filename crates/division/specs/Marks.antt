@@ -1,7 +1,7 @@
 -- Definitions, to be believed.
 -- The record 911 of a piece: `911,ID,n,k`. Document 01, "Cutting and joining"; 15-106 3.2.9, record 911.
 use Prim.Native.Nat.{ℕ}
-use mathlib.Core.Bool.{Bool, true, false, cond, _&&_}
+use mathlib.Core.Bool.{Bool, cond, _&&_}
 use mathlib.Core.Option.{Option, none, some}
 use mathlib.Core.List.{List, [], _∷_}
 use lib.Dec.{eqb}

@@ -1,9 +1,9 @@
 -- Definitions, to be believed.
 -- Days: the Gregorian rule, and the range. A day is the number YYYYMMDD, so the order of the numbers is that of the days.
 -- Document 01, kind D: "a real Gregorian day"; 15-106 3.2.9 (dates of the records); the range is 01's own ("here").
-use Prim.Native.Nat.{ℕ, _+_, _/_, _%_}
+use Prim.Native.Nat.{ℕ, _/_, _%_}
 use mathlib.Core.List.{List, [], _∷_}
-use mathlib.Core.Bool.{Bool, true, false, not, cond, _&&_, _||_}
+use mathlib.Core.Bool.{Bool, not, cond, _&&_, _||_}
 use lib.Dec.{eqb, leb}
 use lib.ListN.{getD}
 

@@ -3,10 +3,8 @@
 -- them.
 use Prim.Native.Nat.{ℕ}
 use mathlib.Core.Bool.{Bool, true, false}
-use mathlib.Core.List.{List, [], _∷_, map}
+use mathlib.Core.List.{List, [], _∷_}
 use Rattle.lists.specs.Lists.{bytes}
-use Rattle.eras.specs.Day.{leap}
-use Rattle.eras.specs.Era.{writeDay}
 
 -- "a real Gregorian day": 1900 and 2100 are no leap years, 2000 is one
 abbrev pub years : List ℕ

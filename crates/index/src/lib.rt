@@ -1,7 +1,6 @@
 // The index of a file. The check comes first and gives the count, so that nothing is written where the answer is a refusal; then the
 // lines are walked again and each record's six numbers written. Definitions: notebook, specs/Index.antt. A further number of an entry moves
 // together: `Entry`, `entryOf`, `numbers`, and the writer of crate buffers.
-ghost use mathlib.Core.Path.{_≡_};
 ghost use lib.ListN.{drop};
 ghost use Prim.Native.Nat.{_-_};
 ghost use Rattle.characters.specs.Rows.{rows};

@@ -4,8 +4,8 @@ use mathlib.Core.Path.{_≡_, refl, sym, _∙_}
 use mathlib.Core.Bool.{Bool, true, false, _&&_, false≢true}
 use mathlib.Core.List.{List, [], _∷_}
 use native.Mathlib.Omega.{arith}
-use borrow.Author.Tests.{le-leb, eqb-true}
-use lib.Dec.{leb, eqb}
+use borrow.Author.Tests.{eqb-true}
+use lib.Dec.{eqb}
 use lib.ListN.{length, getD}
 use Rattle.lists.specs.Lists.{member}
 use Rattle.lists.proofs.Tests.{both, below, below-at, zero-unless}
@@ -15,7 +15,7 @@ use Rattle.digits.proofs.Numbers.{digit-is}
 use Rattle.records.specs.Items.{isDecimal, fault}
 use Rattle.items.specs.Codes.{setOf, kindOf}
 use Rattle.items.specs.Ends.{DigitAt, DigitFits}
-use Rattle.items.proofs.DispatchLaws.{rp-fault, kind-a, kind-r, kind-w, kind-q, kind-set}
+use Rattle.items.proofs.DispatchLaws.{kind-a, kind-w, kind-q, kind-set}
 
 -- ---- a digit at a position
 

@@ -1,11 +1,11 @@
 -- The fault of an item by its code: one law for each way through the dispatch. Assumes nothing.
-use Prim.Native.Nat.{ℕ, zero, suc, _/_, _%_, _≤_, _<_}
+use Prim.Native.Nat.{ℕ, _/_, _%_, _≤_, _<_}
 use mathlib.Core.Path.{_≡_, refl, sym, ap, _∙_}
 use mathlib.Core.Bool.{Bool, true, false, cond, not, _&&_, _||_}
 use mathlib.Core.Option.{Option, none, some}
 use mathlib.Core.List.{List, [], _∷_}
 use native.Mathlib.Omega.{arith}
-use borrow.Author.Tests.{le-leb, lt-leb, eq-eqb, ne-eqb}
+use borrow.Author.Tests.{le-leb, lt-leb, ne-eqb}
 use lib.Dec.{leb, eqb}
 use lib.ListN.{length}
 use Rattle.lists.specs.Lists.{all, member, unless}
@@ -17,7 +17,7 @@ use Rattle.calendar.specs.declared.DateRead.{DateRead}
 use Rattle.calendar.specs.declared.DateRead.the-variants.{Date, NotADate}
 use Rattle.calendar.specs.declared.Day.{Day}
 use Rattle.calendar.specs.Era.{readDay}
-use Rattle.records.specs.Table.{Need, always, fromProvider, optional, required}
+use Rattle.records.specs.Table.{always, fromProvider, optional, required}
 use Rattle.records.specs.Items.{edge, sized, oneWidth, isCode, prefecture, seven, postal, isDecimal, numberFault, dayFault, fault}
 use Rattle.records.specs.Records.{itemFault}
 use Rattle.items.specs.Codes.{setOf, kindOf, needOf, itemOf}

@@ -1,11 +1,10 @@
 -- One to three digits at a position, and their value: the ways through `spelled_at` and `number_item`. Assumes nothing.
-use Prim.Native.Nat.{ℕ, zero, suc, _+_, _-_, _*_, _/_, _%_, _≤_, _<_}
+use Prim.Native.Nat.{ℕ, _+_, _-_, _*_, _/_, _%_, _≤_, _<_}
 use mathlib.Core.Path.{_≡_, refl, sym, ap, _∙_, subst}
-use mathlib.Core.Bool.{Bool, true, false, cond, not, _&&_}
+use mathlib.Core.Bool.{Bool, true, false, not}
 use mathlib.Core.List.{List, [], _∷_, _++_}
 use native.Mathlib.Omega.{arith}
 use borrow.Author.Tests.{le-leb}
-use lib.Dec.{leb, eqb}
 use lib.ListN.{length, getD}
 use Rattle.lists.specs.Lists.{all}
 use Rattle.lists.specs.Searching.{part}
@@ -14,7 +13,6 @@ use Rattle.lists.proofs.Parts.{part-length, part-none, part-more}
 use Rattle.digits.specs.Digits.{isDigit, value, number}
 use Rattle.digits.specs.Short.{shortValue}
 use Rattle.digits.proofs.Numbers.{digit-is}
-use Rattle.scanning.specs.Scans.{RunOf}
 use Rattle.scanning.proofs.RunLaws.{run-none}
 use Rattle.items.specs.declared.Spelled.{Spelled}
 use Rattle.items.specs.Ends.{EndOf, CodeRun, SpelledAt}

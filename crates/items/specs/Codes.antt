@@ -1,7 +1,7 @@
 -- Vocabulary of the code.
 -- An item of the table as one number, as the code holds it: need + 4 × kind + 64 × (most bytes, or which set of values).
-use Prim.Native.Nat.{ℕ, zero, suc, _/_, _%_}
-use mathlib.Core.Bool.{Bool, true, false, cond}
+use Prim.Native.Nat.{ℕ, _/_, _%_}
+use mathlib.Core.Bool.{cond}
 use mathlib.Core.List.{List, [], _∷_}
 use lib.Dec.{eqb}
 use lib.ListN.{getD}

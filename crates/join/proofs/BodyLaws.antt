@@ -1,5 +1,5 @@
 -- The rows of a piece as a run of bytes, with or without a record 911 at its end. Assumes nothing.
-use Prim.Native.Nat.{ℕ, zero, suc, _+_, _-_, _≤_}
+use Prim.Native.Nat.{ℕ, _+_, _-_, _≤_}
 use mathlib.Core.Path.{_≡_, refl, sym, ap, ap₂, _∙_, subst}
 use mathlib.Core.Bool.{Bool, true, false, cond, not, _&&_, Bool·beq, false≢true, and-false}
 use mathlib.Core.Option.{Option, none, some}
@@ -9,8 +9,8 @@ use borrow.Author.Tests.{eq-eqb, ne-eqb, eqb-true, eqb-false, not-true, not-fals
 use mir.Val.{Fits}
 use mir.Syntax.{w64}
 use lib.Dec.{eqb}
-use lib.ListN.{length, take, drop, length-take, length-drop, length-append}
-use lib.Seq.{take-nil, take-take, take-add, drop-drop}
+use lib.ListN.{length, take, drop, length-append}
+use lib.Seq.{take-take}
 use Rattle.lists.specs.Lists.{same}
 use Rattle.lists.specs.Searching.{part}
 use Rattle.lists.proofs.Tests.{both, same-true}

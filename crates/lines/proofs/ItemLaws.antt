@@ -8,8 +8,7 @@ use lib.ListN.{length, getD}
 use Rattle.lists.specs.Searching.{part}
 use Rattle.characters.specs.Scanning.{commaCount}
 use Rattle.records.specs.Split.{itemsOf}
-use Rattle.records.specs.Items.{Value, raw}
-use Rattle.records.specs.Records.{firstOf, tableRow, itemValue, itemsValue, nth, recordFrom, recordOf, lineFault}
+use Rattle.records.specs.Records.{firstOf, tableRow, itemValue, nth, recordFrom, recordOf, lineFault}
 use Rattle.records.proofs.LineLaws.{Good, line-good}
 use Rattle.lines.specs.declared.Span.{Span}
 use Rattle.lines.specs.Codes.{ItemOf, ItemIn}

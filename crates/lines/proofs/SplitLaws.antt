@@ -8,15 +8,14 @@ use native.Mathlib.Omega.{arith}
 use native.Mathlib.Decide.{decLt}
 use borrow.Author.Tests.{le-leb, lt-leb, eqb-true}
 use lib.Dec.{leb·zero}
-use lib.ListN.{length, take, drop, getD, length-map}
+use lib.ListN.{length, take, drop, getD}
 use lib.Seq.{drop-drop}
 use Rattle.lists.specs.Lists.{upTo}
 use Rattle.lists.specs.Searching.{part, findFrom}
 use Rattle.lists.proofs.Parts.{part-length, part-at, part-part}
 use Rattle.lists.proofs.Cuts.{drop-step, drop-end, take-upTo}
-use Rattle.lists.proofs.Loops.{find-low, find-high}
 use Rattle.characters.specs.Scanning.{commaCount, commasFrom}
-use Rattle.scanning.specs.Scans.{Stops, Sixteen}
+use Rattle.scanning.specs.Scans.{Stops}
 use Rattle.scanning.proofs.TextLaws.{count-places}
 use Rattle.records.specs.Split.{isComma, consItem, itemsOf}
 use Rattle.records.specs.Positions.{itemsFrom, itemEnd}

@@ -6,7 +6,6 @@ use mathlib.Core.Bool.{Bool, true}
 use mathlib.Core.Logic.{_⊎_}
 use mathlib.Core.List.{List, []}
 use lib.ListN.{length, getD, drop}
-use Rattle.lists.specs.Lists.{_orElse_, unless}
 use Rattle.lists.specs.Searching.{part}
 use Rattle.digits.specs.Short.{plainNumber}
 use Rattle.scanning.specs.declared.Line.the-variants.{Whole, Mark, End, Broken}

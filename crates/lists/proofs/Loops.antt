@@ -1,13 +1,13 @@
 -- One turn of a loop over a slice, for every test of a byte: what is left decides the same answer. Assumes nothing.
-use Prim.Native.Nat.{ℕ, _+_, _-_, _≤_, _<_}
+use Prim.Native.Nat.{ℕ, _+_, _≤_, _<_}
 use mathlib.Core.Path.{_≡_, refl, sym, ap, _∙_}
-use mathlib.Core.Bool.{Bool, true, false, cond, _&&_}
-use mathlib.Core.List.{List, [], _∷_}
+use mathlib.Core.Bool.{Bool, true, false, _&&_}
+use mathlib.Core.List.{List}
 use native.Mathlib.Omega.{arith}
 use borrow.Author.Tests.{eq-eqb, ne-eqb}
 use lib.Dec.{eqb}
 use lib.ListN.{length, getD, drop, length-drop, List·getD-eq-default}
-use Rattle.lists.specs.Lists.{all, same, upTo, is}
+use Rattle.lists.specs.Lists.{all, same, is}
 use Rattle.lists.specs.Searching.{findFrom}
 use Rattle.lists.proofs.Tests.{same-true}
 use Rattle.lists.proofs.Cuts.{drop-step, drop-end, upTo-hit, upTo-go, upTo-out, upTo-le}

@@ -10,7 +10,7 @@ use Rattle.lists.specs.Lists.{Res, ok, mapRes}
 use Rattle.characters.specs.Rows.{rows}
 use Rattle.notebook.specs.Notebook.{Notebook, readFile}
 use Rattle.notebook.specs.Same.{arrange, SameNotebook}
-use Rattle.replies.specs.Results.{Result, writes}
+use Rattle.replies.specs.Results.{writes}
 use Rattle.notebook.specs.Check.{counted, checkResult}
 use Rattle.notebook.specs.Canonical.{headRow, recordRows, writeFile, canonicalBytes, canonicalFile, canonicalResult}
 use Rattle.notebook.proofs.WrittenLaws.{written-short, written-small, written-head, written-rows, written-long}

@@ -3,7 +3,7 @@ use Prim.Native.Nat.{ℕ, _+_, _-_, _≤_}
 use native.Mathlib.Omega.{arith}
 use mathlib.Core.Path.{_≡_, refl, sym, ap, ap₂, _∙_, subst}
 use mathlib.Core.Bool.{Bool, true}
-use mathlib.Core.List.{List, [], _∷_, _++_, append-assoc, tail-eq-of-cons-eq}
+use mathlib.Core.List.{List, _∷_, _++_, append-assoc, tail-eq-of-cons-eq}
 use lib.ListN.{length, getD, take, drop, length-append, length-drop}
 use lib.Seq.{getD-drop, take-append-seam, getD-append-seam, getD-append-add}
 use Rattle.lists.specs.Lists.{unless}
@@ -14,7 +14,6 @@ use Rattle.characters.specs.Rows.{rows, flat, isLine, lineEnd}
 use Rattle.characters.specs.Scanning.{WholeLine}
 use Rattle.characters.proofs.RowLaws.{flat-rows, text-clean, text-of, whole-at}
 use Rattle.records.specs.Records.{Record, recordOf, faultFrom, lineFault}
-use Rattle.records.specs.Reading.{readLine}
 use Rattle.records.specs.Split.{itemsOf}
 use Rattle.records.proofs.LineLaws.{reads}
 use Rattle.order.specs.declared.State.{State}
@@ -22,7 +21,6 @@ use Rattle.order.proofs.Laws.{provider-kept}
 use Rattle.notebook.specs.Facts.{factsOf}
 use Rattle.notebook.specs.Index.{Entry, entryOf}
 use Rattle.notebook.specs.Meaning.{Cuts, Each}
-use Rattle.notebook.proofs.Placing.{Placed}
 use Rattle.notebook.proofs.Walk.{Walk, over, more}
 
 -- a row that is a line, at its position

@@ -8,7 +8,6 @@ use lib.Dec.{eqb}
 use borrow.Author.Tests.{eqb-true}
 use Rattle.records.specs.Records.{lineFault, recordOf}
 use Rattle.order.specs.declared.State.{State}
-use Rattle.order.specs.declared.Moved.{Moved}
 use Rattle.order.specs.declared.Moved.the-variants.{Fault, On}
 use Rattle.order.specs.State.{advance, stepOf}
 use Rattle.order.proofs.Laws.{taken}

@@ -4,7 +4,7 @@
 -- groups (`NewestFirst`) and of a notebook (`person`). Document 01, "Order of records", "Index"; 15-106 3.2.7, 3.2.9.
 use Prim.Native.Nat.{ℕ, _+_, _≤_}
 use mathlib.Core.Path.{_≡_}
-use mathlib.Core.Bool.{Bool, false, cond, _||_}
+use mathlib.Core.Bool.{false, cond, _||_}
 use mathlib.Core.Option.{Option, none, some}
 use mathlib.Core.List.{List, [], _∷_, _++_, map, flatten}
 use lib.Dec.{eqb}

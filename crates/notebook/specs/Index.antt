@@ -1,7 +1,7 @@
 -- Definitions, to be believed.
 -- The call index. Document 01, "Index": "Six u32 per record after line 1"; "Index and canonical: 1–16, then 20".
 use Prim.Native.Nat.{ℕ, _+_}
-use mathlib.Core.Bool.{Bool, cond, true}
+use mathlib.Core.Bool.{cond, true}
 use mathlib.Core.List.{List, [], _∷_, _++_}
 use lib.ListN.{length}
 use Rattle.lists.specs.Lists.{same, Res, mapRes}

@@ -1,6 +1,6 @@
 -- Definitions, to be believed.
 -- The answers to what the rules of order ask (rules, specs/Questions.antt), from the state and the record. All comparing of values is here.
-use Prim.Native.Nat.{ℕ, _+_}
+use Prim.Native.Nat.{_+_}
 use mathlib.Core.List.{[], _∷_}
 use lib.Dec.{eqb, ltb}
 use Rattle.lists.specs.Lists.{member}

@@ -3,9 +3,9 @@
 -- "Numbers n of one, two, three digits are tried in turn until one width serves: every record finds a piece and the count of pieces has
 -- that many digits."
 use Prim.Native.Nat.{ℕ, zero, suc, _+_}
-use mathlib.Core.Bool.{Bool, true, false, cond, _&&_}
+use mathlib.Core.Bool.{Bool, cond, _&&_}
 use mathlib.Core.Option.{Option, none, some}
-use mathlib.Core.List.{List, [], _∷_}
+use mathlib.Core.List.{List}
 use lib.Dec.{leb, eqb}
 use lib.ListN.{length}
 use Rattle.digits.specs.Digits.{digitCount}

@@ -1,6 +1,6 @@
 -- What `decimal` writes, without the bound of its definition (`decimal-digits`); how long it is (`decimal-short`); and that it writes a number below
 -- 1,000 as `spell` does, in which canonical files and records 911 have theirs (`decimal-spell`). Assumes nothing.
-use Prim.Native.Nat.{ℕ, zero, suc, _+_, _*_, _-_, _/_, _%_, _^_, _≤_, _<_}
+use Prim.Native.Nat.{ℕ, zero, suc, _+_, _*_, _/_, _%_, _^_, _≤_, _<_}
 use native.Mathlib.Nat.{pow-suc}
 use native.Mathlib.Omega.{arith}
 use mathlib.Core.Path.{_≡_, refl, ap, _∙_}

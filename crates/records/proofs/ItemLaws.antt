@@ -1,19 +1,17 @@
 -- The items of a row, by one induction over the law of a kind: nothing here is about one record. Assumes nothing.
-use Prim.Native.Nat.{ℕ, zero, suc, _+_, _≤_, _<_}
-use mathlib.Core.Path.{_≡_, refl, sym, ap, _∙_, subst}
-use mathlib.Core.Bool.{Bool, true, false, cond, not, _&&_, _||_, and-false, false≢true}
-use mathlib.Core.Logic.{_⊎_, inl, inr, ⊎-elim}
-use mathlib.Core.Option.{Option, none, some}
-use mathlib.Core.List.{List, [], _∷_, _++_, map}
+use Prim.Native.Nat.{ℕ, _≤_}
+use mathlib.Core.Path.{_≡_, refl, sym, _∙_, subst}
+use mathlib.Core.Bool.{Bool}
+use mathlib.Core.Logic.{_⊎_, inl, ⊎-elim}
+use mathlib.Core.Option.{some}
+use mathlib.Core.List.{List, [], _∷_, map}
 use native.Mathlib.Omega.{arith}
-use borrow.Author.Tests.{leb-true, le-leb, eqb-true, eq-eqb, ne-eqb}
-use lib.Dec.{leb, eqb}
 use lib.ListN.{length}
-use Rattle.lists.specs.Lists.{All, _orElse_}
+use Rattle.lists.specs.Lists.{All}
 use Rattle.lists.proofs.Tests.{or-zero, both-zero}
 use Rattle.calendar.proofs.Laws.{Plain}
 use Rattle.records.specs.Table.{Item}
-use Rattle.records.specs.Items.{Value, raw, writeValue, fault, valueOf}
+use Rattle.records.specs.Items.{Value, writeValue, fault, valueOf}
 use Rattle.records.specs.Records.{itemFault, itemValue, itemsFault, itemsValue}
 use Rattle.records.proofs.KindLaws.{Good, good}
 use Rattle.records.proofs.Splits.{NoComma, AllChars, weight, plain-chars, plain-no-comma}

@@ -1,27 +1,26 @@
 -- One law for each kind: what is written for an item is read as the same, is no longer, and is its bytes or digits and capitals.
 -- A new kind whose bytes are kept is one line here. Assumes nothing.
-use Prim.Native.Nat.{ℕ, zero, suc, _+_, _≤_, _<_}
+use Prim.Native.Nat.{ℕ, _≤_}
 use mathlib.Core.Path.{_≡_, refl, sym, ap, _∙_, subst}
-use mathlib.Core.Bool.{Bool, true, false, cond, not, _&&_, _||_, and-false, false≢true}
-use mathlib.Core.Logic.{_⊎_, inl, inr, ⊎-elim}
+use mathlib.Core.Bool.{true}
+use mathlib.Core.Logic.{_⊎_, inl, inr}
 use mathlib.Core.Option.{Option, none, some}
-use mathlib.Core.List.{List, [], _∷_, _++_, map}
+use mathlib.Core.List.{List, [], _∷_}
 use native.Mathlib.Omega.{arith}
-use borrow.Author.Tests.{leb-true, le-leb, eqb-true, eq-eqb, ne-eqb}
+use borrow.Author.Tests.{leb-true, eqb-true}
 use lib.Dec.{leb, eqb}
 use lib.ListN.{length, getD, take, drop, length-append, length-take, length-drop}
-use Rattle.lists.specs.Lists.{all, unless}
+use Rattle.lists.specs.Lists.{all}
 use Rattle.lists.proofs.Tests.{cond-case, both, or-first, or-second, unless-zero, zero-unless}
 use Rattle.digits.specs.Digits.{isDigit, number, spell, digitCount}
 use Rattle.digits.proofs.Numbers.{number-spell, length-spell, digits-spell, some-digit, number-length}
-use Rattle.calendar.specs.declared.Day.{Day}
 use Rattle.calendar.specs.declared.DateRead.{DateRead}
 use Rattle.calendar.specs.declared.DateRead.the-variants.{Date, NotADate}
 use Rattle.calendar.specs.Era.{readDay}
 use Rattle.eras.specs.Era.{writeDay}
 use Rattle.calendar.proofs.Laws.{Plain, read-write, read-is-day, write-shortest, write-plain, write-length}
 use Rattle.records.specs.Table.{Kind, N, U, X, A, F, C, P, R, W, Q, D, among}
-use Rattle.records.specs.Items.{Value, raw, num, day, writeValue, numberFault, numberValue, dayFault, dayValue, seven, unhyphened, postal, fault, valueOf}
+use Rattle.records.specs.Items.{Value, raw, writeValue, numberFault, numberValue, dayFault, dayValue, seven, unhyphened, postal, fault, valueOf}
 
 -- v is what the item s of kind k is read to
 pub record Good (k : Kind) (s : List ℕ) (v : Value) : Type 0 where

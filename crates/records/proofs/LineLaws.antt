@@ -1,27 +1,25 @@
 -- One record line: what is written is read as the same, is no longer, and is a line. Nothing here looks at a row of the table.
 -- Assumes nothing.
-use Prim.Native.Nat.{ℕ, zero, suc, _+_, _≤_, _<_}
+use Prim.Native.Nat.{ℕ, _≤_}
 use mathlib.Core.Path.{_≡_, refl, sym, ap, _∙_, subst}
-use mathlib.Core.Bool.{Bool, true, false, cond, not, _&&_, _||_, and-false, false≢true}
-use mathlib.Core.Logic.{_⊎_, inl, inr, ⊎-elim}
-use mathlib.Core.Option.{Option, none, some}
-use mathlib.Core.List.{List, [], _∷_, _++_, map}
+use mathlib.Core.Bool.{Bool, true, false, cond, not, _||_}
+use mathlib.Core.List.{List, [], _∷_}
 use native.Mathlib.Omega.{arith}
-use borrow.Author.Tests.{leb-true, le-leb, eqb-true, eq-eqb, ne-eqb}
+use borrow.Author.Tests.{leb-true, eqb-true, eq-eqb}
 use lib.Dec.{leb, eqb}
 use lib.ListN.{length}
-use Rattle.lists.specs.Lists.{All, same, _orElse_, unless}
-use Rattle.lists.proofs.Tests.{all-both, same-true, or-zero, both-zero, unless-zero, zero-unless, cond-case, or-first, or-second, not-true′}
+use Rattle.lists.specs.Lists.{All, same, unless}
+use Rattle.lists.proofs.Tests.{all-both, same-true, or-zero, both-zero, unless-zero, zero-unless, cond-case, or-first, not-true′}
 use Rattle.digits.specs.Digits.{spell}
 use Rattle.characters.specs.Text.{allChars}
 use Rattle.characters.specs.Scanning.{clean}
 use Rattle.characters.proofs.CharLaws.{chars-clean}
 use Rattle.records.specs.Split.{itemsOf, joined}
 use Rattle.records.specs.Table.{Item, Row, table}
-use Rattle.records.specs.Items.{Value, writeValue}
-use Rattle.records.specs.Records.{Record, noRow, rowIn, tableRow, pairs, itemsFault, itemsValue, recordFrom, faultFrom, lineFault, recordOf, t911, write}
-use Rattle.records.specs.Reading.{Read, ok, faulty, readLine}
-use Rattle.records.proofs.Splits.{NoComma, AllChars, Split, split, weight, items-joined, joined-length, chars-parts, chars-joined}
+use Rattle.records.specs.Items.{Value}
+use Rattle.records.specs.Records.{Record, rowIn, tableRow, pairs, itemsFault, recordFrom, faultFrom, lineFault, recordOf, t911, write}
+use Rattle.records.specs.Reading.{ok, faulty, readLine}
+use Rattle.records.proofs.Splits.{NoComma, AllChars, Split, split, items-joined, joined-length, chars-parts, chars-joined}
 use Rattle.records.proofs.ItemLaws.{Fine, written, Written, items-written}
 
 -- a number that is listed is spelled as it is written

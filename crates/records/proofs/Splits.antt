@@ -1,20 +1,18 @@
 -- Lines and their items: cut at commas, joined again, and their characters. Assumes nothing.
-use Prim.Native.Nat.{ℕ, zero, suc, _+_, _≤_, _<_}
-use mathlib.Core.Path.{_≡_, refl, sym, ap, _∙_, subst}
-use mathlib.Core.Bool.{Bool, true, false, cond, not, _&&_, _||_, and-false, false≢true}
-use mathlib.Core.Logic.{_⊎_, inl, inr, ⊎-elim}
-use mathlib.Core.Option.{Option, none, some}
-use mathlib.Core.List.{List, [], _∷_, _++_, map}
+use Prim.Native.Nat.{ℕ, suc, _+_, _≤_}
+use mathlib.Core.Path.{_≡_, refl, sym, ap, _∙_}
+use mathlib.Core.Bool.{Bool, true, false, cond, _&&_, and-false}
+use mathlib.Core.List.{List, [], _∷_, _++_}
 use native.Mathlib.Omega.{arith}
-use borrow.Author.Tests.{leb-true, le-leb, eqb-true, eq-eqb, ne-eqb}
-use lib.Dec.{leb, eqb}
+use borrow.Author.Tests.{le-leb, eqb-true, ne-eqb}
+use lib.Dec.{eqb}
 use lib.ListN.{length, length-append}
 use Rattle.lists.specs.Lists.{All}
 use Rattle.lists.proofs.Tests.{both}
 use Rattle.calendar.proofs.Laws.{Plain}
-use Rattle.characters.specs.Cells.{isOne, isLead, isTrail, isPair}
+use Rattle.characters.specs.Cells.{isOne, isPair}
 use Rattle.characters.specs.Text.{allChars}
-use Rattle.records.specs.Split.{itemsOf, consItem, joined}
+use Rattle.records.specs.Split.{itemsOf, joined}
 
 abbrev pub NoComma : List ℕ → Type 0
 NoComma s = All (λ b. eqb b 0x2c ≡ false) s

@@ -1,18 +1,17 @@
 -- The records of document 01 are a language as cutting and joining ask for: round, short, clear, plain. Assumes nothing.
-use Prim.Native.Nat.{ℕ, zero, suc, _≤_}
-use mathlib.Core.Path.{_≡_, refl, sym, ap, _∙_}
+use Prim.Native.Nat.{ℕ, _≤_}
+use mathlib.Core.Path.{_≡_, refl, ap, _∙_}
 use mathlib.Core.Bool.{Bool, true, false}
-use mathlib.Core.List.{List, [], _∷_}
+use mathlib.Core.List.{List}
 use native.Mathlib.Omega.{arith}
 use lib.ListN.{length}
 use Rattle.lists.specs.Lists.{bytes, same}
 use Rattle.lists.proofs.Tests.{same-true}
 use Rattle.digits.specs.Digits.{spell}
 use Rattle.characters.specs.Scanning.{clean}
-use Rattle.records.specs.Split.{itemsOf}
 use Rattle.records.specs.Table.{table}
 use Rattle.records.specs.Records.{Record, write, lineFault, faultFrom, tableRow, rowIn, t911, firstOf, isMark, header}
-use Rattle.records.specs.Reading.{Read, ok, readLine}
+use Rattle.records.specs.Reading.{ok, readLine}
 use Rattle.records.specs.Language.{Language}
 use Rattle.records.proofs.LineLaws.{Good, line-read, read-is, reads}
 

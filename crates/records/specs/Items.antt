@@ -1,13 +1,13 @@
 -- Definitions, to be believed.
 -- What an item of each kind may be, and what it is read to. Document 01, "Items"; refusals 8 to 11; 15-106 3.2.2, 3.2.5, 3.2.9.
 -- A fault is a number of document 01's table, 0 for none; a value is told of every item and means something where the fault is 0.
-use Prim.Native.Nat.{ℕ, zero, _-_}
+use Prim.Native.Nat.{ℕ, _-_}
 use mathlib.Core.Bool.{Bool, true, false, cond, not, _&&_, _||_}
 use mathlib.Core.Option.{Option, none, some}
 use mathlib.Core.List.{List, [], _∷_, _++_}
 use lib.Dec.{leb, eqb}
 use lib.ListN.{length, getD, take, drop}
-use Rattle.lists.specs.Lists.{within, empty, all, same, last, upTo, _orElse_, unless}
+use Rattle.lists.specs.Lists.{within, all, same, last, upTo, _orElse_, unless}
 use Rattle.digits.specs.Digits.{isDigit, value as digitsValue, number, spell}
 use Rattle.calendar.specs.declared.DateRead.{DateRead}
 use Rattle.calendar.specs.declared.DateRead.the-variants.{Date, NotADate}

@@ -2,7 +2,7 @@
 -- A line cut into items at each 2Ch, and items joined again. Document 01, "Lines and characters": "a number, then items, separated by
 -- 2Ch"; 15-106 3.2.1, 3.2.4.
 use Prim.Native.Nat.{ℕ}
-use mathlib.Core.Bool.{Bool, true, false, cond}
+use mathlib.Core.Bool.{Bool, cond}
 use mathlib.Core.List.{List, [], _∷_, _++_}
 use Rattle.lists.specs.Lists.{is}
 

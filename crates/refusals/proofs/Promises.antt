@@ -86,7 +86,7 @@ zero-is-a-result x e = go (always-answered x) e
   where
     go : {r : Reply} → IsAnswer (about x .numbers) (about x .given) r → r .refusal ≡ 0 → IsResult r
     go (gives {a = a} {b = b} {c = c}) e = record { a = a; b = b; c = c; is = refl }
-    go (refuses h) e = absurd (omega (arith, h .some))
+    go (refuses h) e = absurd (omega (arith, h .positive))
 
 -- ---- the lent buffer
 

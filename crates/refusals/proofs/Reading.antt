@@ -44,7 +44,7 @@ covered xs ns n c h e = rw e at (below-at (λ m. member xs m || member ns m) 17 
 
 -- "Number 1 comes first, with line 0"; "Numbers 17–20 have line 0"
 pub without-line : {ns s : List ℕ} (n : ℕ) → 0 < n → member ns n ≡ true → member lineless n ≡ true → Given ns s n 0
-without-line n h m e = record { listed = m; some = h; none = λ _. refl; at = λ f. absurd (true≢false (sym e ∙ f)) }
+without-line n h m e = record { listed = m; positive = h; without = λ _. refl; at = λ f. absurd (true≢false (sym e ∙ f)) }
 
 -- 2 to 16 have a line
 lined : (n : ℕ) → 2 ≤ n → n ≤ 16 → member lineless n ≡ false
@@ -52,7 +52,7 @@ unfolding below
 lined n lo hi = not-true′ (member lineless n) (rw (lt-leb n 1 (omega arith)) at (below-at (λ m. leb m 1 || not (member lineless m)) 17 refl n (omega arith)))
 
 pub with-line : {ns s : List ℕ} (n line : ℕ) → 2 ≤ n → n ≤ 16 → member ns n ≡ true → AtLine s line → Given ns s n line
-with-line n line lo hi m l = record { listed = m; some = omega arith; none = λ e. absurd (true≢false (sym e ∙ lined n lo hi)); at = λ _. l }
+with-line n line lo hi m l = record { listed = m; positive = omega arith; without = λ e. absurd (true≢false (sym e ∙ lined n lo hi)); at = λ _. l }
 
 -- ---- the rows behind line 1
 

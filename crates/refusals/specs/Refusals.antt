@@ -94,8 +94,8 @@ pub record AtLine (s : List ℕ) (line : ℕ) : Type 0 where
 -- the refusal n with this line, for the bytes s: n is one of the numbers and never 0, and its line is 0 or a line of s
 pub record Given (numbers s : List ℕ) (n line : ℕ) : Type 0 where
   pub listed : member numbers n ≡ true
-  pub some : 0 < n
-  pub none : member lineless n ≡ true → line ≡ 0
+  pub positive : 0 < n
+  pub without : member lineless n ≡ true → line ≡ 0
   pub at : member lineless n ≡ false → AtLine s line
 
 -- a result has refusal 0 and line 0, a refusal has 0 for each value (replies, specs/Replies.antt)

@@ -15,7 +15,6 @@ use Rattle.lists.specs.Lists.{within}
 use Rattle.lists.proofs.Tests.{both, either, within-below, within-above}
 use Rattle.lists.proofs.Cuts.{drop-step, drop-end}
 use Rattle.characters.specs.Cells.{isOne, isPair, isTrail, isLead}
-use Rattle.characters.specs.declared.Char.{Char}
 use Rattle.characters.specs.declared.Char.the-variants.{One, Two, Bad}
 use Rattle.characters.specs.Text.{allChars, isStop, text}
 use Rattle.characters.specs.Scanning.{charOf, charAt, commaCount, commasFrom}

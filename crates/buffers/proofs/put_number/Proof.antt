@@ -1,6 +1,4 @@
 use borrow.Author.Needs.{needs}
-use Prim.Native.Nat.{_-_}
-use lib.ListN.{length}
 use Rattle.buffers.proofs.Runs.{number-laws}
 use Rattle.buffers.proofs.put_number.Statement.{statement}
 use Rattle.buffers.proofs.put_number.Tie as tie

@@ -1,6 +1,4 @@
 use borrow.Author.Needs.{needs}
-use Prim.Native.Nat.{_-_}
-use lib.ListN.{length}
 use Rattle.canonical.proofs.WholeLaws.{canonical-laws}
 use Rattle.canonical.proofs.canonical_by.Statement.{statement}
 use Rattle.canonical.proofs.canonical_by.Tie as tie

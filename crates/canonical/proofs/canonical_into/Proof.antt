@@ -1,6 +1,4 @@
 use borrow.Author.Needs.{needs}
-use Prim.Native.Nat.{_-_}
-use lib.ListN.{length}
 use Rattle.checking.proofs.OpenLaws.{zeros-size, opening-behind}
 use Rattle.canonical.proofs.WholeLaws.{into-laws, into-room}
 use Rattle.canonical.proofs.canonical_into.Statement.{statement}

@@ -1,6 +1,4 @@
 use borrow.Author.Needs.{needs}
-use Prim.Native.Nat.{_-_}
-use lib.ListN.{length}
 use Rattle.canonical.proofs.FileLaws.{close-laws}
 use Rattle.canonical.proofs.close.Statement.{statement}
 use Rattle.canonical.proofs.close.Tie as tie

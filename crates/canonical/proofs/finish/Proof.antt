@@ -1,6 +1,4 @@
 use borrow.Author.Needs.{needs}
-use Prim.Native.Nat.{_-_}
-use lib.ListN.{length}
 use Rattle.canonical.proofs.FileLaws.{finish-laws, finish-small}
 use Rattle.canonical.proofs.finish.Statement.{statement}
 use Rattle.canonical.proofs.finish.Tie as tie

@@ -1,6 +1,4 @@
 use borrow.Author.Needs.{needs}
-use Prim.Native.Nat.{_-_}
-use lib.ListN.{length}
 use Rattle.canonical.proofs.PassLaws.{pass-laws, pass-lies, pass-spellable, pass-ready}
 use Rattle.canonical.proofs.pass_item.Statement.{statement}
 use Rattle.canonical.proofs.pass_item.Tie as tie

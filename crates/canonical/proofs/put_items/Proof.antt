@@ -1,5 +1,4 @@
 use borrow.Author.Needs.{needs}
-use Prim.Native.Nat.{_-_}
 use Rattle.codes.specs.Codes.{placeOf}
 use Rattle.canonical.proofs.LineLaws.{Spotting, spotting-laws, spotting-item, spotting-spellable, spotting-ready}
 use Rattle.canonical.proofs.put_items.Statement.{statement}

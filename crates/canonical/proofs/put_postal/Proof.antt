@@ -1,6 +1,4 @@
 use borrow.Author.Needs.{needs}
-use Prim.Native.Nat.{_-_}
-use lib.ListN.{length}
 use Rattle.canonical.proofs.ItemLaws.{postal-laws}
 use Rattle.canonical.proofs.put_postal.Statement.{statement}
 use Rattle.canonical.proofs.put_postal.Tie as tie

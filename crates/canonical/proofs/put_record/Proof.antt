@@ -1,6 +1,4 @@
 use borrow.Author.Needs.{needs}
-use Prim.Native.Nat.{_-_}
-use lib.ListN.{length}
 use Rattle.canonical.proofs.LineLaws.{record-laws, record-items, record-line, record-ready}
 use Rattle.canonical.proofs.put_record.Statement.{statement}
 use Rattle.canonical.proofs.put_record.Tie as tie

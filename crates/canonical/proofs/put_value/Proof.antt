@@ -1,6 +1,4 @@
 use borrow.Author.Needs.{needs}
-use Prim.Native.Nat.{_-_}
-use lib.ListN.{length}
 use Rattle.canonical.proofs.ItemLaws.{number-laws, number-room}
 use Rattle.canonical.proofs.put_value.Statement.{statement}
 use Rattle.canonical.proofs.put_value.Tie as tie

@@ -1,6 +1,4 @@
 use borrow.Author.Needs.{needs}
-use Prim.Native.Nat.{_-_}
-use lib.ListN.{length}
 use Rattle.canonical.proofs.RunLaws.{respell-laws, respell-item-room}
 use Rattle.canonical.proofs.respell.Statement.{statement}
 use Rattle.canonical.proofs.respell.Tie as tie

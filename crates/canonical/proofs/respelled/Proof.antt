@@ -1,6 +1,4 @@
 use borrow.Author.Needs.{needs}
-use Prim.Native.Nat.{_-_}
-use lib.ListN.{length}
 use Rattle.canonical.proofs.ItemLaws.{own-laws}
 use Rattle.canonical.proofs.respelled.Statement.{statement}
 use Rattle.canonical.proofs.respelled.Tie as tie

@@ -1,6 +1,4 @@
 use borrow.Author.Needs.{needs}
-use Prim.Native.Nat.{_-_}
-use lib.ListN.{length}
 use Rattle.canonical.proofs.ItemLaws.{stays-laws}
 use Rattle.canonical.proofs.stays.Statement.{statement}
 use Rattle.canonical.proofs.stays.Tie as tie

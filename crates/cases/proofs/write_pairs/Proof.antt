@@ -1,6 +1,5 @@
 use borrow.Author.Needs.{needs}
 use Prim.Native.Nat.{_-_}
-use lib.ListN.{length}
 use Prim.Native.Nat.{_≤_}
 use Rattle.cases.proofs.write_pairs.Statement.{statement}
 use Rattle.cases.proofs.write_pairs.Tie as tie

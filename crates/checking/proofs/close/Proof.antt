@@ -1,6 +1,4 @@
 use borrow.Author.Needs.{needs}
-use Prim.Native.Nat.{_-_}
-use lib.ListN.{length}
 use Rattle.checking.proofs.CheckLaws.{close-good, close-missing}
 use Rattle.checking.proofs.close.Statement.{statement}
 use Rattle.checking.proofs.close.Tie as tie

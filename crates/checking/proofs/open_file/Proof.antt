@@ -1,6 +1,4 @@
 use borrow.Author.Needs.{needs}
-use Prim.Native.Nat.{_-_}
-use lib.ListN.{length}
 use Rattle.checking.proofs.OpenLaws.{open-laws}
 use Rattle.checking.proofs.open_file.Statement.{statement}
 use Rattle.checking.proofs.open_file.Tie as tie

@@ -1,6 +1,4 @@
 use borrow.Author.Needs.{needs}
-use Prim.Native.Nat.{_-_}
-use lib.ListN.{length}
 use Rattle.checking.proofs.TurnLaws.{read-record-laws}
 use Rattle.checking.proofs.read_record.Statement.{statement}
 use Rattle.checking.proofs.read_record.Tie as tie

@@ -1,6 +1,4 @@
 use borrow.Author.Needs.{needs}
-use Prim.Native.Nat.{_-_}
-use lib.ListN.{length}
 use Rattle.cut.proofs.AnswerLaws.{answer-laws, split-done}
 use Rattle.cut.proofs.cut_bytes.Statement.{statement}
 use Rattle.cut.proofs.cut_bytes.Tie as tie

@@ -1,6 +1,3 @@
-use borrow.Author.Needs.{needs}
-use Prim.Native.Nat.{_-_}
-use lib.ListN.{length}
 use Rattle.digits.proofs.Numbers.{count-1, count-2, count-3, count-4}
 use native.Mathlib.Omega.{arith}
 use mathlib.Core.Path.{sym}

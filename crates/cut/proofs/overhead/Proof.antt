@@ -1,6 +1,4 @@
 use borrow.Author.Needs.{needs}
-use Prim.Native.Nat.{_-_}
-use lib.ListN.{length}
 use Rattle.cut.proofs.CountLaws.{over-is}
 use Rattle.digits.proofs.Numbers.{count-most}
 use native.Mathlib.Omega.{arith}

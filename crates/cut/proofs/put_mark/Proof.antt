@@ -1,6 +1,4 @@
 use borrow.Author.Needs.{needs}
-use Prim.Native.Nat.{_-_}
-use lib.ListN.{length}
 use Rattle.cut.proofs.PourLaws.{mark-wrote}
 use Rattle.cut.proofs.put_mark.Statement.{statement}
 use Rattle.cut.proofs.put_mark.Tie as tie

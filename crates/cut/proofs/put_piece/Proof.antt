@@ -1,6 +1,4 @@
 use borrow.Author.Needs.{needs}
-use Prim.Native.Nat.{_-_}
-use lib.ListN.{length}
 use Rattle.cut.proofs.PourLaws.{piece-laws}
 use Rattle.cut.proofs.put_piece.Statement.{statement}
 use Rattle.cut.proofs.put_piece.Tie as tie

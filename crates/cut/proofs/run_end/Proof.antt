@@ -1,6 +1,5 @@
 use borrow.Author.Needs.{needs}
 use Prim.Native.Nat.{_-_}
-use lib.ListN.{length}
 use Rattle.cut.proofs.RowLaws.{Backing, run-laws}
 use Rattle.cut.proofs.run_end.Statement.{statement}
 use Rattle.cut.proofs.run_end.Tie as tie

@@ -1,6 +1,4 @@
 use borrow.Author.Needs.{needs}
-use Prim.Native.Nat.{_-_}
-use lib.ListN.{length}
 use Rattle.cut.proofs.CountLaws.{serves-is}
 use Rattle.cut.proofs.serves_width.Statement.{statement}
 use Rattle.cut.proofs.serves_width.Tie as tie

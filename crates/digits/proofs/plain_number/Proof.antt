@@ -1,6 +1,4 @@
 use borrow.Author.Needs.{needs}
-use Prim.Native.Nat.{_-_}
-use lib.ListN.{length}
 use Rattle.digits.proofs.Loops.{plain-laws}
 use Rattle.digits.proofs.plain_number.Statement.{statement}
 use Rattle.digits.proofs.plain_number.Tie as tie

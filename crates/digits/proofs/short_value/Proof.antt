@@ -1,6 +1,4 @@
 use borrow.Author.Needs.{needs}
-use Prim.Native.Nat.{_-_}
-use lib.ListN.{length}
 use Rattle.digits.proofs.Loops.{num-laws}
 use Rattle.digits.proofs.short_value.Statement.{statement}
 use Rattle.digits.proofs.short_value.Tie as tie

@@ -1,6 +1,4 @@
 use borrow.Author.Needs.{needs}
-use Prim.Native.Nat.{_-_}
-use lib.ListN.{length}
 use Rattle.gateway.proofs.notebook_index.Statement.{statement}
 use Rattle.gateway.proofs.notebook_index.Tie as tie
 use Rattle.gateway.proofs.notebook_index.Reads as reads

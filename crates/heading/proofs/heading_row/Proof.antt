@@ -1,6 +1,4 @@
 use borrow.Author.Needs.{needs}
-use Prim.Native.Nat.{_-_}
-use lib.ListN.{length}
 use Rattle.heading.proofs.Laws.{row-provider, row-patient}
 use Rattle.heading.proofs.heading_row.Statement.{statement}
 use Rattle.heading.proofs.heading_row.Tie as tie

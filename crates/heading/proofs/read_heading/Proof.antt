@@ -1,6 +1,4 @@
 use borrow.Author.Needs.{needs}
-use Prim.Native.Nat.{_-_}
-use lib.ListN.{length}
 use Rattle.heading.proofs.Laws.{heading-laws}
 use Rattle.heading.proofs.read_heading.Statement.{statement}
 use Rattle.heading.proofs.read_heading.Tie as tie

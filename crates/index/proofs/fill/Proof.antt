@@ -1,6 +1,4 @@
 use borrow.Author.Needs.{needs}
-use Prim.Native.Nat.{_-_}
-use lib.ListN.{length}
 use Rattle.checking.proofs.OpenLaws.{zeros-size, opening-behind}
 use Rattle.index.proofs.FileLaws.{fill-laws, fill-room}
 use Rattle.index.proofs.fill.Statement.{statement}

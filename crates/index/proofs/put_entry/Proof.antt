@@ -1,6 +1,4 @@
 use borrow.Author.Needs.{needs}
-use Prim.Native.Nat.{_-_}
-use lib.ListN.{length}
 use Rattle.index.proofs.FillLaws.{entry-room, entry-written}
 use Rattle.index.proofs.put_entry.Statement.{statement}
 use Rattle.index.proofs.put_entry.Tie as tie

@@ -1,6 +1,4 @@
 use borrow.Author.Needs.{needs}
-use Prim.Native.Nat.{_-_}
-use lib.ListN.{length}
 use Rattle.items.proofs.EndLaws.{blank-laws}
 use Rattle.items.proofs.blank_end.Statement.{statement}
 use Rattle.items.proofs.blank_end.Tie as tie

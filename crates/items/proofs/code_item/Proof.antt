@@ -1,6 +1,4 @@
 use borrow.Author.Needs.{needs}
-use Prim.Native.Nat.{_-_}
-use lib.ListN.{length}
 use Rattle.items.proofs.EndLaws.{code-item-laws}
 use Rattle.items.proofs.code_item.Statement.{statement}
 use Rattle.items.proofs.code_item.Tie as tie

@@ -1,6 +1,4 @@
 use borrow.Author.Needs.{needs}
-use Prim.Native.Nat.{_-_}
-use lib.ListN.{length}
 use Rattle.items.proofs.DispatchLaws.{day-yes, day-no}
 use Rattle.items.proofs.day_fault.Statement.{statement}
 use Rattle.items.proofs.day_fault.Tie as tie

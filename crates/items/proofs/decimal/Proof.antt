@@ -1,6 +1,4 @@
 use borrow.Author.Needs.{needs}
-use Prim.Native.Nat.{_-_}
-use lib.ListN.{length}
 use Rattle.items.proofs.FormLaws.{decimal-is, period-inside}
 use Rattle.items.proofs.decimal.Statement.{statement}
 use Rattle.items.proofs.decimal.Tie as tie

@@ -1,6 +1,4 @@
 use borrow.Author.Needs.{needs}
-use Prim.Native.Nat.{_-_}
-use lib.ListN.{length}
 use Rattle.items.proofs.decimals.Statement.{statement}
 use Rattle.items.proofs.decimals.Tie as tie
 use Rattle.items.proofs.decimals.Reads as reads

@@ -1,6 +1,4 @@
 use borrow.Author.Needs.{needs}
-use Prim.Native.Nat.{_-_}
-use lib.ListN.{length}
 use Rattle.records.specs.Items.{edge}
 use Rattle.items.proofs.TextLaws.{edge-free}
 use Rattle.items.proofs.edge.Statement.{statement}

@@ -1,5 +1,4 @@
 use borrow.Author.Needs.{needs}
-use Prim.Native.Nat.{_-_}
 use Rattle.items.proofs.TextLaws.{wide-no, wide-yes}
 use Rattle.items.proofs.ends_wide.Statement.{statement}
 use Rattle.items.proofs.ends_wide.Tie as tie

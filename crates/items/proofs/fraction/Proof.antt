@@ -1,6 +1,4 @@
 use borrow.Author.Needs.{needs}
-use Prim.Native.Nat.{_-_}
-use lib.ListN.{length}
 use Rattle.items.proofs.FormLaws.{fraction-none, fraction-some}
 use Rattle.items.proofs.fraction.Statement.{statement}
 use Rattle.items.proofs.fraction.Tie as tie

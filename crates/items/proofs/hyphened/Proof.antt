@@ -1,6 +1,4 @@
 use borrow.Author.Needs.{needs}
-use Prim.Native.Nat.{_-_}
-use lib.ListN.{length}
 use Rattle.items.proofs.FormLaws.{no-seven, is-seven}
 use Rattle.items.proofs.hyphened.Statement.{statement}
 use Rattle.items.proofs.hyphened.Tie as tie

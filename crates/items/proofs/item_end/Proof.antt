@@ -1,6 +1,5 @@
 use borrow.Author.Needs.{needs}
 use Rattle.items.proofs.EndLaws.{end-digit}
-use Prim.Native.Nat.{_-_}
 use Rattle.items.proofs.item_end.Statement.{statement}
 use Rattle.items.proofs.item_end.Tie as tie
 use Rattle.items.proofs.item_end.Reads as reads

@@ -1,6 +1,4 @@
 use borrow.Author.Needs.{needs}
-use Prim.Native.Nat.{_-_}
-use lib.ListN.{length}
 use Rattle.items.proofs.DispatchLaws.{item-empty, item-some}
 use Rattle.items.proofs.item_fault.Statement.{statement}
 use Rattle.items.proofs.item_fault.Tie as tie

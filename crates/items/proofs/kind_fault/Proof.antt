@@ -1,6 +1,4 @@
 use borrow.Author.Needs.{needs}
-use Prim.Native.Nat.{_-_}
-use lib.ListN.{length}
 use Rattle.items.proofs.DispatchLaws.{kind-n, kind-u, kind-x, kind-a, kind-f, kind-c, kind-p, kind-r, kind-w, kind-q, kind-d, kind-else}
 use Rattle.items.proofs.kind_fault.Statement.{statement}
 use Rattle.items.proofs.kind_fault.Tie as tie

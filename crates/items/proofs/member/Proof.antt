@@ -1,6 +1,4 @@
 use borrow.Author.Needs.{needs}
-use Prim.Native.Nat.{_-_}
-use lib.ListN.{length}
 use Rattle.lists.proofs.Tests.{member-left}
 use Rattle.items.specs.Codes.{setOf}
 use Rattle.items.proofs.SetLaws.{set-else}

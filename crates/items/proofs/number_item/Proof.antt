@@ -1,6 +1,4 @@
 use borrow.Author.Needs.{needs}
-use Prim.Native.Nat.{_-_}
-use lib.ListN.{length}
 use Rattle.items.proofs.NumberLaws.{number-fine}
 use Rattle.items.proofs.number_item.Statement.{statement}
 use Rattle.items.proofs.number_item.Tie as tie

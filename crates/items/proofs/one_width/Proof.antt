@@ -1,6 +1,4 @@
 use borrow.Author.Needs.{needs}
-use Prim.Native.Nat.{_-_}
-use lib.ListN.{length}
 use Rattle.records.specs.Items.{oneWidth}
 use Rattle.items.proofs.one_width.Statement.{statement}
 use Rattle.items.proofs.one_width.Tie as tie

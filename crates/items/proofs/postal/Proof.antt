@@ -1,6 +1,4 @@
 use borrow.Author.Needs.{needs}
-use Prim.Native.Nat.{_-_}
-use lib.ListN.{length}
 use Rattle.records.specs.Items.{postal}
 use Rattle.items.proofs.postal.Statement.{statement}
 use Rattle.items.proofs.postal.Tie as tie

@@ -1,6 +1,4 @@
 use borrow.Author.Needs.{needs}
-use Prim.Native.Nat.{_-_}
-use lib.ListN.{length}
 use Rattle.items.proofs.FormLaws.{prefecture-is}
 use Rattle.items.proofs.prefecture.Statement.{statement}
 use Rattle.items.proofs.prefecture.Tie as tie

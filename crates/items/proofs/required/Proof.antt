@@ -1,6 +1,4 @@
 use borrow.Author.Needs.{needs}
-use Prim.Native.Nat.{_-_}
-use lib.ListN.{length}
 use Rattle.items.proofs.DispatchLaws.{required-is}
 use Rattle.items.proofs.required.Statement.{statement}
 use Rattle.items.proofs.required.Tie as tie

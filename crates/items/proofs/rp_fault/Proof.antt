@@ -1,6 +1,4 @@
 use borrow.Author.Needs.{needs}
-use Prim.Native.Nat.{_-_}
-use lib.ListN.{length}
 use Rattle.items.proofs.DispatchLaws.{rp-fault}
 use Rattle.items.proofs.rp_fault.Statement.{statement}
 use Rattle.items.proofs.rp_fault.Tie as tie

@@ -1,6 +1,4 @@
 use borrow.Author.Needs.{needs}
-use Prim.Native.Nat.{_-_}
-use lib.ListN.{length}
 use Rattle.records.specs.Items.{seven}
 use Rattle.items.proofs.seven.Statement.{statement}
 use Rattle.items.proofs.seven.Tie as tie

@@ -1,6 +1,4 @@
 use borrow.Author.Needs.{needs}
-use Prim.Native.Nat.{_-_}
-use lib.ListN.{length}
 use Rattle.items.proofs.DispatchLaws.{sized-long, sized-edge, sized-form}
 use Rattle.items.proofs.sized.Statement.{statement}
 use Rattle.items.proofs.sized.Tie as tie

@@ -1,6 +1,4 @@
 use borrow.Author.Needs.{needs}
-use Prim.Native.Nat.{_-_}
-use lib.ListN.{length}
 use Rattle.items.proofs.NumberLaws.{spelled-laws, spelled-low}
 use Rattle.items.proofs.spelled_at.Statement.{statement}
 use Rattle.items.proofs.spelled_at.Tie as tie

@@ -1,5 +1,4 @@
 use borrow.Author.Needs.{needs}
-use Prim.Native.Nat.{_-_}
 use Rattle.items.proofs.EndLaws.{end-text, end-inner, text-item-laws}
 use Rattle.items.proofs.text_item.Statement.{statement}
 use Rattle.items.proofs.text_item.Tie as tie

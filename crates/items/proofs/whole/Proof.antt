@@ -1,6 +1,4 @@
 use borrow.Author.Needs.{needs}
-use Prim.Native.Nat.{_-_}
-use lib.ListN.{length}
 use Rattle.items.proofs.whole.Statement.{statement}
 use Rattle.items.proofs.whole.Tie as tie
 use Rattle.items.proofs.whole.Reads as reads

@@ -1,6 +1,5 @@
 use borrow.Author.Needs.{needs}
 use Prim.Native.Nat.{_+_, _-_}
-use lib.ListN.{length}
 use Rattle.join.proofs.SetLaws.{Taking, taking-laws}
 use Rattle.join.proofs.complete.Statement.{statement}
 use Rattle.join.proofs.complete.Tie as tie

@@ -1,6 +1,4 @@
 use borrow.Author.Needs.{needs}
-use Prim.Native.Nat.{_-_}
-use lib.ListN.{length}
 use Rattle.join.proofs.WalkLaws.{first-laws}
 use Rattle.join.proofs.first_piece.Statement.{statement}
 use Rattle.join.proofs.first_piece.Tie as tie

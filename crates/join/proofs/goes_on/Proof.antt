@@ -1,6 +1,4 @@
 use borrow.Author.Needs.{needs}
-use Prim.Native.Nat.{_-_}
-use lib.ListN.{length}
 use Rattle.join.proofs.WalkLaws.{goes-laws}
 use Rattle.join.proofs.goes_on.Statement.{statement}
 use Rattle.join.proofs.goes_on.Tie as tie

@@ -1,6 +1,4 @@
 use borrow.Author.Needs.{needs}
-use Prim.Native.Nat.{_-_}
-use lib.ListN.{length}
 use Rattle.join.proofs.JoinLaws.{into-laws}
 use Rattle.join.proofs.join_into.Statement.{statement}
 use Rattle.join.proofs.join_into.Tie as tie

@@ -1,6 +1,4 @@
 use borrow.Author.Needs.{needs}
-use Prim.Native.Nat.{_-_}
-use lib.ListN.{length}
 use Rattle.join.proofs.JoinLaws.{set-laws, set-given}
 use Rattle.join.proofs.join_set.Statement.{statement}
 use Rattle.join.proofs.join_set.Tie as tie

@@ -1,6 +1,4 @@
 use borrow.Author.Needs.{needs}
-use Prim.Native.Nat.{_-_}
-use lib.ListN.{length}
 use Rattle.join.proofs.JoinLaws.{spans-laws}
 use Rattle.join.proofs.join_spans.Statement.{statement}
 use Rattle.join.proofs.join_spans.Tie as tie

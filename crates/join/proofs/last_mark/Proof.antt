@@ -1,6 +1,4 @@
 use borrow.Author.Needs.{needs}
-use Prim.Native.Nat.{_-_}
-use lib.ListN.{length}
 use Rattle.join.proofs.BodyLaws.{last-laws}
 use Rattle.join.proofs.last_mark.Statement.{statement}
 use Rattle.join.proofs.last_mark.Tie as tie

@@ -1,6 +1,4 @@
 use borrow.Author.Needs.{needs}
-use Prim.Native.Nat.{_-_}
-use lib.ListN.{length}
 use Rattle.join.proofs.WalkLaws.{next-laws}
 use Rattle.join.proofs.next_piece.Statement.{statement}
 use Rattle.join.proofs.next_piece.Tie as tie

@@ -1,6 +1,4 @@
 use borrow.Author.Needs.{needs}
-use Prim.Native.Nat.{_-_}
-use lib.ListN.{length}
 use Rattle.join.proofs.JoinLaws.{head-wrote}
 use Rattle.join.proofs.put_head.Statement.{statement}
 use Rattle.join.proofs.put_head.Tie as tie

@@ -1,6 +1,4 @@
 use borrow.Author.Needs.{needs}
-use Prim.Native.Nat.{_-_}
-use lib.ListN.{length}
 use Rattle.join.proofs.BodyLaws.{member-laws}
 use Rattle.join.proofs.read_member.Statement.{statement}
 use Rattle.join.proofs.read_member.Tie as tie

@@ -1,6 +1,4 @@
 use borrow.Author.Needs.{needs}
-use Prim.Native.Nat.{_-_}
-use lib.ListN.{length}
 use Rattle.join.proofs.WalkLaws.{starts-laws}
 use Rattle.join.proofs.starts_well.Statement.{statement}
 use Rattle.join.proofs.starts_well.Tie as tie

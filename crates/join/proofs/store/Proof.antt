@@ -1,6 +1,4 @@
 use borrow.Author.Needs.{needs}
-use Prim.Native.Nat.{_-_}
-use lib.ListN.{length}
 use Rattle.join.proofs.SetLaws.{store-laws}
 use Rattle.join.proofs.store.Statement.{statement}
 use Rattle.join.proofs.store.Tie as tie

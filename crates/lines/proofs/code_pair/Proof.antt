@@ -1,6 +1,4 @@
 use borrow.Author.Needs.{needs}
-use Prim.Native.Nat.{_-_}
-use lib.ListN.{length}
 use Rattle.lines.proofs.PairLaws.{code-is}
 use Rattle.lines.proofs.code_pair.Statement.{statement}
 use Rattle.lines.proofs.code_pair.Tie as tie

@@ -1,6 +1,4 @@
 use borrow.Author.Needs.{needs}
-use Prim.Native.Nat.{_-_}
-use lib.ListN.{length}
 use Rattle.lines.proofs.DetailLaws.{details-11}
 use Rattle.lines.proofs.details_11.Statement.{statement}
 use Rattle.lines.proofs.details_11.Tie as tie

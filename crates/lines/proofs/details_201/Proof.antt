@@ -1,6 +1,4 @@
 use borrow.Author.Needs.{needs}
-use Prim.Native.Nat.{_-_}
-use lib.ListN.{length}
 use Rattle.lines.proofs.DetailLaws.{details-201}
 use Rattle.lines.proofs.details_201.Statement.{statement}
 use Rattle.lines.proofs.details_201.Tie as tie

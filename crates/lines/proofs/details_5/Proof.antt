@@ -1,6 +1,4 @@
 use borrow.Author.Needs.{needs}
-use Prim.Native.Nat.{_-_}
-use lib.ListN.{length}
 use Rattle.lines.proofs.DetailLaws.{details-5}
 use Rattle.lines.proofs.details_5.Statement.{statement}
 use Rattle.lines.proofs.details_5.Tie as tie

@@ -1,6 +1,4 @@
 use borrow.Author.Needs.{needs}
-use Prim.Native.Nat.{_-_}
-use lib.ListN.{length}
 use Rattle.lines.proofs.DetailLaws.{first-is}
 use Rattle.lines.proofs.first_rp.Statement.{statement}
 use Rattle.lines.proofs.first_rp.Tie as tie

@@ -1,6 +1,4 @@
 use borrow.Author.Needs.{needs}
-use Prim.Native.Nat.{_-_}
-use lib.ListN.{length}
 use Rattle.lines.proofs.PairLaws.{form-laws}
 use Rattle.lines.proofs.form_pair.Statement.{statement}
 use Rattle.lines.proofs.form_pair.Tie as tie

@@ -1,6 +1,4 @@
 use borrow.Author.Needs.{needs}
-use Prim.Native.Nat.{_-_}
-use lib.ListN.{length}
 use Rattle.lines.proofs.PairLaws.{unit-is}
 use Rattle.lines.proofs.is_unit.Statement.{statement}
 use Rattle.lines.proofs.is_unit.Tie as tie

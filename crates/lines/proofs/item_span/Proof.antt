@@ -1,6 +1,4 @@
 use borrow.Author.Needs.{needs}
-use Prim.Native.Nat.{_-_}
-use lib.ListN.{length}
 use Rattle.lines.proofs.SplitLaws.{span-laws}
 use Rattle.lines.proofs.item_span.Statement.{statement}
 use Rattle.lines.proofs.item_span.Tie as tie

@@ -1,6 +1,5 @@
 use borrow.Author.Needs.{needs}
 use Prim.Native.Nat.{_-_}
-use lib.ListN.{length}
 use Rattle.lines.proofs.WalkLaws.{Walk, walk-laws}
 use Rattle.lines.proofs.items_fault.Statement.{statement}
 use Rattle.lines.proofs.items_fault.Tie as tie

@@ -1,6 +1,4 @@
 use borrow.Author.Needs.{needs}
-use Prim.Native.Nat.{_-_}
-use lib.ListN.{length}
 use Rattle.lines.proofs.SplitLaws.{end-bare, end-first}
 use Rattle.lines.proofs.number_end.Statement.{statement}
 use Rattle.lines.proofs.number_end.Tie as tie

@@ -1,6 +1,4 @@
 use borrow.Author.Needs.{needs}
-use Prim.Native.Nat.{_-_}
-use lib.ListN.{length}
 use Rattle.lines.proofs.PairLaws.{quantity-is}
 use Rattle.lines.proofs.quantity_one.Statement.{statement}
 use Rattle.lines.proofs.quantity_one.Tie as tie

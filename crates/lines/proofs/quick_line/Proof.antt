@@ -1,5 +1,4 @@
 use borrow.Author.Needs.{needs}
-use Prim.Native.Nat.{_-_}
 use Rattle.lines.proofs.QuickLaws.{quick-laws, number-run}
 use Rattle.lines.proofs.quick_line.Statement.{statement}
 use Rattle.lines.proofs.quick_line.Tie as tie

@@ -1,6 +1,4 @@
 use borrow.Author.Needs.{needs}
-use Prim.Native.Nat.{_-_}
-use lib.ListN.{length}
 use Rattle.lines.proofs.FindLaws.{slow-laws, slow-commas, slow-places, slow-size}
 use Rattle.lines.proofs.slow_line.Statement.{statement}
 use Rattle.lines.proofs.slow_line.Tie as tie

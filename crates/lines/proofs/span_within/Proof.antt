@@ -1,6 +1,4 @@
 use borrow.Author.Needs.{needs}
-use Prim.Native.Nat.{_-_}
-use lib.ListN.{length}
 use Rattle.lines.proofs.SplitLaws.{span-laws, front-inside}
 use native.Mathlib.Omega.{arith}
 use Rattle.lines.proofs.span_within.Statement.{statement}

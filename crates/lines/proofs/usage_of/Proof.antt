@@ -1,7 +1,5 @@
 use native.Mathlib.Omega.{arith}
 use borrow.Author.Needs.{needs}
-use Prim.Native.Nat.{_-_}
-use lib.ListN.{length}
 use Rattle.lines.proofs.DetailLaws.{usage-is}
 use Rattle.lines.proofs.usage_of.Statement.{statement}
 use Rattle.lines.proofs.usage_of.Tie as tie

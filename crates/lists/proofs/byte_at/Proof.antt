@@ -1,6 +1,4 @@
 use borrow.Author.Needs.{needs}
-use Prim.Native.Nat.{_-_}
-use lib.ListN.{length}
 use Rattle.lists.proofs.Loops.{past-end}
 use Rattle.lists.proofs.byte_at.Statement.{statement}
 use Rattle.lists.proofs.byte_at.Tie as tie

@@ -1,6 +1,4 @@
 use borrow.Author.Needs.{needs}
-use Prim.Native.Nat.{_-_}
-use lib.ListN.{length}
 use Rattle.noteindex.proofs.write_entries.Statement.{statement}
 use Rattle.noteindex.proofs.write_entries.Tie as tie
 use Rattle.noteindex.proofs.write_entries.Reads as reads

@@ -1,6 +1,4 @@
 use borrow.Author.Needs.{needs}
-use Prim.Native.Nat.{_-_}
-use lib.ListN.{length}
 use Rattle.pieces.proofs.ScanLaws.{text-laws}
 use Rattle.pieces.proofs.any_row.Statement.{statement}
 use Rattle.pieces.proofs.any_row.Tie as tie

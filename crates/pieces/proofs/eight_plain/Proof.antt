@@ -1,6 +1,5 @@
 use borrow.Author.Needs.{needs}
 use Prim.Native.Nat.{_-_}
-use lib.ListN.{length}
 use mathlib.Core.Logic.{⊎-elim}
 use Rattle.pieces.proofs.ScanLaws.{Eight, eight-laws}
 use Rattle.pieces.proofs.eight_plain.Statement.{statement}

@@ -1,6 +1,4 @@
 use borrow.Author.Needs.{needs}
-use Prim.Native.Nat.{_-_}
-use lib.ListN.{length}
 use Rattle.pieces.proofs.RowLaws.{line-laws}
 use Rattle.pieces.proofs.is_line.Statement.{statement}
 use Rattle.pieces.proofs.is_line.Tie as tie

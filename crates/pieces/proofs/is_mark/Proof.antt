@@ -1,6 +1,4 @@
 use borrow.Author.Needs.{needs}
-use Prim.Native.Nat.{_-_}
-use lib.ListN.{length}
 use Rattle.pieces.proofs.MarkReading.{mark-laws}
 use Rattle.pieces.proofs.is_mark.Statement.{statement}
 use Rattle.pieces.proofs.is_mark.Tie as tie

@@ -1,6 +1,4 @@
 use borrow.Author.Needs.{needs}
-use Prim.Native.Nat.{_-_}
-use lib.ListN.{length}
 use Rattle.pieces.proofs.MarkReading.{numbers-laws}
 use Rattle.pieces.proofs.read_numbers.Statement.{statement}
 use Rattle.pieces.proofs.read_numbers.Tie as tie

@@ -1,6 +1,4 @@
 use borrow.Author.Needs.{needs}
-use Prim.Native.Nat.{_-_}
-use lib.ListN.{length}
 use Rattle.pieces.proofs.ScanLaws.{feed-laws}
 use Rattle.pieces.proofs.row_end.Statement.{statement}
 use Rattle.pieces.proofs.row_end.Tie as tie

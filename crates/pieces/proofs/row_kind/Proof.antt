@@ -1,6 +1,4 @@
 use borrow.Author.Needs.{needs}
-use Prim.Native.Nat.{_-_}
-use lib.ListN.{length}
 use Rattle.pieces.proofs.RowLaws.{kind-laws}
 use Rattle.pieces.proofs.row_kind.Statement.{statement}
 use Rattle.pieces.proofs.row_kind.Tie as tie

@@ -1,6 +1,4 @@
 use borrow.Author.Needs.{needs}
-use Prim.Native.Nat.{_-_}
-use lib.ListN.{length}
 use Rattle.pieces.proofs.MarkReading.{id-laws}
 use Rattle.pieces.proofs.valid_id.Statement.{statement}
 use Rattle.pieces.proofs.valid_id.Tie as tie

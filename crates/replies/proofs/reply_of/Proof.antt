@@ -1,6 +1,4 @@
 use borrow.Author.Needs.{needs}
-use Prim.Native.Nat.{_-_}
-use lib.ListN.{length}
 use Rattle.replies.proofs.reply_of.Statement.{statement}
 use Rattle.replies.proofs.reply_of.Tie as tie
 use Rattle.replies.proofs.reply_of.Reads as reads

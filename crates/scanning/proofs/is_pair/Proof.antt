@@ -1,5 +1,4 @@
 use borrow.Author.Needs.{needs}
-use Prim.Native.Nat.{_-_}
 use Rattle.scanning.proofs.RunLaws.{pair-told}
 use Rattle.scanning.proofs.is_pair.Statement.{statement}
 use Rattle.scanning.proofs.is_pair.Tie as tie

@@ -1,5 +1,4 @@
 use borrow.Author.Needs.{needs}
-use Prim.Native.Nat.{_-_}
 use Rattle.scanning.proofs.RunLaws.{last-laws}
 use Rattle.scanning.proofs.last_end.Statement.{statement}
 use Rattle.scanning.proofs.last_end.Tie as tie

@@ -1,6 +1,4 @@
 use borrow.Author.Needs.{needs}
-use Prim.Native.Nat.{_-_}
-use lib.ListN.{length}
 use Rattle.scanning.proofs.LineLaws.{line-laws}
 use Rattle.scanning.proofs.line_at.Statement.{statement}
 use Rattle.scanning.proofs.line_at.Tie as tie

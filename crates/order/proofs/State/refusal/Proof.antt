@@ -2,7 +2,7 @@
 use Rattle.order.proofs.ByNumber.{of-1, of-2, of-3, of-4, of-11, of-15, of-51, of-281, of-291, of-311, of-391, of-401, of-411, of-501, of-601, of-other}
 use Rattle.rules.proofs.Rows.{no-row}
 use Rattle.rules.specs.Places.{pattern, mayFollow}
-use mathlib.Core.Path.{refl, sym, _∙_}
+use mathlib.Core.Path.{sym}
 use borrow.Author.Tests.{ne-eqb}
 use borrow.Author.Needs.{needs}
 use Rattle.order.proofs.State.refusal.Statement.{statement}

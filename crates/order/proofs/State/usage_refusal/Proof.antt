@@ -1,6 +1,6 @@
 -- `State::usage_refusal` meets its contract. Assumes nothing.
 use Rattle.order.proofs.ByNumber.{of-301-named, of-301-unnamed, of-301-free}
-use mathlib.Core.Path.{sym, _∙_}
+use mathlib.Core.Path.{sym}
 use Rattle.order.proofs.State.usage_refusal.Statement.{statement}
 use Rattle.order.proofs.State.usage_refusal.Tie as tie
 use Rattle.order.proofs.State.usage_refusal.Reads as reads
