@@ -1,25 +1,22 @@
 -- The loop over lines: what is left from a position on gives the whole file's answer. One law for each way through the code.
 -- Assumes nothing.
-use Prim.Native.Nat.{ℕ, zero, suc, _+_, _-_, _≤_, _<_}
+use Prim.Native.Nat.{ℕ, _+_, _-_, _≤_}
 use native.Mathlib.Nat.{zero-add, add-zero}
 use mathlib.Core.Path.{_≡_, refl, sym, ap, _∙_, subst}
-use mathlib.Core.Bool.{Bool, true, false, cond, false≢true}
+use mathlib.Core.Bool.{Bool, true, false, cond}
 use mathlib.Core.Logic.{⊎-elim}
-use mathlib.Core.List.{List, [], _∷_, _++_}
+use mathlib.Core.List.{List}
 use native.Mathlib.Omega.{arith}
-use borrow.Author.Tests.{le-leb, lt-leb, eq-eqb, ne-eqb, eqb-true, eqb-false}
+use borrow.Author.Tests.{eq-eqb, ne-eqb}
 use mir.Val.{Fits}
 use mir.Syntax.{w32, w64}
-use lib.Dec.{leb, eqb}
+use lib.Dec.{eqb}
 use lib.ListN.{length, take, drop}
 use Rattle.lists.specs.Lists.{part, Res, ok, refused}
 use Rattle.scanning.specs.declared.Line.{Line}
 use Rattle.scanning.specs.declared.Line.the-variants.{Whole, Mark, End, Broken}
-use Rattle.characters.specs.Text.{allChars, text}
-use Rattle.scanning.specs.Scans.{Stops, Sixteen}
-use Rattle.characters.specs.Rows.{rows, isLine, lineEnd, endMark, WholeLine, BrokenRow}
-use Rattle.scanning.specs.Scans.{ScannedLine, LineMeans, LineOf}
-use Rattle.characters.proofs.RowLaws.{line-is, line-text, line-no-mark}
+use Rattle.characters.specs.Rows.{rows}
+use Rattle.scanning.specs.Scans.{LineOf}
 use Rattle.records.specs.Records.{Record, recordOf}
 use Rattle.order.specs.declared.State.{State}
 use Rattle.order.specs.declared.Moved.{Moved}
@@ -27,13 +24,12 @@ use Rattle.order.specs.declared.Moved.the-variants.{Refused as StepRefused, On}
 use Rattle.order.specs.State.{start, finishOf, advance, Room}
 use Rattle.order.proofs.Laws.{next-line, room, room-start, line-start}
 use Rattle.notebook.specs.Facts.{factsOf}
-use Rattle.lines.specs.Codes.{Commas}
 use Rattle.replies.specs.declared.Checked.{Checked}
 use Rattle.replies.specs.declared.Checked.the-variants.{Accepted, Refused}
-use Rattle.notebook.specs.Notebook.{Notebook, stepLine, prepend, closed, onward, recordsFrom, notebookOf, readRows, readFile}
-use Rattle.notebook.specs.Check.{count, counted, checked, checkOf}
+use Rattle.notebook.specs.Notebook.{stepLine, prepend, closed, onward, recordsFrom, notebookOf}
+use Rattle.notebook.specs.Check.{count, checked, checkOf}
 use Rattle.checking.specs.Walking.{tally, Closing}
-use Rattle.checking.proofs.LineFacts.{line-size, whole-line, records-end, records-mark, records-broken, records-on}
+use Rattle.checking.proofs.LineFacts.{whole-line, records-end, records-mark, records-broken, records-on}
 use Rattle.checking.specs.declared.Turn.{Turn}
 use Rattle.checking.specs.declared.Turn.the-variants.{Over, Refused as TurnRefused, On as TurnOn}
 use Rattle.checking.specs.Turns.{RefusedAt, broken, faulty, TurnOf}
@@ -57,10 +53,6 @@ module _ (st : State) {n : ℕ} (e : n ≡ finishOf st) where
   pub close-missing : (n ≡ 0 → ⊥) → Refused n (st .line + 1) ≡ tally st (closed st)
   unfolding closed
   close-missing z = rw (ne-eqb (finishOf st) 0 (λ q. z (e ∙ q))) (ap (λ (k : ℕ). Refused k (st .line + 1)) e)
-
-facts-number : (r : Record) → (factsOf r) .number ≡ r .number
-unfolding factsOf
-facts-number r = refl
 
 -- ---- the counts: what a state has counted, with what follows
 

@@ -2,21 +2,21 @@
 -- Assumes nothing.
 use Prim.Native.Nat.{ℕ, _+_, _-_, _≤_, _<_}
 use native.Mathlib.Omega.{arith}
-use mathlib.Core.Path.{_≡_, refl, sym, ap, _∙_, subst}
-use mathlib.Core.Bool.{Bool, true, false}
-use mathlib.Core.List.{List, [], _∷_, _++_}
+use mathlib.Core.Path.{_≡_, ap, subst}
+use mathlib.Core.Bool.{Bool}
+use mathlib.Core.List.{List, [], _∷_}
 use mir.Val.{Fits}
 use mir.Syntax.{w64}
 use lib.ListN.{length, take, drop, length-drop}
 use lib.Seq.{length-take-le}
-use Rattle.lists.specs.Lists.{part, Res, refused}
+use Rattle.lists.specs.Lists.{part, refused}
 use Rattle.scanning.specs.declared.Line.{Line}
 use Rattle.scanning.specs.declared.Line.the-variants.{Whole, Mark, End, Broken}
 use Rattle.scanning.specs.Scans.{Stops, Sixteen}
 use Rattle.characters.specs.Rows.{rows, WholeLine, BrokenRow}
 use Rattle.scanning.specs.Scans.{ScannedLine, LineMeans, LineOf}
 use Rattle.characters.proofs.RowLaws.{line-is, line-text, line-no-mark}
-use Rattle.records.specs.Records.{Record, recordOf}
+use Rattle.records.specs.Records.{recordOf}
 use Rattle.order.specs.declared.State.{State}
 use Rattle.lines.specs.Codes.{Commas}
 use Rattle.notebook.specs.Notebook.{stepLine, closed, onward, recordsFrom}

@@ -1,6 +1,6 @@
 -- One turn of a walk over records: the ways through `read_record`, and what a turn says to a loop. Assumes nothing.
 use Prim.Native.Nat.{ℕ, _+_, _-_, _≤_, _<_}
-use mathlib.Core.Path.{_≡_, refl, sym, ap, _∙_, subst}
+use mathlib.Core.Path.{_≡_, refl, sym, _∙_, subst}
 use mathlib.Core.Bool.{true}
 use mathlib.Core.List.{List}
 use borrow.Author.Tests.{ne-eqb}
@@ -8,7 +8,7 @@ use mir.Val.{Fits}
 use mir.Syntax.{w64}
 use lib.ListN.{length, take, drop}
 use Rattle.lists.specs.Lists.{part}
-use Rattle.scanning.specs.Scans.{Stops, Sixteen, LineOf}
+use Rattle.scanning.specs.Scans.{Stops, Sixteen}
 use Rattle.records.specs.Records.{lineFault}
 use Rattle.order.specs.declared.State.{State}
 use Rattle.order.specs.declared.Facts.{Facts}

@@ -1,5 +1,5 @@
 -- A walk over the records of a file, as the code takes it: the counts so far, and what a step may rely on.
-use Prim.Native.Nat.{ℕ, _+_, _-_, _≤_}
+use Prim.Native.Nat.{_+_, _-_, _≤_}
 use mathlib.Core.List.{List}
 use lib.ListN.{length}
 use Rattle.lists.specs.Lists.{Res, ok, refused}

@@ -1,29 +1,26 @@
 -- The walk that writes the entries: what is left from a line on, written behind what is written, gives the whole index. One law for
 -- each way through the code. Assumes nothing.
-use Prim.Native.Nat.{ℕ, _+_, _-_, _≤_, _<_}
+use Prim.Native.Nat.{ℕ, _+_, _-_, _≤_}
 use native.Mathlib.Omega.{arith}
 use mathlib.Core.Path.{_≡_, refl, sym, ap, _∙_, subst}
-use mathlib.Core.Bool.{Bool, true, false, cond}
+use mathlib.Core.Bool.{Bool}
 use mathlib.Core.Logic.{⊎-elim}
 use mathlib.Core.List.{List, [], _∷_, _++_}
-use borrow.Author.Tests.{ne-eqb, eqb-true}
 use mir.Val.{Fits}
 use mir.Syntax.{w64}
-use lib.Dec.{eqb}
-use lib.ListN.{length, take, drop, length-append, length-drop}
-use lib.Seq.{sets, length-take-le}
+use lib.ListN.{length, drop, length-append}
+use lib.Seq.{sets}
 use Rattle.lists.specs.Lists.{part}
 use Rattle.scanning.specs.declared.Line.the-variants.{Whole, Mark, End, Broken}
 use Rattle.characters.specs.Rows.{rows, isLine, lineEnd, WholeLine, BrokenRow}
 use Rattle.scanning.specs.Scans.{LineOf}
 use Rattle.characters.proofs.RowLaws.{line-is, line-text}
-use Rattle.records.specs.Records.{faultWhere, lineFault, recordOf}
+use Rattle.records.specs.Records.{recordOf}
 use Rattle.order.specs.declared.State.{State}
-use Rattle.order.specs.declared.Facts.{Facts}
 use Rattle.order.specs.declared.Moved.{Moved}
 use Rattle.order.specs.declared.Moved.the-variants.{Refused, On}
-use Rattle.order.specs.State.{start, advance, stepOf, groupOf, drugOf, Room as Countable}
-use Rattle.order.proofs.Laws.{taken, next-line, room, room-start, line-start}
+use Rattle.order.specs.State.{start, stepOf, groupOf, drugOf, Room as Countable}
+use Rattle.order.proofs.Laws.{next-line, room, room-start, line-start}
 use Rattle.notebook.specs.Facts.{factsOf}
 use Rattle.buffers.specs.Buffers.{Room, Wrote, six}
 use Rattle.buffers.proofs.Runs.{carry}

@@ -1,13 +1,13 @@
 -- Pairs and facts of a record by its items at positions. Assumes nothing.
-use Prim.Native.Nat.{ℕ, zero, suc, _+_, _-_, _≤_, _<_}
+use Prim.Native.Nat.{ℕ, suc, _-_, _≤_, _<_}
 use mathlib.Core.Path.{_≡_, refl, sym, ap, ap₂, _∙_}
 use mathlib.Core.Bool.{Bool, true, false, cond, not, _&&_, _||_}
 use mathlib.Core.Option.{Option, none, some}
 use mathlib.Core.List.{List, [], _∷_}
 use native.Mathlib.Omega.{arith}
 use borrow.Author.Tests.{eq-eqb, ne-eqb, eqb-true, eqb-false}
-use lib.Dec.{leb, eqb}
-use lib.ListN.{length, getD, take, drop, length-take, length-drop}
+use lib.Dec.{eqb}
+use lib.ListN.{length, getD, drop, length-take, length-drop}
 use Rattle.lists.specs.Lists.{empty, member, part}
 use Rattle.lists.proofs.Tests.{empty-is}
 use Rattle.digits.specs.Digits.{number}
@@ -23,7 +23,7 @@ use Rattle.lines.specs.declared.Span.{Span}
 use Rattle.lines.specs.declared.Usage.{Usage}
 use Rattle.lines.specs.declared.Details.{Details}
 use Rattle.notebook.specs.Facts.{dayOf}
-use Rattle.lines.specs.Codes.{SpanAt, codeRaw, formRaw, pairsRaw, orZero, rpRaw, dayRaw, rpRecords, factsRaw, detailsRaw, bareDetails, otherDetails, usageRaw}
+use Rattle.lines.specs.Codes.{SpanAt, codeRaw, formRaw, pairsRaw, orZero, rpRaw, dayRaw, factsRaw, detailsRaw, bareDetails, otherDetails, usageRaw}
 
 -- ---- values
 

@@ -15,7 +15,6 @@ use Rattle.digits.specs.Short.{plainNumber}
 use Rattle.calendar.specs.declared.DateRead.{DateRead}
 use Rattle.calendar.specs.declared.DateRead.the-variants.{Date, NotADate}
 use Rattle.calendar.specs.Era.{readDay}
-use Rattle.order.specs.declared.Facts.{Facts}
 use Rattle.records.specs.Table.{Kind, N, U, X, A, F, C, P, R, W, Q, D, among, Item, Row, table, fromProvider, optional}
 use Rattle.records.specs.Items.{Value, text, num, day, value, numberValue, dayValue}
 use Rattle.records.specs.Records.{Record, itemValue, itemsValue, nth, isEmpty, codePair, formPair, pairs}

@@ -8,8 +8,7 @@ use lib.ListN.{length, getD}
 use Rattle.lists.specs.Lists.{part}
 use Rattle.characters.specs.Text.{commaCount}
 use Rattle.records.specs.Split.{itemsOf}
-use Rattle.records.specs.Items.{Value, text}
-use Rattle.records.specs.Records.{firstOf, rowOf, itemValue, itemsValue, nth, recordFrom, recordOf, lineFault}
+use Rattle.records.specs.Records.{firstOf, rowOf, itemValue, nth, recordFrom, recordOf, lineFault}
 use Rattle.records.proofs.LineLaws.{Good, line-good}
 use Rattle.lines.specs.declared.Span.{Span}
 use Rattle.lines.specs.Codes.{ItemOf, ItemIn}

@@ -19,7 +19,6 @@ use Rattle.records.specs.Split.{itemsOf, itemsFrom}
 use Rattle.records.specs.Table.{Row, table}
 use Rattle.records.specs.Records.{t911, rowOf, recordFrom, recordOf, itemsValue, itemsFault, pairs, faultFrom}
 use Rattle.lines.specs.declared.Details.{Details}
-use Rattle.lines.specs.declared.Numbered.{Numbered}
 use Rattle.notebook.specs.Facts.{factsOf}
 use Rattle.lines.specs.Found.{Sound, NumberedAs}
 use Rattle.codes.specs.Codes.{sliceOf, placeOf, placeIn, InCodes}

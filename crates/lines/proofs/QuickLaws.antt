@@ -2,7 +2,7 @@
 -- Assumes nothing.
 use Prim.Native.Nat.{ℕ, suc, _+_, _-_, _/_, _%_, _≤_, _<_}
 use mathlib.Core.Path.{_≡_, refl, sym, ap, ap₂, _∙_, subst}
-use mathlib.Core.Bool.{Bool, true, false, not, false≢true}
+use mathlib.Core.Bool.{Bool, true, false, false≢true}
 use mathlib.Core.List.{List, [], _∷_, _++_, map, map-append}
 use native.Mathlib.Omega.{arith}
 use borrow.Author.Tests.{le-leb, ne-eqb, eqb-true}
@@ -14,7 +14,6 @@ use Rattle.lists.proofs.Tests.{or-zero, both-zero}
 use Rattle.lists.proofs.Cuts.{drop-step}
 use Rattle.lists.proofs.Parts.{part-join, part-at}
 use Rattle.digits.specs.Short.{plainNumber}
-use Rattle.scanning.specs.declared.Line.{Line}
 use Rattle.scanning.specs.declared.Line.the-variants.{Whole as WholeLine}
 use Rattle.characters.specs.Text.{isStop}
 use Rattle.scanning.specs.Scans.{Sixteen, RunOf, ScanOf}

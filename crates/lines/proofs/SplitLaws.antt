@@ -8,14 +8,13 @@ use native.Mathlib.Omega.{arith}
 use native.Mathlib.Decide.{decLt}
 use borrow.Author.Tests.{le-leb, lt-leb, eqb-true}
 use lib.Dec.{leb·zero}
-use lib.ListN.{length, take, drop, getD, length-map}
+use lib.ListN.{length, take, drop, getD}
 use lib.Seq.{drop-drop}
 use Rattle.lists.specs.Lists.{part, upTo, findFrom}
 use Rattle.lists.proofs.Parts.{part-length, part-at, part-part}
 use Rattle.lists.proofs.Cuts.{drop-step, drop-end, take-upTo}
-use Rattle.lists.proofs.Loops.{find-low, find-high}
 use Rattle.characters.specs.Text.{commaCount, commasFrom}
-use Rattle.scanning.specs.Scans.{Stops, Sixteen}
+use Rattle.scanning.specs.Scans.{Stops}
 use Rattle.scanning.proofs.TextLaws.{count-places}
 use Rattle.records.specs.Split.{isComma, consItem, itemsOf, itemsFrom, itemEnd}
 use Rattle.lines.specs.declared.Span.{Span}
@@ -358,9 +357,8 @@ item-in s at e j {stops} {n} {r} v x y =
     }
 
 -- before it stands its comma
-pub item-comma : {s stops : List ℕ} {at e n : ℕ} → LineIn s at e stops n → (j : ℕ) → ItemOf j n → {r : Span} → ItemIn s at e j r → getD s (r .from - 1) 0 ≡ 0x2c
-item-comma {s} {stops} {at} {e} v j k {r} x =
+pub comma-in : {s stops : List ℕ} {at e n j : ℕ} → LineIn s at e stops n → ItemOf j n → getD s (at + commaAt (part s at e) (j - 1)) 0 ≡ 0x2c
+comma-in {s} {stops} {at} {e} {n} {j} v k =
     let c : j - 1 < commaCount (part s at e) = omega (arith, v .spans .commas .is, k .low, k .high) in
     let i : commaAt (part s at e) (j - 1) < length (part s at e) = comma-less (part s at e) (j - 1) c in
-    let z : r .from - 1 ≡ at + commaAt (part s at e) (j - 1) = omega (arith, x .begins) in
-    ap (λ (p : ℕ). getD s p 0) z ∙ sym (part-at s at e (commaAt (part s at e) (j - 1)) (omega (arith, i, part-length s at e (v .low) (v .high)))) ∙ comma-byte (part s at e) (j - 1) c
+    sym (part-at s at e (commaAt (part s at e) (j - 1)) (omega (arith, i, part-length s at e (v .low) (v .high)))) ∙ comma-byte (part s at e) (j - 1) c
