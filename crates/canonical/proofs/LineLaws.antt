@@ -86,9 +86,6 @@ module _ {cs : List ℕ} {place n : ℕ} {s : List ℕ} {end k j : ℕ} {d : Lis
         high = omega (arith, w .count, w .hold, ap length e);
       }
 
-  writing-index : k < end → k < 83
-  writing-index h = omega (arith, w .high)
-
   module _ (m : commaCount s ≡ n) (h : k < end) where
     item : List ℕ
     item = getD (itemsOf s) j []
@@ -160,9 +157,6 @@ module _ {cs : List ℕ} {place n : ℕ} {s : List ℕ} {at e end k j : ℕ} {st
     {stops : List ℕ} (v : LineIn s at e stops n) where
   counted : commaCount (part s at e) ≡ n
   counted = sym (v .spans .commas .is)
-
-  turning-index : k < end → k < 83
-  turning-index h = writing-index (t .writing) h
 
   turning-item : k < end → ItemOf j n
   turning-item h = writing-item (t .writing) counted h

@@ -12,7 +12,7 @@ use Rattle.characters.specs.Scanning.{commaCount}
 use Rattle.records.specs.Split.{itemsOf}
 use Rattle.lines.specs.Codes.{commaAt, LineIn, ItemOf, ItemIn}
 use Rattle.lines.specs.declared.Span.{Span}
-use Rattle.lines.proofs.SplitLaws.{comma-less, comma-le, comma-next, comma-byte, item-part}
+use Rattle.lines.proofs.SplitLaws.{comma-le, comma-next, item-part, comma-in}
 use Rattle.canonical.specs.declared.Run.{Run}
 use Rattle.canonical.specs.Writing.{itemBytes, Spellable, Ready, Passed, Lies, begins, ends, itemAt, Stays}
 use Rattle.canonical.proofs.ItemLaws.{own-plain}
@@ -35,10 +35,8 @@ module _ {s stops : List ℕ} {at e n j : ℕ} (v : LineIn s at e stops n) (k : 
 
   comma-is : part s (begins s at e j) (begins s at e j + 1) ≡ 0x2c ∷ []
   comma-is =
-      let p : ℕ = commaAt (part s at e) (j - 1) in
-      let i : p < length (part s at e) = comma-less (part s at e) (j - 1) (omega (arith, inside, k .low)) in
-      let b : getD s (at + p) 0 ≡ 0x2c = sym (part-at s at e p (omega (arith, i, line-length))) ∙ comma-byte (part s at e) (j - 1) (omega (arith, inside, k .low)) in
-      part-more s (at + p) (at + p) (omega arith) (omega (arith, i, line-length, v .low, v .high)) ∙ ap₂ (λ (x : List ℕ) (y : ℕ). x ++ (y ∷ [])) (part-none s (at + p)) b
+      part-more s (begins s at e j) (begins s at e j) (omega arith) (omega (arith, item-low, item-high, v .high))
+      ∙ ap₂ (λ (x : List ℕ) (y : ℕ). x ++ (y ∷ [])) (part-none s (begins s at e j)) (comma-in v k)
 
   item-is : part s (begins s at e j + 1) (ends s at e j) ≡ itemAt s at e j
   item-is =

@@ -58,10 +58,6 @@ module _ (st : State) {n : ℕ} (e : n ≡ finishOf st) where
   unfolding closed
   close-missing z = rw (ne-eqb (finishOf st) 0 (λ q. z (e ∙ q))) (ap (λ (k : ℕ). Refused k (st .line + 1)) e)
 
-facts-number : (r : Record) → (factsOf r) .number ≡ r .number
-unfolding factsOf
-facts-number r = refl
-
 -- ---- the counts: what a state has counted, with what follows
 
 more : (b : Bool) (g c : ℕ) → g + (cond b 1 0 + c) ≡ cond b (g + 1) g + c

@@ -15,7 +15,7 @@ use Rattle.heading.specs.Reading.{headingOf}
 -- ---- the texts
 
 -- line 1 with its line end, as the code's bytes have it
-abbrev pub line1 : ℕ → List ℕ
+abbrev line1 : ℕ → List ℕ
 line1 d = 74 ∷ 65 ∷ 72 ∷ 73 ∷ 83 ∷ 84 ∷ 67 ∷ 48 ∷ 52 ∷ 44 ∷ d ∷ 13 ∷ 10 ∷ []
 
 pub heading-bytes : (provider : Bool) → headRow provider ≡ line1 (cond provider 49 50)

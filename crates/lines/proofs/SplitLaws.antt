@@ -359,9 +359,8 @@ item-in s at e j {stops} {n} {r} v x y =
     }
 
 -- before it stands its comma
-pub item-comma : {s stops : List ℕ} {at e n : ℕ} → LineIn s at e stops n → (j : ℕ) → ItemOf j n → {r : Span} → ItemIn s at e j r → getD s (r .from - 1) 0 ≡ 0x2c
-item-comma {s} {stops} {at} {e} v j k {r} x =
+pub comma-in : {s stops : List ℕ} {at e n j : ℕ} → LineIn s at e stops n → ItemOf j n → getD s (at + commaAt (part s at e) (j - 1)) 0 ≡ 0x2c
+comma-in {s} {stops} {at} {e} {n} {j} v k =
     let c : j - 1 < commaCount (part s at e) = omega (arith, v .spans .commas .is, k .low, k .high) in
     let i : commaAt (part s at e) (j - 1) < length (part s at e) = comma-less (part s at e) (j - 1) c in
-    let z : r .from - 1 ≡ at + commaAt (part s at e) (j - 1) = omega (arith, x .begins) in
-    ap (λ (p : ℕ). getD s p 0) z ∙ sym (part-at s at e (commaAt (part s at e) (j - 1)) (omega (arith, i, part-length s at e (v .low) (v .high)))) ∙ comma-byte (part s at e) (j - 1) c
+    sym (part-at s at e (commaAt (part s at e) (j - 1)) (omega (arith, i, part-length s at e (v .low) (v .high)))) ∙ comma-byte (part s at e) (j - 1) c
