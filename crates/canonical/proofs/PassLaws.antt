@@ -7,7 +7,7 @@ use mathlib.Core.List.{List, [], _∷_, _++_}
 use lib.ListN.{length, getD, take, drop}
 use lib.Seq.{getD-take, getD-drop}
 use Rattle.lists.specs.Searching.{part}
-use Rattle.lists.proofs.Parts.{part-length, part-none, part-more, part-join, part-part, part-at}
+use Rattle.lists.proofs.Parts.{part-length, part-none, part-more, part-join, part-part}
 use Rattle.characters.specs.Scanning.{commaCount}
 use Rattle.records.specs.Split.{itemsOf}
 use Rattle.lines.specs.Codes.{commaAt, LineIn, ItemOf, ItemIn}
