@@ -86,7 +86,6 @@ pub record Lies (s : List ℕ) (a e : ℕ) : Type 0 where
 -- ---- the items of a line behind its number, each with its comma
 
 -- each in its one spelling
-
 unfoldable pub tailOf : List Item → List (List ℕ) → List ℕ
 tailOf [] ss = []
 tailOf (i ∷ is) [] = []

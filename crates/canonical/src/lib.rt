@@ -122,8 +122,8 @@ fn respell(c: usize, s: &[u8], a: usize, e: usize, out: &mut [u8], run: Run) -> 
 
 // ---- one line
 
-// Whether an item from a on is surely its own spelling: a number that begins with no zero. So most numbers are passed, and where they end
-// need not be known: where an empty one would stand is the next comma or the line's end, which is no zero.
+// Whether an item from a on is surely its own spelling: a number that does not begin with a zero. Where it is empty, a comma or the line's end stands at
+// a, which is no zero either, so that most numbers are passed before their end is looked at.
 fn stays(c: usize, s: &[u8], a: usize) -> bool
     ensures { λ r. ⌜ Stays r c (now (s .entry)) a ⌝ }
 {

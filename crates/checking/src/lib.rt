@@ -67,8 +67,8 @@ pub enum Turn {
     Over,
 }
 
-// Reads and places the record at a position; stops: the places of its commas, from its beginning. One call for all of it, since what a
-// call stores is read back slowly: the state waits while the next line is found.
+// Reads and places the record at a position; stops: the places of its commas, from its beginning. One call for both, so that
+// the state is not stored and read back between them.
 pub fn read_record(
     codes: &[usize; 83],
     stops: &mut [usize; 16],

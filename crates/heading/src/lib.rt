@@ -1,5 +1,6 @@
 // Line 1 of a file or a piece: its two texts, read and written. Definitions: notebook, specs/Canonical.antt (`headRow`, line 1 with its line
-// end); specs/Reading.antt.
+// end); specs/Reading.antt. Another line 1 moves together: `header` (records); where its length is another, `over` (packing) and the 13s of `cut`, `join` and
+// `pieces`; where its first byte is, the J of `pieces::row_at`.
 ghost use mathlib.Core.Path.{_≡_};
 ghost use Rattle.notebook.specs.Canonical.{headRow};
 ghost use Rattle.heading.specs.Reading.{headingOf};

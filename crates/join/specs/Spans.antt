@@ -130,7 +130,6 @@ abbrev pub identAt : List ℕ → ℕ → List ℕ
 identAt s last = part s (last + 4) (last + 18)
 
 -- a record 911 from last to stop, n and k read, and the rows before it
-
 pub record MarkedLines (s : List ℕ) (from last stop n k : ℕ) : Type 0 where
   pub low : from ≤ last
   pub ident : last + 18 ≤ stop

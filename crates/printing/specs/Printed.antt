@@ -1,6 +1,6 @@
 -- Definitions, to be believed.
 -- The line that a program prints of a reply. Document 01, Cases: "prints `ok 1 0 0` (records, groups, drugs) and 0Ah; a refusal prints `no`,
--- number, line, with single spaces, and 0Ah." The names here: decimal, numbers, line, printed; Decimal-digits says what decimal is.
+-- number, line, with single spaces, and 0Ah." The names here: decimal, spaced, line, printed, Prints; specs/Digits.antt says what decimal is.
 use Prim.Native.Nat.{ℕ, zero, suc, _+_, _/_, _%_}
 use mathlib.Core.Path.{_≡_}
 use mathlib.Core.Bool.{cond}

@@ -1,6 +1,6 @@
 // What every call answers, and the one struct that it replies with. The exported struct is plain numbers, since an enum cannot be exported and a
-// result in lent memory would spoil "a refusal leaves all lent memory as lent". A call to come answers an Answer; what it has to give is a definition
-// of its own, as specs/Results.antt asks it.
+// result in lent memory would spoil "a refusal leaves all lent memory as lent". What a call has to give is a definition of its own, as
+// specs/Results.antt asks it. A call that replies with other fields: CONTRIBUTING.md.
 ghost use mathlib.Core.Path.{_≡_};
 ghost use Rattle.replies.specs.Replies.{replyOf};
 
