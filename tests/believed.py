@@ -13,9 +13,11 @@ Each file under crates/*/specs/ says in its first line of which sort it is:
   -- Vocabulary of the code.            words for the contracts of functions that are not exported, and for their proofs
   -- Vocabulary of the proofs.          words for laws that others rest on
 
-The rules: what must be believed stands in a file of definitions or of promises; a file of definitions has nothing else; no name of a definition
-or type means two things among those of definitions, promises and second statements, nor does one of a constructor that must be believed; and docs/PROMISES.md has the list as it is.
-Lines are counted without comments, imports and blank lines.
+The rules: what must be believed stands in a file of definitions or of promises, and such a file has nothing else; each statement of a file of
+promises is the type of a law in proofs/ of its crate; no name of a definition or type means two things among those of definitions, promises and second
+statements, nor does one of a constructor that must be believed; and docs/PROMISES.md has the list as it is. What the script cannot follow is a
+fault too, so that nothing escapes it: an import that it cannot read or find, a qualified name, a name that is also a variable, a definition
+without `pub`. Lines are counted without comments, imports and blank lines. The kit's own names are not followed.
 """
 import re
 import sys
@@ -23,28 +25,32 @@ from pathlib import Path
 
 ROOT = Path(__file__).resolve().parent.parent
 CRATES = ROOT / "crates"
-BEGIN = "<!-- begin: tests/believed.py writes from here -->"
-END = "<!-- end: tests/believed.py writes to here -->"
-SEPARATORS = re.compile(r"[\s(){},;⌜⌝]+")
-SIGNATURE = re.compile(r"^(?:(?:abbrev|unfoldable|opaque) )?(?:pub )?(?:(data|record) )?(\S+)(.*)$")
+BEGIN, END = "<!-- begin: tests/believed.py writes from here -->", "<!-- end: tests/believed.py writes to here -->"
+SORTS = {
+    "-- Definitions, to be believed.": "definitions",
+    "-- Promises, to be believed.": "promises",
+    "-- A second statement, proved equal.": "second statements",
+    "-- Examples, computed.": "examples",
+    "-- Vocabulary of the code.": "vocabulary",
+    "-- Vocabulary of the proofs.": "vocabulary",
+}
+FAULTS = []
 
 
-def tokens(text):
-    """The names in a text: strings are left out, and so are the marks of a projection and of a bound variable."""
-    text = re.sub(r'"[^"]*"', " ", text)
-    found = []
-    for word in SEPARATORS.split(text):
-        if word and not word.startswith("."):
-            found.append(word.rstrip(".") if word not in (".", "..") else word)
-    return found
+def fault(text):
+    if text not in FAULTS:
+        FAULTS.append(text)
+
+
+# ---- reading files
 
 
 class Declaration:
     """A definition, type or statement with its lines; `gives` are the names that it defines, its own and its constructors'."""
 
-    def __init__(self, module, name, sort):
+    def __init__(self, module, name, sort, line):
         self.module, self.name, self.sort = module, name, sort
-        self.lines, self.gives = [], [name]
+        self.lines, self.gives = [line], [name]
 
     def __repr__(self):
         return f"{self.module.label}:{self.name}"
@@ -54,243 +60,235 @@ class Module:
     """A file of specs, or the structs and enums that a crate's code declares."""
 
     def __init__(self, crate, path):
-        self.crate, self.path = crate, path
-        self.label = str(path.relative_to(CRATES))
-        self.imports, self.declared, self.all = {}, {}, []
-        self.head = ""
+        self.crate, self.path, self.label = crate, path, str(path.relative_to(CRATES))
+        self.imports, self.declared, self.all, self.sort = {}, {}, [], "code"
+
+    def declare(self):
+        for declaration in self.all:
+            for word in (w for name in declaration.gives for w in words_of(name)):
+                if self.declared.setdefault(word, declaration) is not declaration and self.sort != "code":
+                    fault(f"{self.label}: `{word}` is declared twice")
 
 
 def words_of(name):
-    """The words by which a name with places (`_orElse_`) is used."""
-    return [w for w in name.split("_") if w] if "_" in name else [name]
+    """The words by which a name is used: of one with places at its ends (`_orElse_`) what stands between them."""
+    return [w for w in name.split("_") if w] if name.startswith("_") or name.endswith("_") else [name]
+
+
+def tokens(text):
+    """The names in a text: strings are left out, and so are the marks of a projection and of a bound variable."""
+    text = re.sub(r'"[^"]*"', " ", text)
+    return [w.rstrip(".") for w in re.split(r"[\s(){},;⌜⌝]+", text) if w and not w.startswith(".") and w.rstrip(".")]
+
+
+def read_use(module, text):
+    """An import: each name with the module that has it."""
+    found = re.match(r"^(\S+)\.\{([^{}]*)\}\s*;?$", text)
+    if not found:
+        fault(f"{module.label}: an import that cannot be read: {text}")
+        return
+    for name in found.group(2).split(","):
+        source, _, alias = name.strip().partition(" as ")
+        for word, own in zip(words_of(alias or source), words_of(source)):
+            module.imports[word] = (found.group(1), own)
 
 
 def read_specs(crate, path):
     module = Module(crate, path)
     lines = path.read_text().split("\n")
-    module.head = lines[0]
-    current, pending = None, []
+    module.sort = SORTS.get(lines[0])
+    if module.sort is None:
+        fault(f"{module.label} does not say in its first line of which sort it is")
+    current = None
     for line in lines:
-        if line.startswith("--") or not line.strip():
+        if line.lstrip().startswith("--") or not line.strip() or line.startswith(("infix", "unfolding ")):
             continue
         if line.startswith("use "):
             read_use(module, line[4:])
-        elif line.startswith(("infix", "pub mod ")):
-            continue
-        elif line.startswith(" "):
-            if line.strip().startswith("--"):
-                continue
-            if current:
-                current.lines.append(line)
-                part = re.match(r"^  ([^:]+) : ", line)
-                if current.sort == "data" and part:
-                    current.gives += part.group(1).split()
-        elif re.match(r"^(abbrev |unfoldable |opaque )?(pub )", line):
-            found = SIGNATURE.match(line)
-            current = Declaration(module, found.group(2), found.group(1) or "definition")
-            current.lines.append(line)
+        elif re.match(r"^(abbrev |unfoldable )?pub (?!use |mod )", line):
+            sort, name = re.match(r"^(?:abbrev |unfoldable )?pub (?:(data|record) )?(\S+)", line).groups()
+            current = Declaration(module, name, sort or "definition", line)
             module.all.append(current)
-        elif current:
+        elif current and (line.startswith((" ", "}")) or set(words_of(current.name)) & set(tokens(line.partition(" = ")[0]))):
             current.lines.append(line)
-    for declaration in module.all:
-        for name in declaration.gives:
-            for word in words_of(name):
-                module.declared[word] = declaration
+            constructors = re.match(r"^  ([^:]+) : ", line)
+            if current.sort == "data" and constructors:
+                current.gives += constructors.group(1).split()
+        else:
+            fault(f"{module.label}: a line that belongs to no `pub` declaration: {line}")
+    module.declare()
     return module
 
 
-def read_use(module, text):
-    found = re.match(r"^(\S+?)\.?\{(.*)\}\s*;?$", text.strip())
-    if not found:
-        return
-    for name in found.group(2).split(","):
-        name = name.strip()
-        source, _, alias = name.partition(" as ")
-        for word, own in zip(words_of(alias or source), words_of(source)):
-            module.imports[word] = (found.group(1), own)
-
-
 def read_code(crate, path):
-    """Structs and enums of a crate's code, as declarations of their own."""
+    """Structs and enums of a crate's code."""
     module = Module(crate, path)
     current = None
     for line in path.read_text().split("\n"):
         found = re.match(r"^pub (struct|enum) (\w+)", line)
         if found:
-            current = Declaration(module, found.group(2), found.group(1))
+            current = Declaration(module, found.group(2), found.group(1), line)
             module.all.append(current)
-        if current:
-            if line.strip() and not line.strip().startswith("//"):
-                current.lines.append(line)
-            variant = re.match(r"^    (\w+)(\(|,)", line)
+        elif current and line.strip() and not line.strip().startswith("//"):
+            current.lines.append(line)
+            variant = re.match(r"^    (\w+)[(,]", line)
             if current.sort == "enum" and variant:
                 current.gives.append(variant.group(1))
-            if line == "}":
-                current = None
-    for declaration in module.all:
-        for name in declaration.gives:
-            module.declared.setdefault(name, declaration)
+        if line == "}":
+            current = None
+    module.declare()
     return module
 
 
 def read_all():
     modules = {}
-    for crate in sorted(p.name for p in CRATES.iterdir() if p.is_dir()):
-        for path in sorted((CRATES / crate / "specs").glob("*.antt")):
-            modules[(crate, path.stem)] = read_specs(crate, path)
-        code = CRATES / crate / "src" / "lib.rt"
-        if code.exists():
-            modules[(crate, "")] = read_code(crate, code)
+    for crate in crates_in_order():
+        for path in sorted((CRATES / crate / "specs").rglob("*.antt")):
+            if path.stem != "Lib":
+                modules[(crate, path.stem)] = read_specs(crate, path)
+        if (CRATES / crate / "src/lib.rt").exists():
+            modules[(crate, "")] = read_code(crate, CRATES / crate / "src/lib.rt")
     return modules
 
 
-def lookup(modules, where, name):
-    """The declaration that a path and a name mean, None where it is not of this project."""
-    found = re.match(r"^Rattle·([\w]+)(?:·specs)?\.specs\.(.*)$", where)
-    if not found:
-        return None
-    crate, rest = found.groups()
-    if rest.startswith("declared."):
-        module = modules[(crate, "")]
-        owner = module.declared.get(rest.split(".")[1])
-        return owner
-    parts = rest.split(".")
-    module = modules.get((crate, parts[0]))
-    if module is None:
-        return None
-    if len(parts) > 1:
-        return module.declared.get(parts[1])
-    return module.declared.get(name)
+def crates_in_order():
+    lines = (ROOT / "crates.txt").read_text().split("\n")
+    return [line.split(":")[0] for line in lines if line and not line.startswith("#")]
 
 
-def bound(line):
-    """The variables of a clause: what stands before its first ` = ` but the name, and what is bound by λ or a type."""
+# ---- following names
+
+
+def lookup(modules, module, where, name):
+    """The declaration that an imported name means, None where it is the kit's."""
+    found = re.match(r"^Rattle·(\w+?)(?:·specs)?\.(.*)$", where)
+    if not found or (found.group(1), "") not in modules and not (CRATES / found.group(1)).exists():
+        return None
+    crate, parts = found.group(1), found.group(2).split(".")
+    if parts[:2] == ["specs", "declared"]:
+        declaration = modules[(crate, "")].declared.get(parts[2])
+    else:
+        owner = modules.get((crate, parts[1])) if parts[0] == "specs" and len(parts) > 1 else None
+        declaration = owner and owner.declared.get(parts[2] if len(parts) > 2 else name)
+    if declaration is None:
+        fault(f"{module.label}: `{name}` of {where} is not found")
+    return declaration
+
+
+def bound(declaration, line):
+    """The variables of a line: those before a clause's ` = `, and what is bound by λ or a type."""
     names = set()
     head, equals, _ = line.partition(" = ")
     if equals and not line.startswith((" ", "abbrev", "unfoldable", "pub")):
-        names |= set(tokens(head)[1:])
-    for group in re.findall(r"\(([^():]+) : ", line):
-        names |= set(group.split())
-    for group in re.findall(r"λ ([^.]+)\.", line):
+        names |= set(tokens(head)) - set(words_of(declaration.name))
+    for group in re.findall(r"\(([^():]+) : ", line) + re.findall(r"λ ([^.(]+)\.", line):
         names |= set(group.split())
     return names
 
 
 def uses(modules, declaration):
-    module = declaration.module
-    if module.path.suffix == ".rt":
-        found = set()
-        for line in declaration.lines:
-            for word in re.findall(r"\w+", line):
-                other = module.declared.get(word)
-                if other and other is not declaration and other.name == word:
-                    found.add(other)
-        return found
-    found = set()
+    """The declarations of this project that a declaration names."""
+    module, found = declaration.module, set()
+    if module.sort == "code":
+        for line in declaration.lines[1:]:
+            for crate, word in re.findall(r"(?:(\w+)::)?(\w+)", line):
+                other = modules[(crate, "")] if (crate, "") in modules else module
+                if word in other.declared and other.declared[word].name == word:
+                    found.add(other.declared[word])
+        return found - {declaration}
     for line in declaration.lines:
-        skipped = bound(line)
-        for word in tokens(line):
-            first = word.split(".")[0]
-            other = None
-            if first in module.declared:
-                other = module.declared[first]
-            elif first in module.imports:
-                where, name = module.imports[first]
-                other = lookup(modules, where, name)
-            if other and other is not declaration:
-                if first in skipped and other.sort == "definition":
-                    continue
+        if "Rattle·" in line:
+            fault(f"{declaration}: a qualified name: {line.strip()}")
+        variables = bound(declaration, line)
+        for word in (w.split(".")[0] for w in tokens(line)):
+            other = module.declared.get(word)
+            if other is None and word in module.imports:
+                other = lookup(modules, module, *module.imports[word])
+            if other and word in variables and other.name in words_of(other.name) and other.name == word and other is not declaration:
+                fault(f"{declaration}: `{word}` is a variable and a name: {line.strip()}")
+            if other:
                 found.add(other)
-    return found
+    return found - {declaration}
 
 
 def follow(modules, roots):
-    seen, todo = [], list(roots)
-    known = set(todo)
+    known, todo = set(roots), list(roots)
     while todo:
-        declaration = todo.pop()
-        seen.append(declaration)
-        for other in sorted(uses(modules, declaration), key=repr):
-            if other not in known:
-                known.add(other)
-                todo.append(other)
+        for other in uses(modules, todo.pop()) - known:
+            known.add(other)
+            todo.append(other)
     return known
 
 
-def contract_roots(modules, path, exported):
-    """The names of each contract of a file of code: {function: declarations}."""
-    module = Module(path.parent.parent.name, path)
-    text = path.read_text()
-    for line in text.split("\n"):
-        if line.startswith("ghost use "):
-            read_use(module, line[len("ghost use "):])
-    roots = {}
-    pattern = r'pub extern "C" fn (\w+)(.*?)^\{' if exported else r"pub fn (\w+)(.*?)^\{"
-    for name, contract in re.findall(pattern, text, re.S | re.M):
-        found = set()
-        for clause in re.findall(r"(?:ensures|requires)[^{]*\{(.*?)\}", contract, re.S):
-            for word in tokens(clause):
-                if word in module.imports:
-                    where, own = module.imports[word]
-                    other = lookup(modules, where, own)
-                    if other:
-                        found.add(other)
-        roots[name] = found
+def clauses(contract):
+    """What stands between the braces of each `requires` and `ensures`."""
+    for start in re.finditer(r"(?:requires|ensures)[^{]*\{", contract):
+        depth, end = 1, start.end()
+        while depth:
+            depth += {"{": 1, "}": -1}.get(contract[end], 0)
+            end += 1
+        yield contract[start.end():end - 1]
+
+
+def contracts(modules, path, exported):
+    """The declarations that the contracts of a file of code name, with the types of parameters and results: {function: declarations}."""
+    module, text, roots = Module(path.parent.parent.name, path), path.read_text(), {}
+    for line in re.findall(r"^ghost use (.*)$", text, re.M):
+        read_use(module, line)
+    kind = r'extern "C" ' if exported else ""
+    for name, contract in re.findall(r"^pub %sfn (\w+)(.*?)^\{" % kind, text, re.S | re.M):
+        roots[name] = set()
+        for word in (w for clause in clauses(contract) for w in tokens(clause)):
+            if word in module.imports:
+                roots[name].add(lookup(modules, module, *module.imports[word]))
+        for crate, word in re.findall(r"(\w+)::(\w+)", contract):
+            roots[name].add(modules[(crate, "")].declared.get(word))
+        roots[name].discard(None)
     return roots
 
 
-SORTS = {
-    "-- Definitions, to be believed.": "definitions",
-    "-- Promises, to be believed.": "promises",
-    "-- A second statement, proved equal.": "second statements",
-    "-- Examples, computed.": "examples",
-    "-- Vocabulary of the code.": "vocabulary",
-    "-- Vocabulary of the proofs.": "vocabulary",
-}
+def statements(module):
+    """The statements of a file of promises, each proved in proofs/ of its crate."""
+    laws = "\n".join(path.read_text() for path in (CRATES / module.crate / "proofs").rglob("*.antt"))
+    found = [d for d in module.all if re.match(r"^abbrev pub \S+ : Type 0$", d.lines[0])]
+    for declaration in found:
+        if not re.search(r"^ *pub \S+ : %s$" % re.escape(declaration.name), laws, re.M):
+            fault(f"{declaration} is the type of no law")
+    return found
 
 
-def sort_of(module):
-    return "code" if module.path.suffix == ".rt" else SORTS.get(module.head, "no sort")
+# ---- the rules, and the list
 
 
 def size(declarations):
     return sum(len(d.lines) for d in declarations)
 
 
-def faults_of(modules, believed):
-    """What breaks a rule."""
-    faults = []
-    for declaration in sorted(believed, key=repr):
-        sort = sort_of(declaration.module)
-        if sort not in ("definitions", "promises", "code"):
-            faults.append(f"{declaration} must be believed and stands in a file of {sort}")
+def judge(modules, believed):
     names = {}
+    for declaration in sorted(believed, key=repr):
+        if declaration.module.sort not in ("definitions", "promises", "code"):
+            fault(f"{declaration} must be believed and stands in a file of {declaration.module.sort}")
     for module in modules.values():
-        sort = sort_of(module)
-        if sort == "no sort" and module.path.stem != "Lib":
-            faults.append(f"{module.label} does not say in its first line of which sort it is")
         for declaration in module.all:
-            if sort == "definitions" and declaration not in believed:
-                faults.append(f"{declaration} need not be believed and stands in a file of definitions")
-            if declaration in believed or sort == "second statements":
+            if module.sort in ("definitions", "promises") and declaration not in believed:
+                fault(f"{declaration} need not be believed and stands in a file of {module.sort}")
+            if declaration in believed or module.sort == "second statements":
                 for name in declaration.gives if declaration in believed else [declaration.name]:
                     names.setdefault(name, set()).add(repr(declaration))
     for name, places in sorted(names.items()):
         if len(places) > 1:
-            faults.append(f"`{name}` means two things: {', '.join(sorted(places))}")
-    return faults
+            fault(f"`{name}` means two things: {', '.join(sorted(places))}")
 
 
 def table(parts, believed):
     """The list for docs/PROMISES.md: lines call by call, then the files in the order of the data's way."""
-    text = ["| from | lines | not counted above |", "|---|---|---|"]
-    before = set()
+    text, before = ["| from | lines | not counted above |", "|---|---|---|"], set()
     for name, found in parts:
         text.append(f"| {name} | {size(found)} | {size(found - before)} |")
         before |= found
     text += ["", "| file | lines | names |", "|---|---|---|"]
-    order = [line.split(":")[0] for line in (ROOT / "crates.txt").read_text().split("\n") if line and not line.startswith("#")]
-    files = {}
+    files, order = {}, crates_in_order()
     for declaration in believed:
         files.setdefault(declaration.module, set()).add(declaration)
     for module in sorted(files, key=lambda m: (order.index(m.crate), m.path.suffix == ".antt", m.label)):
@@ -301,28 +299,28 @@ def table(parts, believed):
 
 def main():
     modules = read_all()
-    calls = contract_roots(modules, CRATES / "gateway/src/lib.rt", True)
-    parts = [(f"the contract of `{name}`", follow(modules, found)) for name, found in calls.items()]
-    printing = contract_roots(modules, CRATES / "answers/src/lib.rt", False)
+    parts = [(f"the contract of `{name}`", follow(modules, found))
+             for name, found in contracts(modules, CRATES / "gateway/src/lib.rt", True).items()]
+    printing = contracts(modules, CRATES / "answers/src/lib.rt", False)
     parts.append(("the contract of `print`", follow(modules, printing["print"])))
-    contracts = set().union(*(found for _, found in parts))
+    by_contract = set().union(*(found for _, found in parts))
     for module in modules.values():
-        if sort_of(module) == "promises":
-            parts.append((f"the promises of {module.label}", follow(modules, module.all)))
+        if module.sort == "promises":
+            parts.append((f"the promises of {module.label}", follow(modules, statements(module))))
     believed = set().union(*(found for _, found in parts))
-    text = f"{size(contracts)} lines for the contracts, {size(believed)} with the promises.\n\n" + table(parts, believed)
+    judge(modules, believed)
+    text = f"{size(by_contract)} lines for the contracts, {size(believed)} with the promises.\n\n{table(parts, believed)}"
     page = ROOT / "docs/PROMISES.md"
     before, _, rest = page.read_text().partition(BEGIN)
     told, _, after = rest.partition(END)
-    faults = faults_of(modules, believed)
     if sys.argv[1:] == ["write"]:
         page.write_text(f"{before}{BEGIN}\n\n{text}\n\n{END}{after}")
     elif told.strip() != text:
-        faults.append("docs/PROMISES.md has another list; `python3 tests/believed.py write` writes it")
+        fault("docs/PROMISES.md has another list; `python3 tests/believed.py write` writes it")
     print(text)
-    for fault in faults:
-        print("believed.py:", fault)
-    return 1 if faults else 0
+    for said in FAULTS:
+        print("believed.py:", said)
+    return 1 if FAULTS else 0
 
 
 if __name__ == "__main__":

@@ -25,7 +25,7 @@ use Rattle.canonical.specs.Writing.{MadeMeans, MadeOf}
 use Rattle.notebook.proofs.CanonicalLaws.{canonical-head, canonical-rows, canonical-small, canonical-long}
 use Rattle.packing.specs.Widths.{Plan, inOne, inRuns, noPlan, plan}
 use Rattle.division.specs.Marks.{validID, markRow}
-use Rattle.division.specs.Cut.{pieceBytes, numbered, planned, cutting, listed, found, cutList, writesPieces, cutResult}
+use Rattle.division.specs.Cut.{pieceBytes, numbered, planned, cutting, listed, listFor, cutList, writesPieces, cutResult}
 use Rattle.cut.specs.Loops.{numberedAs, plannedAs, cuttingOf, Given, cutOfBytes}
 
 -- ---- the pieces of a notebook are those of its canonical bytes
@@ -76,7 +76,7 @@ module _ (f : List ℕ) (c : ℕ) (id d : List ℕ) {buf : List ℕ} {l : ℕ} {
   unfolding canonicalFile cutResult cutList
   cut-refused {n} {line} e =
       let q : readFile f ≡ refused n line = refused-of n line (readFile f) (subst (MadeMeans (mapRes canonicalBytes (readFile f)) buf) e (p .means)) in
-      gives-refusal d (ap (λ (r : Res Notebook). mapRes writesPieces (andThen r (found id c))) q)
+      gives-refusal d (ap (λ (r : Res Notebook). mapRes writesPieces (andThen r (listFor id c))) q)
 
   module _ {t i j : ℕ} (e : m ≡ Done t i j) where
     means : (canonicalFile f ≡ ok (take t buf)) × (t ≤ length buf)
@@ -91,7 +91,7 @@ module _ (f : List ℕ) (c : ℕ) (id d : List ℕ) {buf : List ℕ} {l : ℕ} {
 
     list-is : cutList f c id ≡ cond (validID id) (listed (cutting id c (arrange (made .book)))) (refused 17 0)
     unfolding cutList
-    list-is = ap (λ (r : Res Notebook). andThen r (found id c)) (made .read)
+    list-is = ap (λ (r : Res Notebook). andThen r (listFor id c)) (made .read)
 
     module _ {x : Bool} (q : x ≡ validID id) where
       pub cut-no-id : x ≡ false → Gives (cutResult f c id) d d (Refused 17 0)

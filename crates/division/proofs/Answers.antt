@@ -22,7 +22,7 @@ use Rattle.division.specs.Marks.{validID}
 use Rattle.division.proofs.Chunks.{chunkBytes, chunks-once}
 use Rattle.replies.specs.declared.Answer.{Answer}
 use Rattle.replies.specs.declared.Answer.the-variants.{Done, Refused}
-use Rattle.division.specs.Cut.{cutting, listed, found, cutList, writesPieces, cutResult}
+use Rattle.division.specs.Cut.{cutting, listed, listFor, cutList, writesPieces, cutResult}
 use Rattle.division.specs.Join.{joinFile, joinResult}
 use Rattle.replies.specs.declared.Reply.{Reply}
 use Rattle.replies.specs.Replies.{refusal, result, replyOf}
@@ -129,7 +129,7 @@ module _ (f : List ℕ) (b : Notebook) (c : ℕ) (id : List ℕ) (e : readFile f
 
   list-found : (ps : List (List ℕ)) → cutList f c id ≡ ok ps → Planned id c b ps
   unfolding cutList
-  list-found ps l = go (validID id) refl (cutting id c (arrange b)) refl (sym (ap (λ (r : Res Notebook). andThen r (found id c)) e) ∙ l)
+  list-found ps l = go (validID id) refl (cutting id c (arrange b)) refl (sym (ap (λ (r : Res Notebook). andThen r (listFor id c)) e) ∙ l)
     where
       go : (v : Bool) → validID id ≡ v → (m : Option (List (List ℕ))) → cutting id c (arrange b) ≡ m → cond v (listed m) (refused 17 0) ≡ ok ps → Planned id c b ps
       go true p none q l = absurd (no-refusal l)
@@ -138,7 +138,7 @@ module _ (f : List ℕ) (b : Notebook) (c : ℕ) (id : List ℕ) (e : readFile f
 
   list-of : validID id ≡ true → cutList f c id ≡ listed (cutting id c (arrange b))
   unfolding cutList
-  list-of v = ap (λ (r : Res Notebook). andThen r (found id c)) e ∙ rw v
+  list-of v = ap (λ (r : Res Notebook). andThen r (listFor id c)) e ∙ rw v
 
   -- ---- a list that was written
 

@@ -32,7 +32,7 @@ use Rattle.division.specs.Marks.{validID, markLine, markRow}
 use Rattle.replies.specs.declared.Answer.{Answer}
 use Rattle.replies.specs.declared.Answer.the-variants.{Done, Refused}
 use Rattle.replies.specs.Results.{answerOf, fitting, answerIn}
-use Rattle.division.specs.Cut.{pieceBytes, numbered, planned as piecesOf, cutting, listed, found, cutList, writesPieces, cutResult}
+use Rattle.division.specs.Cut.{pieceBytes, numbered, planned as piecesOf, cutting, listed, listFor, cutList, writesPieces, cutResult}
 use Rattle.division.specs.Cases.{withNotes, Case, cases, thousand, answer}
 
 -- ---- the files of the cases of cutting, read
@@ -76,7 +76,7 @@ computed c b = planning (arrange b) (planned length c (recordRows (arrange b .re
 answered : (s : List ℕ) (b : Notebook) (c : ℕ) → readFile s ≡ ok b → answerIn (cutResult s c ident) thousand ≡ computed c b
 unfolding answerIn cutResult cutList cutting
 answered s b c e =
-    ap (λ (r : Res Notebook). answering (andThen r (found ident c))) e
+    ap (λ (r : Res Notebook). answering (andThen r (listFor ident c))) e
     ∙ ap (planning (arrange b)) (plan-is length c (recordRows (arrange b .records)))
 
 abbrev Cut : ℕ → ℕ → Answer → Type 0

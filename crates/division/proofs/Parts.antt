@@ -16,7 +16,7 @@ use Rattle.records.specs.Records.{isMark}
 use Rattle.packing.specs.Divisions.{concat}
 use Rattle.division.specs.Marks.{Mark, readMark}
 use Rattle.division.specs.Pieces.{Piece}
-use Rattle.division.specs.Join.{unmarked, Part, before, lastMark, partOf, with, allParts, agree, findPart, behind, gather, onePiece, joinParts}
+use Rattle.division.specs.Join.{unmarked, Part, rowBefore, lastMark, partOf, partWith, allParts, agree, findPart, rowsOfPart, gather, onePiece, joinParts}
 use Rattle.division.specs.Orders.{Insert, here, there, Perm, nil, cons}
 use Rattle.division.proofs.Orders.{all-append, all-map}
 
@@ -206,7 +206,7 @@ step : (ps : List Part) (n k : ℕ) (ls : List (List ℕ)) → gather ps (suc n)
 unfolding gather
 step ps n k ls e = go (findPart k ps) refl (gather ps n (suc k)) refl e
   where
-    go : (m : Option Part) → findPart k ps ≡ m → (g : Option (List (List ℕ))) → gather ps n (suc k) ≡ g → behind m g ≡ some ls → Step ps n k ls
+    go : (m : Option Part) → findPart k ps ≡ m → (g : Option (List (List ℕ))) → gather ps n (suc k) ≡ g → rowsOfPart m g ≡ some ls → Step ps n k ls
     go none p g q e = absurd (no-none e)
     go (some x) p none q e = absurd (no-none e)
     go (some x) p (some g) q e = record { part = x; found = p; rest = g; gathered = q; all = some-inj e }
@@ -276,13 +276,13 @@ part-is d (r ∷ rs) p e = go (isMark (text r)) (part-is d rs) e
     ends [] (some m) q f = subst (IsPart d (r ∷ [])) (some-inj f) (record { last = r; shape = refl; marked = q; way = refl })
     ends (u ∷ us) m q f = absurd (no-none f)
 
-    later : (m : Option Part) → ((q : Part) → m ≡ some q → IsPart d rs q) → before r m ≡ some p → IsPart d (r ∷ rs) p
+    later : (m : Option Part) → ((q : Part) → m ≡ some q → IsPart d rs q) → rowBefore r m ≡ some p → IsPart d (r ∷ rs) p
     later none ih f = absurd (no-none f)
     later (some q) ih f =
         let s : IsPart d rs q = ih q refl in
         subst (IsPart d (r ∷ rs)) (some-inj f) (record { last = s .last; shape = ap (λ (y : List (List ℕ)). r ∷ y) (s .shape); marked = s .marked; way = s .way })
 
-    go : (b : Bool) → ((q : Part) → partOf d rs ≡ some q → IsPart d rs q) → cond b (lastMark d rs (readMark (text r))) (before r (partOf d rs)) ≡ some p
+    go : (b : Bool) → ((q : Part) → partOf d rs ≡ some q → IsPart d rs q) → cond b (lastMark d rs (readMark (text r))) (rowBefore r (partOf d rs)) ≡ some p
         → IsPart d (r ∷ rs) p
     go true ih f = ends rs (readMark (text r)) refl f
     go false ih f = later (partOf d rs) ih f
@@ -306,7 +306,7 @@ parts-are [] ps e = subst (PartsOf []) (some-inj e) over
 parts-are (x ∷ xs) ps e = go (partOf (x .provider) (x .rows)) refl (allParts xs) refl (parts-are xs) e
   where
     go : (m : Option Part) → partOf (x .provider) (x .rows) ≡ m → (us : Option (List Part)) → allParts xs ≡ us
-        → ((us : List Part) → allParts xs ≡ some us → PartsOf xs us) → with m us ≡ some ps → PartsOf (x ∷ xs) ps
+        → ((us : List Part) → allParts xs ≡ some us → PartsOf xs us) → partWith m us ≡ some ps → PartsOf (x ∷ xs) ps
     go none p us q ih e = absurd (no-none e)
     go (some y) p none q ih e = absurd (no-none e)
     go (some y) p (some us) q ih e = subst (PartsOf (x ∷ xs)) (some-inj e) (more (part-is (x .provider) (x .rows) y p) (ih us q))

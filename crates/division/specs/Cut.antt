@@ -43,11 +43,11 @@ listed none = refused 18 0
 listed (some ps) = ok ps
 
 -- "a run of canonical records": in the sequence of the canonical file
-abbrev pub found : List ℕ → ℕ → Notebook → Res (List (List ℕ))
-found id c b = cond (validID id) (listed (cutting id c (arrange b))) (refused 17 0)
+abbrev pub listFor : List ℕ → ℕ → Notebook → Res (List (List ℕ))
+listFor id c b = cond (validID id) (listed (cutting id c (arrange b))) (refused 17 0)
 
 unfoldable pub cutList : List ℕ → ℕ → List ℕ → Res (List (List ℕ))
-cutList s c id = andThen (readFile s) (found id c)
+cutList s c id = andThen (readFile s) (listFor id c)
 
 -- "the result holds their count and total length": a pieces, b bytes
 abbrev pub writesPieces : List (List ℕ) → Result

@@ -32,9 +32,9 @@ pub record Part : Type 0 where
   pub rows : List (List ℕ)
 
 -- a row more at the front
-abbrev pub before : List ℕ → Option Part → Option Part
-before r none = none
-before r (some p) = some (record { provider = p .provider; mark = p .mark; rows = r ∷ p .rows })
+abbrev pub rowBefore : List ℕ → Option Part → Option Part
+rowBefore r none = none
+rowBefore r (some p) = some (record { provider = p .provider; mark = p .mark; rows = r ∷ p .rows })
 
 -- the first record 911 must be the last row, and be read
 abbrev pub lastMark : Bool → List (List ℕ) → Option Mark → Option Part
@@ -44,16 +44,16 @@ lastMark d (r ∷ rs) m = none
 
 unfoldable pub partOf : Bool → List (List ℕ) → Option Part
 partOf d [] = none
-partOf d (r ∷ rs) = cond (isMark (text r)) (lastMark d rs (readMark (text r))) (before r (partOf d rs))
+partOf d (r ∷ rs) = cond (isMark (text r)) (lastMark d rs (readMark (text r))) (rowBefore r (partOf d rs))
 
-abbrev pub with : Option Part → Option (List Part) → Option (List Part)
-with none ps = none
-with (some p) none = none
-with (some p) (some ps) = some (p ∷ ps)
+abbrev pub partWith : Option Part → Option (List Part) → Option (List Part)
+partWith none ps = none
+partWith (some p) none = none
+partWith (some p) (some ps) = some (p ∷ ps)
 
 unfoldable pub allParts : List Piece → Option (List Part)
 allParts [] = some []
-allParts (x ∷ xs) = with (partOf (x .provider) (x .rows)) (allParts xs)
+allParts (x ∷ xs) = partWith (partOf (x .provider) (x .rows)) (allParts xs)
 
 -- ---- a set: "all with equal line 1, ID (14 digits) and n (2–999, value); k takes each value 1 to n once"
 
@@ -67,15 +67,15 @@ unfoldable pub findPart : ℕ → List Part → Option Part
 findPart k [] = none
 findPart k (p ∷ ps) = cond (eqb (p .mark .place) k) (some p) (findPart k ps)
 
-abbrev pub behind : Option Part → Option (List (List ℕ)) → Option (List (List ℕ))
-behind none rs = none
-behind (some p) none = none
-behind (some p) (some rs) = some (p .rows ++ rs)
+abbrev pub rowsOfPart : Option Part → Option (List (List ℕ)) → Option (List (List ℕ))
+rowsOfPart none rs = none
+rowsOfPart (some p) none = none
+rowsOfPart (some p) (some rs) = some (p .rows ++ rs)
 
 -- the rows of n parts from place k on: with n parts in all, each place is taken once
 unfoldable pub gather : List Part → ℕ → ℕ → Option (List (List ℕ))
 gather ps zero k = some []
-gather ps (suc n) k = behind (findPart k ps) (gather ps n (suc k))
+gather ps (suc n) k = rowsOfPart (findPart k ps) (gather ps n (suc k))
 
 abbrev pub onePiece : Bool → Option (List (List ℕ)) → Option Piece
 onePiece d none = none

@@ -23,15 +23,15 @@ use Rattle.checking.specs.declared.Opening.{Opening}
 use Rattle.checking.specs.declared.Opening.the-variants.{Records, Refused as OpenRefused}
 use Rattle.checking.specs.Opening.{OpensAt, OpeningOf}
 use Rattle.checking.proofs.OpenLaws.{zeros-size, opening-refused, opening-records, opening-behind}
-use Rattle.notebook.specs.Index.{Entry, entriesFrom, entriesBehind, entriesOf, numbers, numbersOf, indexed, indexResult}
+use Rattle.notebook.specs.Index.{Entry, entriesFrom, entriesAfterHead, entriesOf, numbers, numbersOf, indexed, indexResult}
 use Rattle.index.specs.Filling.{Fillable}
 use Rattle.notebook.proofs.Answered.{Counted, answer-refused, answer-accepted}
 use Rattle.notebook.proofs.Walk.{Accepted as AcceptedFile, accepted, walk-length, numbers-length}
 
 -- ---- line 1
 
-entries-behind : (provider : Bool) (rs : List (List ℕ)) → entriesBehind (headRow provider ∷ rs) ≡ entriesFrom (start provider) (length (headRow provider)) rs
-unfolding entriesBehind header bytes isLine
+entries-behind : (provider : Bool) (rs : List (List ℕ)) → entriesAfterHead (headRow provider ∷ rs) ≡ entriesFrom (start provider) (length (headRow provider)) rs
+unfolding entriesAfterHead header bytes isLine
 entries-behind true rs = refl
 entries-behind false rs = refl
 
@@ -48,7 +48,7 @@ module _ {s d : List ℕ} (f : Fillable s d) {k : Opening} (w : OpeningOf s k) w
     file-entries =
         let o : OpensAt s provider from = opening-records w q in
         let n : length (headRow provider) ≡ from = ap length (sym (o .first)) ∙ length-take-le (from - 0) s (omega (arith, o .behind .high)) ∙ omega arith in
-        ap entriesBehind (o .cut) ∙ entries-behind provider (rows (drop from s)) ∙ ap (λ (j : ℕ). entriesFrom (start provider) j (rows (drop from s))) n
+        ap entriesAfterHead (o .cut) ∙ entries-behind provider (rows (drop from s)) ∙ ap (λ (j : ℕ). entriesFrom (start provider) j (rows (drop from s))) n
 
     pub fill-room : Room d 0 (numbers (entriesFrom (start provider) from (rows (drop from s))))
     unfolding numbersOf

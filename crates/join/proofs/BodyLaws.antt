@@ -30,7 +30,7 @@ use Rattle.pieces.specs.Answers.{RowAt, asKind, KindIs, asMark, Most, Reaches, 
 use Rattle.join.specs.declared.Lines.{Lines}
 use Rattle.join.specs.declared.Lines.the-variants.{Plain, Marked, Wrong}
 use Rattle.join.specs.declared.Member.the-variants.{Of, Foreign}
-use Rattle.division.specs.Join.{unmarked, Part, before, lastMark, partOf, with, agree}
+use Rattle.division.specs.Join.{unmarked, Part, rowBefore, lastMark, partOf, partWith, agree}
 use Rattle.join.specs.Spans.{isWhole, unbroken, isBody, goesOn, LineAt, partBy, identAt, MarkedLines, LastMeans, LastIs, LinesMean, LinesAre, agreed, Within, MemberIs}
 use Rattle.join.proofs.WalkLaws.{row-bounds, goes-over, goes-head, goes-end-head, goes-end, goes-broken, unbroken-step}
 
@@ -211,25 +211,25 @@ flat-append (r ∷ a) b = ap (λ (t : List ℕ). r ++ t) (flat-append a b) ∙ s
 -- rows more at the front of a part
 infront : List (List ℕ) → Option Part → Option Part
 infront [] o = o
-infront (r ∷ rs) o = before r (infront rs o)
+infront (r ∷ rs) o = rowBefore r (infront rs o)
 
 part-front : (d : Bool) (rs xs : List (List ℕ)) → unmarked rs ≡ true → partOf d (rs ++ xs) ≡ infront rs (partOf d xs)
 unfolding unmarked partOf infront
 part-front d [] xs e = refl
 part-front d (r ∷ rs) xs e =
     let p : (not (isMark (text r)) ≡ true) × (unmarked rs ≡ true) = both (not (isMark (text r))) (unmarked rs) e in
-    rw (not-true (isMark (text r)) (p .0)) (ap (before r) (part-front d rs xs (p .1)))
+    rw (not-true (isMark (text r)) (p .0)) (ap (rowBefore r) (part-front d rs xs (p .1)))
 
 front-none : (rs : List (List ℕ)) → infront rs none ≡ none
 unfolding infront
 front-none [] = refl
-front-none (r ∷ rs) = ap (before r) (front-none rs)
+front-none (r ∷ rs) = ap (rowBefore r) (front-none rs)
 
 front-some : (rs xs : List (List ℕ)) (d : Bool) (m : Mark)
     → infront rs (some (record { provider = d; mark = m; rows = xs })) ≡ some (record { provider = d; mark = m; rows = rs ++ xs })
 unfolding infront
 front-some [] xs d m = refl
-front-some (r ∷ rs) xs d m = ap (before r) (front-some rs xs d m)
+front-some (r ∷ rs) xs d m = ap (rowBefore r) (front-some rs xs d m)
 
 pub record Before (s : List ℕ) (from at : ℕ) : Type 0 where
   pub low : from ≤ at
@@ -408,7 +408,7 @@ module _ {s : List ℕ} {e : ℕ} {r : Lines} (w : Within s e) (v : LinesAre s e
 
 module _ {s : List ℕ} {e : ℕ} {side d : Bool} {i : List ℕ} {n : ℕ} {r : Lines} (v : LinesAre s e r) where
   foreign-none : ((x : Bool) → partOf x (bodyOf (rows (drop e s))) ≡ none) → MemberIs s e side d i n Foreign
-  foreign-none f = record { means = record { none = λ ps. ap (λ (o : Option Part). agreed d i n (with o ps)) (f side) } }
+  foreign-none f = record { means = record { none = λ ps. ap (λ (o : Option Part). agreed d i n (partWith o ps)) (f side) } }
 
   pub member-plain : {stop : ℕ} → r ≡ Plain stop → MemberIs s e side d i n Foreign
   member-plain q = foreign-none (subst (LinesMean s e) q (v .mean) .none)
@@ -419,9 +419,9 @@ module _ {s : List ℕ} {e : ℕ} {side d : Bool} {i : List ℕ} {n : ℕ} {r : 
   module _ {last stop m k : ℕ} (q : r ≡ Marked last stop m k) where
     foreign : test s side d i n last m ≡ false → MemberIs s e side d i n Foreign
     unfolding agree
-    foreign t = record { means = record { none = λ ps. ap (λ (o : Option Part). agreed d i n (with o ps)) ((lines v q) .is side) ∙ go ps } }
+    foreign t = record { means = record { none = λ ps. ap (λ (o : Option Part). agreed d i n (partWith o ps)) ((lines v q) .is side) ∙ go ps } }
       where
-        go : (ps : Option (List Part)) → agreed d i n (with (some (partBy side (identAt s last) m k ((lines v q) .lines))) ps) ≡ false
+        go : (ps : Option (List Part)) → agreed d i n (partWith (some (partBy side (identAt s last) m k ((lines v q) .lines))) ps) ≡ false
         go none = refl
         go (some ps) = rw t
 

@@ -34,7 +34,7 @@ use Rattle.join.specs.declared.Filled.{Filled}
 use Rattle.join.specs.declared.Filled.the-variants.{Full, Large}
 use Rattle.join.specs.declared.Made.{Made}
 use Rattle.join.specs.declared.Made.the-variants.{Bytes, No}
-use Rattle.division.specs.Join.{unmarked, Part, partOf, with, allParts, agree, gather, onePiece, joinParts, joinPieces, orSet, joinSplit, joinedFile, checkedFile, thenChecked, joinFile, joinResult}
+use Rattle.division.specs.Join.{unmarked, Part, partOf, partWith, allParts, agree, gather, onePiece, joinParts, joinPieces, orSet, joinSplit, joinedFile, checkedFile, thenChecked, joinFile, joinResult}
 use Rattle.join.specs.Spans.{unbroken, sound, Opened, Ended, NextMeans, NextIs, OpenedFirst, FirstMeans, FirstIs, PlainLines, partBy, identAt, MarkedLines, WrongLines, LinesMean, LinesAre, like, isSet, Blank, Collected, CollectMeans, CollectIs, taken, spans, FillMeans, FillIs, MadeMeans, MadeIs, SoundMeans, SoundIs, Given, GivenSet, First, Input}
 use Rattle.lists.proofs.Parts.{part-length}
 use Rattle.join.proofs.SoundLaws.{sound-line, line-sound}
@@ -110,10 +110,10 @@ module _ {D s : List ℕ} {d : Bool} {last n : ℕ} (g : First D s d last n) whe
   abbrev test : List Part → Bool
   test ps = agree (like d (identAt s last) n) ps && (leb 2 n && eqb (suc (length ps)) n)
 
-  by-test : (o : Option (List Part)) (ps : List Part) → o ≡ some ps → joinParts (with (some (firstOf g)) o)
+  by-test : (o : Option (List Part)) (ps : List Part) → o ≡ some ps → joinParts (partWith (some (firstOf g)) o)
       ≡ cond (test ps) (onePiece d (gather (firstOf g ∷ ps) n 1)) none
   by-test o ps e =
-      ap (λ (x : Option (List Part)). joinParts (with (some (firstOf g)) x)) e
+      ap (λ (x : Option (List Part)). joinParts (partWith (some (firstOf g)) x)) e
       ∙ ap (λ (t : Bool). cond (t && (leb 2 n && eqb (suc (length ps)) n)) (onePiece d (gather (firstOf g ∷ ps) n 1)) none)
       (like-same (firstOf g) ps)
 
@@ -124,7 +124,7 @@ module _ {D s : List ℕ} {d : Bool} {last n : ℕ} (g : First D s d last n) whe
   pub set-few : n ≤ 1 → SoundIs s (orSet (joinParts (allParts (piecesIn (rows s))))) D (No 19 0)
   set-few h = lost (g .size) (ap joinParts (g .is) ∙ go (g .others) refl)
     where
-      go : (o : Option (List Part)) → g .others ≡ o → joinParts (with (some (firstOf g)) o) ≡ none
+      go : (o : Option (List Part)) → g .others ≡ o → joinParts (partWith (some (firstOf g)) o) ≡ none
       go none q = refl
       go (some ps) q = by-test (some ps) ps refl ∙ no (agree (like d (identAt s last) n) ps)
         where
@@ -153,8 +153,8 @@ module _ {D s : List ℕ} {d : Bool} {last n : ℕ} (g : First D s d last n) whe
           size = g .size;
         }
       where
-        go : (o : Option (List Part)) → isSet d (identAt s last) n (with (some (firstOf g)) o) ≡ false
-            → joinParts (with (some (firstOf g)) o) ≡ none
+        go : (o : Option (List Part)) → isSet d (identAt s last) n (partWith (some (firstOf g)) o) ≡ false
+            → joinParts (partWith (some (firstOf g)) o) ≡ none
         go none e = refl
         go (some ps) e =
             let f : (agree (like d (identAt s last) n) ps && eqb (suc (length ps)) n) ≡ false =
@@ -175,8 +175,8 @@ module _ {D s : List ℕ} {d : Bool} {last n : ℕ} (g : First D s d last n) whe
       joins : joinParts (allParts (piecesIn (rows s))) ≡ onePiece d (gather (collected .seen) n 1)
       joins = ap joinParts (g .is) ∙ go (g .others) (sym (g .is) ∙ collected .parts)
         where
-          go : (o : Option (List Part)) → with (some (firstOf g)) o ≡ some (collected .seen)
-              → joinParts (with (some (firstOf g)) o) ≡ onePiece d (gather (collected .seen) n 1)
+          go : (o : Option (List Part)) → partWith (some (firstOf g)) o ≡ some (collected .seen)
+              → joinParts (partWith (some (firstOf g)) o) ≡ onePiece d (gather (collected .seen) n 1)
           go none e = let z : _≡_ {A = ℕ} 0 1 = cc in absurd (omega arith)
           go (some ps) e =
               let f : firstOf g ∷ ps ≡ collected .seen = cc in
@@ -239,7 +239,7 @@ module _ {D s : List ℕ} (g : Input D s) {r : Next} (x : FirstIs s r) where
     pub pieces-from : e ≤ length s
     pieces-from = opening .high
 
-    by-parts : allParts (piecesIn (rows s)) ≡ with (partOf d (bodyOf (rows (drop e s)))) (allParts (piecesIn (rows (drop e s))))
+    by-parts : allParts (piecesIn (rows s)) ≡ partWith (partOf d (bodyOf (rows (drop e s)))) (allParts (piecesIn (rows (drop e s))))
     unfolding allParts
     by-parts = ap allParts (opening .is)
 
@@ -253,7 +253,7 @@ module _ {D s : List ℕ} (g : Input D s) {r : Next} (x : FirstIs s r) where
           let w : WrongLines s e = mean t in
           nineteen (ap joinPieces (opening .is)
           ∙ (several (record { provider = d; rows = bodyOf (rows (drop e s)) }) (piecesIn (rows (drop e s))) (w .marked)
-          ∙ ap (λ (o : Option Part). joinParts (with o (allParts (piecesIn (rows (drop e s)))))) (w .none d)))
+          ∙ ap (λ (o : Option Part). joinParts (partWith o (allParts (piecesIn (rows (drop e s)))))) (w .none d)))
 
       module _ {last stop n k : ℕ} (t : l ≡ Marked last stop n k) where
         marked : MarkedLines s e last stop n k
@@ -268,7 +268,7 @@ module _ {D s : List ℕ} (g : Input D s) {r : Next} (x : FirstIs s r) where
           place = k;
           lines = marked .lines;
           others = allParts (piecesIn (rows (drop e s)));
-          is = by-parts ∙ ap (λ (o : Option Part). with o (allParts (piecesIn (rows (drop e s))))) (marked .is d);
+          is = by-parts ∙ ap (λ (o : Option Part). partWith o (allParts (piecesIn (rows (drop e s))))) (marked .is d);
           over = foremost .over;
           sound = foremost .sound ∙ sym (opening .whole);
         }
@@ -303,7 +303,7 @@ module _ {D s : List ℕ} (g : Input D s) {r : Next} (x : FirstIs s r) where
               let xs : List Piece = piecesIn (rows (drop e₂ s)) in
               let w : piecesIn (rows s) ≡ record { provider = d; rows = bodyOf (rows (drop e s)) } ∷ p ∷ xs =
               opening .is ∙ ap (λ (ps : List Piece). record { provider = d; rows = bodyOf (rows (drop e s)) } ∷ ps) (plain .next ∙ z .is) in
-              nineteen (ap joinPieces w ∙ ap (λ (o : Option Part). joinParts (with o (allParts (p ∷ xs)))) (plain .none d))
+              nineteen (ap joinPieces w ∙ ap (λ (o : Option Part). joinParts (partWith o (allParts (p ∷ xs)))) (plain .none d))
 
           pub pieces-one : {D₁ : List ℕ} {m : Made} → r₂ ≡ Over → MadeIs (ok (headRow d ++ part s e stop)) D₁ m
               → SoundIs s (orSet (joinPieces (piecesIn (rows s)))) D₁ m

@@ -22,7 +22,7 @@ use Rattle.join.specs.declared.Next.the-variants.{Opens, Over, Stray}
 use Rattle.join.specs.declared.Member.{Member}
 use Rattle.join.specs.declared.Member.the-variants.{Of, Foreign}
 use Rattle.join.specs.declared.Filled.the-variants.{Full, Large}
-use Rattle.division.specs.Join.{Part, partOf, with, allParts, agree, findPart, behind, gather}
+use Rattle.division.specs.Join.{Part, partOf, partWith, allParts, agree, findPart, rowsOfPart, gather}
 use Rattle.join.specs.Spans.{unbroken, goesOn, partBy, Opened, Ended, NextMeans, NextIs, like, agreed, isSet, Within, MemberAt, MemberMeans, MemberIs, Sizes, Bounds, Slot, Slots, Blank, Stored, CollectMeans, CollectIs, taken, spans, FillIs, FillRoom}
 use Rattle.lists.proofs.Parts.{part-length}
 use Rattle.join.proofs.BodyLaws.{flat-append}
@@ -48,7 +48,7 @@ after-none : (o : Option (List Part)) → o ≡ after [] o
 after-none none = refl
 after-none (some ps) = refl
 
-after-with : (seen : List Part) (p : Part) (o : Option (List Part)) → after seen (with (some p) o) ≡ after (seen ++ p ∷ []) o
+after-with : (seen : List Part) (p : Part) (o : Option (List Part)) → after seen (partWith (some p) o) ≡ after (seen ++ p ∷ []) o
 after-with seen p none = refl
 after-with seen p (some ps) = ap some (sym (append-assoc seen (p ∷ []) ps))
 
@@ -259,7 +259,7 @@ module _ {s : List ℕ} {d : Bool} {i : List ℕ} {n : ℕ} {a b : List ℕ} {m 
       pub collect-within : Within s e
       collect-within = record { high = opening .high; small = v .small }
 
-      left-is : allParts (piecesIn (rows (drop at s))) ≡ with (partOf side (bodyOf (rows (drop e s)))) (allParts (piecesIn (rows (drop e s))))
+      left-is : allParts (piecesIn (rows (drop at s))) ≡ partWith (partOf side (bodyOf (rows (drop e s)))) (allParts (piecesIn (rows (drop e s))))
       unfolding allParts
       left-is = ap allParts (opening .is)
 
@@ -284,7 +284,7 @@ module _ {s : List ℕ} {d : Bool} {i : List ℕ} {n : ℕ} {a b : List ℕ} {m 
           collect-less = omega (arith, opening .low, member .low, member .mid, member .high)
 
           one-more : allParts (piecesIn (rows s)) ≡ after (v .seen ++ partBy d i n k (member .lines) ∷ []) (allParts (piecesIn (rows (drop stop s))))
-          one-more = v .parts ∙ (ap (after (v .seen)) (left-is ∙ ap₂ with (member .is) (ap allParts (member .next)))
+          one-more = v .parts ∙ (ap (after (v .seen)) (left-is ∙ ap₂ partWith (member .is) (ap allParts (member .next)))
               ∙ after-with (v .seen) (partBy d i n k (member .lines)) (allParts (piecesIn (rows (drop stop s)))))
 
           longer : length (v .seen ++ partBy d i n k (member .lines) ∷ []) ≡ m + 1
@@ -448,7 +448,7 @@ gathers v zero k h = (refl, refl)
 gathers {s} {a} {b} {ps} v (suc f) k h = go (findPart k ps) (v .at k (omega arith)) (gather ps f (suc k)) (gathers v f (suc k) (omega arith))
   where
     go : (o : Option Part) → Slot s (getD a k 0) (getD b k 0) o → (w : Option (List (List ℕ))) → Gathers s a b f (suc k) w
-        → Gathers s a b (suc f) k (behind o w)
+        → Gathers s a b (suc f) k (rowsOfPart o w)
     go none x w y = rw (eq-eqb (getD a k 0) 0 x)
     go (some p) x none y = let z : getD a k 0 ≡ 0 → ⊥ = λ e. omega (arith, x .0) in rw (ne-eqb (getD a k 0) 0 z) y
     go (some p) x (some rs) y =

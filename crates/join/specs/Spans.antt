@@ -27,7 +27,7 @@ use Rattle.join.specs.declared.Filled.{Filled}
 use Rattle.join.specs.declared.Filled.the-variants.{Full, Large}
 use Rattle.join.specs.declared.Made.{Made}
 use Rattle.join.specs.declared.Made.the-variants.{Bytes, No}
-use Rattle.division.specs.Join.{unmarked, Part, lastMark, partOf, with, allParts, agree, findPart, thenChecked}
+use Rattle.division.specs.Join.{unmarked, Part, lastMark, partOf, partWith, allParts, agree, findPart, thenChecked}
 
 -- ---- rows that break no rule of line ends, so that the pieces are read before it is known where one does
 
@@ -205,7 +205,7 @@ pub record MemberAt (s : List ℕ) (e : ℕ) (side d : Bool) (i : List ℕ) (n l
   pub whole : unbroken (rows (drop e s)) ≡ unbroken (rows (drop stop s))
 
 pub record ForeignAt (s : List ℕ) (e : ℕ) (side d : Bool) (i : List ℕ) (n : ℕ) : Type 0 where
-  pub none : (ps : Option (List Part)) → agreed d i n (with (partOf side (bodyOf (rows (drop e s)))) ps) ≡ false
+  pub none : (ps : Option (List Part)) → agreed d i n (partWith (partOf side (bodyOf (rows (drop e s)))) ps) ≡ false
 
 abbrev pub MemberMeans : List ℕ → ℕ → Bool → Bool → List ℕ → ℕ → Member → Type 0
 MemberMeans s e side d i n (Of last stop k) = MemberAt s e side d i n last stop k
@@ -331,7 +331,7 @@ pub record First (d s : List ℕ) (side : Bool) (last n : ℕ) : Type 0 where
   pub place : ℕ
   pub lines : List (List ℕ)
   pub others : Option (List Part)
-  pub is : allParts (piecesIn (rows s)) ≡ with (some (partBy side (identAt s last) n place lines)) others
+  pub is : allParts (piecesIn (rows s)) ≡ partWith (some (partBy side (identAt s last) n place lines)) others
   pub over : goesOn (rows s) ≡ false
   pub sound : sound (rows s) ≡ unbroken (rows s)
 

@@ -1,6 +1,6 @@
 -- Definitions, to be believed.
 -- Lists of bytes: texts as bytes, tests of all bytes, equality as a test, parts; and an answer that is a value or a refusal.
--- Nothing here is about notebooks; everything above is written with it.
+-- Nothing here is about notebooks but that refusals have document 01's numbers; everything above is written with it.
 use Prim.Native.Nat.{ℕ, zero, suc, _-_}
 use Prim.Native.Char.{code}
 use Prim.Native.String.{String}
@@ -78,7 +78,7 @@ abbrev pub andThen : {A B : Type 0} → Res A → (A → Res B) → Res B
 andThen (ok x) f = f x
 andThen (refused n line) f = refused n line
 
--- Faults are numbers of document 01's table, 0 for none. "Within it the lowest number": the first fault of two.
+-- Faults are numbers of document 01's table, 0 for none. The first fault of two: asked in rising order it is "the lowest number".
 infixr 20 _orElse_
 abbrev pub _orElse_ : ℕ → ℕ → ℕ
 zero orElse b = b

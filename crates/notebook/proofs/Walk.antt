@@ -20,7 +20,7 @@ use Rattle.order.specs.State.{start, finishOf}
 use Rattle.buffers.specs.Entries.{six}
 use Rattle.buffers.proofs.Runs.{six-length}
 use Rattle.notebook.specs.Notebook.{Notebook, stepLine, prepend, closed, onward, recordsFrom, notebookOf, readRows, readFile}
-use Rattle.notebook.specs.Index.{Entry, entryOf, entered, entriesFrom, entriesBehind, entriesOf, numbers}
+use Rattle.notebook.specs.Index.{Entry, entryOf, entered, entriesFrom, entriesAfterHead, entriesOf, numbers}
 use Rattle.notebook.proofs.Placing.{Placed, placed}
 
 pub data Walk : State → ℕ → List (List ℕ) → List Record → List Entry → Type 0 where
@@ -92,7 +92,7 @@ book-parts provider (ok rs) b e =
     (ap (λ (x : Notebook). x .provider) h, ap (λ (x : Notebook). ok (x .records)) h)
 
 pub accepted : (s : List ℕ) (b : Notebook) → readFile s ≡ ok b → Accepted s b
-unfolding readFile readRows entriesOf entriesBehind
+unfolding readFile readRows entriesOf entriesAfterHead
 accepted s b e = sized (leb (length s) 65536) refl e
   where
     known : (r : List ℕ) (rs : List (List ℕ)) (provider : Bool) → length s ≤ 65536 → rows s ≡ r ∷ rs → isLine r ≡ true → same (text r) (header true) ≡ provider

@@ -10,7 +10,7 @@ use Rattle.characters.specs.Rows.{rows, isLine}
 use Rattle.records.specs.Records.{recordOf, header}
 use Rattle.order.specs.declared.State.{State}
 use Rattle.order.specs.declared.Moved.{Moved}
-use Rattle.order.specs.declared.Moved.the-variants.{Fault as StepRefused, On}
+use Rattle.order.specs.declared.Moved.the-variants.{Fault, On}
 use Rattle.order.specs.State.{start, groupOf, drugOf}
 use Rattle.buffers.specs.Entries.{six}
 use Rattle.notebook.specs.Notebook.{Notebook, stepLine, readFile}
@@ -46,7 +46,7 @@ entryOf offset l st doctor = record {
 -- ---- the entries of a file: one for each record, up to the first that is refused
 
 unfoldable pub entered : ℕ → List ℕ → (State → List Entry) → Moved → List Entry
-entered offset l k (StepRefused n) = []
+entered offset l k (Fault n) = []
 entered offset l k (On st rp doctor) = entryOf offset l st doctor ∷ k st
 
 unfoldable pub entriesFrom : State → ℕ → List (List ℕ) → List Entry
@@ -54,12 +54,12 @@ entriesFrom st offset [] = []
 entriesFrom st offset (r ∷ rs) = cond (isLine r) (entered offset (text r) (λ t. entriesFrom t (offset + length r) rs) (stepLine st (text r))) []
 
 -- "per record after line 1"
-unfoldable pub entriesBehind : List (List ℕ) → List Entry
-entriesBehind [] = []
-entriesBehind (r ∷ rs) = cond (isLine r) (entriesFrom (start (same (text r) (header true))) (length r) rs) []
+unfoldable pub entriesAfterHead : List (List ℕ) → List Entry
+entriesAfterHead [] = []
+entriesAfterHead (r ∷ rs) = cond (isLine r) (entriesFrom (start (same (text r) (header true))) (length r) rs) []
 
 unfoldable pub entriesOf : List ℕ → List Entry
-entriesOf s = entriesBehind (rows s)
+entriesOf s = entriesAfterHead (rows s)
 
 -- ---- as numbers: "Six u32 per record"
 

@@ -10,7 +10,7 @@ use Rattle.notebook.specs.Notebook.{Notebook, readFile}
 unfoldable pub arrange : Notebook → Notebook
 arrange b = b
 
--- "Two accepted files carry the same notebook if direction, the list of record numbers and every item agree"
+-- "Two accepted files carry the same notebook if direction, the list of record numbers and every item agree": nothing is moved, so this is a ≡ b
 abbrev pub SameNotebook : Notebook → Notebook → Type 0
 SameNotebook a b = arrange a ≡ arrange b
 

@@ -1,7 +1,7 @@
 // The order of records in a notebook file (JAHIS 15-106 3.2.7 and 3.2.8): refusals 12 to 16 of a record, 14 at the end.
 // A record is read elsewhere; here it is six facts, so that files that spell the same values take the same steps.
 // The rules are in crate rules: Places (which record follows which), Rules (what is refused). Here are Questions (what is compared) and
-// State (what a record changes). A new record number moves together: a row in `mayFollow` there, an arm in `refusal` with its
+// State (what a record changes). A new record number moves together: a row in `pattern` there, an arm in `refusal` with its
 // law in proofs/ByNumber.antt, an arm in `Had::after` where it changes what the group has had, and the part of the
 // pattern that it belongs to (`in_front`, `in_rp`, `in_rest`).
 ghost use mathlib.Core.Path.{_≡_};

@@ -58,7 +58,7 @@ oneWidth s = all isOne s || allPairs s
 
 -- X: "A–Z, a–z, 0–9, period, hyphen"
 abbrev pub isCode : ℕ → Bool
-isCode b = within 0x41 0x5a b || within 0x61 0x7a b || within 0x30 0x39 b || eqb b 0x2e || eqb b 0x2d
+isCode b = within 0x41 0x5a b || within 0x61 0x7a b || isDigit b || eqb b 0x2e || eqb b 0x2d
 
 -- ---- the kinds of digits
 

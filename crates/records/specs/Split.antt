@@ -12,7 +12,7 @@ isComma b = is 0x2c b
 -- a byte more at the front of the first item
 abbrev pub consItem : ℕ → List (List ℕ) → List (List ℕ)
 consItem a [] = (a ∷ []) ∷ []
-consItem a (i ∷ is) = (a ∷ i) ∷ is
+consItem a (i ∷ rest) = (a ∷ i) ∷ rest
 
 -- a line cut at each 2Ch
 abbrev pub itemsOf : List ℕ → List (List ℕ)

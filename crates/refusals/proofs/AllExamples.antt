@@ -21,7 +21,7 @@ use Rattle.notebook.specs.Notebook.{stepLine, closed, onward, recordsFrom, read
 use Rattle.buffers.specs.Entries.{six}
 use Rattle.replies.specs.Results.{answerIn}
 use Rattle.notebook.specs.Check.{checkResult}
-use Rattle.notebook.specs.Index.{entryOf, entered, entriesFrom, entriesBehind, entriesOf, numbers, numbersOf, indexResult}
+use Rattle.notebook.specs.Index.{entryOf, entered, entriesFrom, entriesAfterHead, entriesOf, numbers, numbersOf, indexResult}
 use Rattle.notebook.specs.Same.{arrange}
 use Rattle.notebook.specs.Canonical.{recordRows, writeFile, canonicalBytes, canonicalFile, canonicalResult}
 use Rattle.packing.specs.Packing.{total, put, pack}
@@ -37,5 +37,5 @@ pub examples-reach : allReached ≡ true
 examples-reach = refl
 
 pub examples-hold : allHold (checks ++ (indexes ++ (canonicals ++ (cuts ++ joins)))) ≡ true
-unfolding answerIn six entryOf entered entriesFrom entriesBehind entriesOf numbers numbersOf bytes value number spell isLine leap monthLength isReal isDay gregorian eraOf eraOn inEra fromEra readDay writeDay joined table edge oneWidth isDecimal sized fault valueOf seven postal prefecture itemFault itemValue itemsFault itemsValue rowIn tableRow pairs codePair t911 isMark recordFrom faultFrom lineFault recordOf header write inGroup mayFollow pairBroken misplaced continues closesRp lacking missing valueWrong newerGroup orderRefusal unfinished nothingYet start hadAfter advance refusalOf stepOf finishOf factsOf stepLine closed onward recordsFrom readRows readFile checkResult indexResult recordRows arrange writeFile canonicalBytes canonicalFile canonicalResult total put pack digitCount over serves tries plan validID markLine readMark kindOf brokenFrom brokenLine bodyOf piecesIn splitRows split fileOf unmarked partOf allParts agree findPart gather joinPieces joinedFile joinFile joinResult pieceBytes numbered cutting cutList cutResult lineEnds
+unfolding answerIn six entryOf entered entriesFrom entriesAfterHead entriesOf numbers numbersOf bytes value number spell isLine leap monthLength isReal isDay gregorian eraOf eraOn inEra fromEra readDay writeDay joined table edge oneWidth isDecimal sized fault valueOf seven postal prefecture itemFault itemValue itemsFault itemsValue rowIn tableRow pairs codePair t911 isMark recordFrom faultFrom lineFault recordOf header write inGroup mayFollow pairBroken misplaced continues closesRp lacking missing valueWrong newerGroup orderRefusal unfinished nothingYet start hadAfter advance refusalOf stepOf finishOf factsOf stepLine closed onward recordsFrom readRows readFile checkResult indexResult recordRows arrange writeFile canonicalBytes canonicalFile canonicalResult total put pack digitCount over serves tries plan validID markLine readMark kindOf brokenFrom brokenLine bodyOf piecesIn splitRows split fileOf unmarked partOf allParts agree findPart gather joinPieces joinedFile joinFile joinResult pieceBytes numbered cutting cutList cutResult lineEnds
 examples-hold = refl

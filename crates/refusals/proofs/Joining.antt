@@ -21,7 +21,7 @@ use Rattle.notebook.specs.Canonical.{headRow}
 use Rattle.notebook.proofs.Accepted.{IsLine, head-line, row-cut, rows-flat}
 use Rattle.division.specs.Marks.{Mark, readMark}
 use Rattle.division.specs.Pieces.{RowKind, head, endHead, body, end, broken, kindOf, judged, brokenFrom, brokenLine, Piece, startsWell, splitRows, split, fileOf}
-use Rattle.division.specs.Join.{unmarked, Part, before, lastMark, partOf, with, allParts, findPart, behind, gather, joinParts, joinPieces}
+use Rattle.division.specs.Join.{unmarked, Part, rowBefore, lastMark, partOf, partWith, allParts, findPart, rowsOfPart, gather, joinParts, joinPieces}
 use Rattle.division.specs.Join.{orSet, joinSplit, joinedFile, checkedFile, thenChecked, joinFile}
 use Rattle.division.proofs.Chunks.{Chunk, mark, chunkBytes, pieceOf, Body, Good, body-line, Chunked, split-is}
 use Rattle.division.proofs.Orders.{all-append, all-map}
@@ -168,7 +168,7 @@ part-kept d (r ∷ rs) p e (b, t) = go (isMark (text r)) refl (λ q f. part-kept
     ends [] (some m) f = subst (λ (q : Part). KeptPart q × (length (q .rows) < 1)) (some-inj f) (tt, omega arith)
     ends (u ∷ us) m f = absurd (no-none f)
 
-    later : (m : Option Part) → isMark (text r) ≡ false → ((q : Part) → m ≡ some q → KeptPart q × (length (q .rows) < length rs)) → before r m ≡ some p
+    later : (m : Option Part) → isMark (text r) ≡ false → ((q : Part) → m ≡ some q → KeptPart q × (length (q .rows) < length rs)) → rowBefore r m ≡ some p
         → KeptPart p × (length (p .rows) < suc (length rs))
     later none n ih f = absurd (no-none f)
     later (some q) n ih f =
@@ -176,7 +176,7 @@ part-kept d (r ∷ rs) p e (b, t) = go (isMark (text r)) refl (λ q f. part-kept
         subst (λ (z : Part). KeptPart z × (length (z .rows) < suc (length rs))) (some-inj f) (((b, n), i .0), omega (arith, i .1))
 
     go : (x : Bool) → isMark (text r) ≡ x → ((q : Part) → partOf d rs ≡ some q → KeptPart q × (length (q .rows) < length rs))
-        → cond x (lastMark d rs (readMark (text r))) (before r (partOf d rs)) ≡ some p → KeptPart p × (length (p .rows) < suc (length rs))
+        → cond x (lastMark d rs (readMark (text r))) (rowBefore r (partOf d rs)) ≡ some p → KeptPart p × (length (p .rows) < suc (length rs))
     go true q ih f = ends rs (readMark (text r)) f
     go false q ih f = later (partOf d rs) q ih f
 
@@ -196,7 +196,7 @@ parts-kept (x ∷ xs) ps k e (h, t) = go (partOf (x .provider) (x .rows)) refl (
     some-of false n = omega arith
 
     go : (m : Option Part) → partOf (x .provider) (x .rows) ≡ m → (us : Option (List Part))
-        → ((vs : List Part) → us ≡ some vs → All KeptPart vs × (length vs + rowsFrom k vs ≤ linesOf xs)) → with m us ≡ some ps
+        → ((vs : List Part) → us ≡ some vs → All KeptPart vs × (length vs + rowsFrom k vs ≤ linesOf xs)) → partWith m us ≡ some ps
         → All KeptPart ps × (length ps + rowsFrom k ps ≤ suc (length (x .rows)) + linesOf xs)
     go none q us ih f = absurd (no-none f)
     go (some p) q none ih f = absurd (no-none f)
@@ -235,7 +235,7 @@ gather-rows ps h zero k ls e = subst (λ (z : List (List ℕ)). All Kept z × (l
 gather-rows ps h (suc n) k ls e = go (findPart k ps) refl (gather ps n (suc k)) (gather-rows ps h n (suc k)) e
   where
     go : (m : Option Part) → findPart k ps ≡ m → (g : Option (List (List ℕ)))
-        → ((us : List (List ℕ)) → g ≡ some us → All Kept us × (length us ≤ rowsFrom (suc k) ps)) → behind m g ≡ some ls
+        → ((us : List (List ℕ)) → g ≡ some us → All Kept us × (length us ≤ rowsFrom (suc k) ps)) → rowsOfPart m g ≡ some ls
         → All Kept ls × (length ls ≤ rowsFrom k ps)
     go none q g ih f = absurd (no-none f)
     go (some p) q none ih f = absurd (no-none f)

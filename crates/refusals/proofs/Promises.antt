@@ -13,7 +13,7 @@ use Rattle.lists.specs.Lists.{Res, ok, refused, mapRes, andThen, member}
 use Rattle.lists.proofs.Tests.{below}
 use Rattle.replies.specs.declared.Reply.{Reply}
 use Rattle.replies.specs.Replies.{replyOf}
-use Rattle.replies.specs.Results.{Result, answerOf, left, fitting, answerIn, replyTo, outputOf}
+use Rattle.replies.specs.Results.{Result, answerOf, atExit, fitting, answerIn, replyTo, outputOf}
 use Rattle.replies.proofs.Results.{gives-refusal}
 use Rattle.notebook.specs.Notebook.{Notebook, readFile}
 use Rattle.notebook.specs.Same.{arrange}
@@ -21,7 +21,7 @@ use Rattle.notebook.specs.Check.{counted, checkResult}
 use Rattle.notebook.specs.Index.{indexResult}
 use Rattle.notebook.specs.Canonical.{canonicalFile, canonicalResult}
 use Rattle.division.specs.Marks.{validID}
-use Rattle.division.specs.Cut.{cutting, listed, found, cutList, cutResult}
+use Rattle.division.specs.Cut.{cutting, listed, listFor, cutList, cutResult}
 use Rattle.division.specs.Join.{joinedFile, joinFile, joinResult}
 use Rattle.refusals.specs.Refusals.{Call, check, index, canonical, cut, join, about, checkNumbers, writingNumbers, cutNumbers, joinNumbers}
 use Rattle.refusals.specs.Refusals.{Given, IsAnswer, gives, refuses, IsResult, Always-answered, Refusal-keeps, Zero-is-a-result, Large-first}
@@ -61,7 +61,7 @@ check-answers s = go (readFile s) (file-refuses checkNumbers refl s)
 
 cut-refuses : (s : List ℕ) (c : ℕ) (id : List ℕ) → Refuses (Given cutNumbers s) (cutList s c id)
 unfolding cutList below
-cut-refuses s c id = then-refuses (Given cutNumbers s) (found id c) (readFile s) (file-refuses cutNumbers refl s) (λ b. valid (validID id) (cutting id c (arrange b)))
+cut-refuses s c id = then-refuses (Given cutNumbers s) (listFor id c) (readFile s) (file-refuses cutNumbers refl s) (λ b. valid (validID id) (cutting id c (arrange b)))
   where
     list : (ps : Option (List (List ℕ))) → Refuses (Given cutNumbers s) (listed ps)
     list none = without-line 18 (omega arith) refl refl
@@ -94,7 +94,7 @@ keeps : (x : Res Result) (d : List ℕ) → (replyTo x d .refusal ≡ 0 → ⊥)
 unfolding answerIn outputOf
 keeps x d h = go (fitting x d) h
   where
-    go : (y : Res Result) → (replyOf (answerOf y) .refusal ≡ 0 → ⊥) → left (λ (r : Result). r .written) y d ≡ d
+    go : (y : Res Result) → (replyOf (answerOf y) .refusal ≡ 0 → ⊥) → atExit (λ (r : Result). r .written) y d ≡ d
     go (ok r) h = absurd (h refl)
     go (refused n line) h = refl
 

@@ -29,9 +29,9 @@ held fits (ok r) = cond (fits r) (ok r) (refused 20 0)
 held fits (refused n line) = refused n line
 
 -- the output at exit: "Bytes past a written result keep their contents"; "a refusal leaves all lent memory as lent"
-abbrev pub left : {R A : Type 0} → (R → List A) → Res R → List A → List A
-left written (ok r) d = written r ++ drop (length (written r)) d
-left written (refused n line) d = d
+abbrev pub atExit : {R A : Type 0} → (R → List A) → Res R → List A → List A
+atExit written (ok r) d = written r ++ drop (length (written r)) d
+atExit written (refused n line) d = d
 
 abbrev pub answerOf : Res Result → Answer
 answerOf (ok r) = Done (r .a) (r .b) (r .c)
@@ -49,4 +49,4 @@ abbrev pub replyTo : Res Result → List ℕ → Reply
 replyTo x d = replyOf (answerIn x d)
 
 unfoldable pub outputOf : Res Result → List ℕ → List ℕ
-outputOf x d = left (λ (r : Result). r .written) (fitting x d) d
+outputOf x d = atExit (λ (r : Result). r .written) (fitting x d) d
