@@ -1,6 +1,6 @@
 // The index of a file. The check comes first and gives the count, so that nothing is written where the answer is a refusal; then the
 // lines are walked again and each record's six numbers written. Definitions: notebook, specs/Index.antt. A further number of an entry moves
-// together: `Entry`, `entryOf`, `numbers`, and the writer of crate buffers.
+// together: `Entry`, `entryOf`, `numbers` (notebook), `six` and `put_six` (buffers), `put_entry` and the 6 of `index` here, NOTEBOOK_INDEX_MAX (notebook.h).
 ghost use lib.ListN.{drop};
 ghost use Prim.Native.Nat.{_-_};
 ghost use Rattle.characters.specs.Rows.{rows};

@@ -1,6 +1,6 @@
 // One record line: its items at positions, its fault, and the facts of a record that the order of records looks at.
 // Definitions: records, specs/Records.antt (the fault); notebook, specs/Facts.antt (the facts); codes, specs/Codes.antt (the table as numbers);
-// specs/Codes.antt (a line by its items at positions).
+// specs/Codes.antt (a line by its items at positions); specs/Found.antt (what stands at a position, which is the answer of `read_line`).
 ghost use mathlib.Core.Path.{_≡_};
 ghost use mathlib.Core.List.{[], _∷_};
 ghost use Prim.Native.Nat.{_≤_, _%_};
