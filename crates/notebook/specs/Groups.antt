@@ -1,7 +1,8 @@
 -- A second statement, proved equal.
 -- A notebook's records as what stands before its groups (`front`), its groups and its 701s (`tail`): `partsOf` divides them, `recordsOf` puts them
 -- together, and no other division has the shape `Shaped` (proofs/GroupLaws.antt). Then what is asked of a group (`groupDay`, `institution`), of the
--- groups (`NewestFirst`) and of a notebook (`person`). Document 01, "Order of records", "Index"; 15-106 3.2.7, 3.2.9.
+-- groups (`NewestFirst`) and of a notebook (`person`). Proved equal to what the index and check say are the groups, their ordinals and their days; `institution`
+-- and `person` are held by examples alone until a call rests on them. Document 01, "Order of records", "Index"; 15-106 3.2.7, 3.2.9.
 use Prim.Native.Nat.{ℕ, _+_, _≤_}
 use mathlib.Core.Path.{_≡_}
 use mathlib.Core.Bool.{false, cond, _||_}
