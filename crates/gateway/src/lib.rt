@@ -8,6 +8,7 @@ ghost use Rattle.notebook.specs.Index.{indexResult};
 ghost use Rattle.notebook.specs.Canonical.{canonicalResult};
 ghost use Rattle.division.specs.Cut.{cutResult};
 ghost use Rattle.division.specs.Join.{joinResult};
+ghost use Rattle.gateway.specs.Version.{libraryVersion};
 
 // Checks a file: a records, b groups, c drugs; or the one refusal with its line.
 #[no_mangle]
@@ -60,4 +61,12 @@ pub extern "C" fn notebook_join(pieces: &[u8], out: &mut [u8]) -> replies::Reply
     ensures buffer { λ _. ⌜ now (out .exit) ≡ outputOf (joinResult (now (pieces .entry))) (now (out .entry)) ⌝ }
 {
     replies::reply_of(join::join(pieces, out))
+}
+
+// The version of this library: 10,000 times the major, 100 times the minor, and the patch.
+#[no_mangle]
+pub extern "C" fn notebook_version() -> u64
+    ensures { λ r. ⌜ r ≡ libraryVersion ⌝ }
+{
+    200
 }
