@@ -1,19 +1,19 @@
 /*
  * The medication notebook gateway (JAHIS 15-106 version 2.1), for C99 and C++ on x86-64 Linux.
  *
- * Five calls: check, index, canonical, cut, join. Each returns a struct notebook_reply by value. If its refusal is 0, the call has
+ * Five calls on files: check, index, canonical, cut, join. Each returns a struct notebook_reply by value. If its refusal is 0, the call has
  * done what it says and a, b, c are its result; otherwise refusal and line say why it has not, and a, b, c are 0.
  *
  * Every call takes any bytes and any lengths. What it asks of the host:
- * - A pointer points to as many elements as the length behind it says; numbers of an index are aligned as uint32_t is.
+ * - A pointer points to as many elements as the length after it says; numbers of an index are aligned as uint32_t is.
  * - Where a length is 0, the pointer is still a valid one, not NULL.
  * - An output does not overlap an input, and nobody else writes either of them during the call.
  *
  * A call reads its inputs and never writes them, writes only within its output, keeps no pointer, allocates nothing and has no state
  * of its own: any number of threads may be in it at once. No call needs more than 512 KiB of stack (docs/OPERATING.md has the figures).
  *
- * An output is written from its front. After a result the bytes behind it are as they were; after a refusal, whichever, the whole output
- * is as it was.
+ * An output is written from its front. The bytes after a result are as they were; a refusal, whichever, leaves the whole output as it
+ * was.
  */
 #ifndef NOTEBOOK_H
 #define NOTEBOOK_H
@@ -25,15 +25,22 @@
 extern "C" {
 #endif
 
+/*
+ * The version of this header: the major, the minor and the patch as text, and as major * 10000 + minor * 100 + patch. notebook_version
+ * tells that of the library; a host may compare the two, to see that they are of one version.
+ */
+#define NOTEBOOK_VERSION_STRING "0.2.0"
+#define NOTEBOOK_VERSION_NUMBER 200
+
 /* Limits. */
 enum {
-    NOTEBOOK_FILE_MAX = 65536,    /* bytes of a file, a final 1Ah included; a longer one is refused (NOTEBOOK_LARGE) */
+    NOTEBOOK_FILE_MAX = 65536,    /* bytes of a file, a final 1Ah included; a longer one is refused (NOTEBOOK_REFUSED_LARGE) */
     NOTEBOOK_PIECES_MAX = 131072, /* bytes of all pieces that are given to join together */
     NOTEBOOK_PIECE_COUNT_MAX = 999,
     NOTEBOOK_ID_LENGTH = 14 /* digits of an ID, and nothing else */
 };
 
-/* Outputs of these sizes are never too short (NOTEBOOK_SHORT is then not given). */
+/* Outputs of these sizes are never too short (NOTEBOOK_REFUSED_SHORT is then not given). */
 enum {
     NOTEBOOK_ENTRY_NUMBERS = 6,     /* numbers of a record in an index */
     NOTEBOOK_RECORDS_MAX = 8192,    /* no record is shorter than 8 bytes, its line end included */
@@ -43,29 +50,33 @@ enum {
     NOTEBOOK_JOIN_MAX = 65536       /* bytes: the joined file is within the limit of a file */
 };
 
-/* Refusals. 1 to 16 are about a file, 17 and 18 about what cut was asked for, 19 about a set of pieces, 20 about the output. */
+/*
+ * Refusals. 1 to 16 are about a file, 19 about a set of pieces: the sender's. 17, 18 and 20 are about what was asked, not about the file:
+ * 17 and 18 about the ID and the capacity that cut was given, 20 about the length of the output. The host mends these, and the same file
+ * is then accepted.
+ */
 enum {
     NOTEBOOK_ACCEPTED = 0,
-    NOTEBOOK_LARGE = 1,       /* more bytes than the limit */
-    NOTEBOOK_LINE_END = 2,    /* the rule of line ends is broken, or there is no line */
-    NOTEBOOK_VERSION = 3,     /* line 1 is neither JAHISTC04,1 nor JAHISTC04,2 */
-    NOTEBOOK_CHARACTER = 4,   /* a byte or a pair of bytes is no character */
-    NOTEBOOK_RECORD = 5,      /* the record number is not listed */
-    NOTEBOOK_PIECE = 6,       /* a record 911 in a whole file */
-    NOTEBOOK_ITEMS = 7,       /* wrong number of items */
-    NOTEBOOK_EMPTY = 8,       /* a required item is empty */
-    NOTEBOOK_LONG = 9,        /* an item has too many bytes */
-    NOTEBOOK_EDGE = 10,       /* an item begins or ends with a space, or is in quotes */
-    NOTEBOOK_FORM = 11,       /* an item is not of its kind */
-    NOTEBOOK_PAIR = 12,       /* two items, or an item and the group, do not agree */
-    NOTEBOOK_PLACE = 13,      /* the record cannot stand here */
-    NOTEBOOK_MISSING = 14,    /* a required record is missing in what this line or the end closes */
-    NOTEBOOK_RP = 15,         /* the prescription's value is wrong */
-    NOTEBOOK_DATE_ORDER = 16, /* a group is newer than the one before it */
-    NOTEBOOK_ID = 17,         /* the ID is not 14 digits */
-    NOTEBOOK_NO_CUTTING = 18, /* the file cannot be cut for this capacity */
-    NOTEBOOK_SET = 19,        /* the pieces do not make a file */
-    NOTEBOOK_SHORT = 20       /* the output cannot hold the result */
+    NOTEBOOK_REFUSED_LARGE = 1,       /* more bytes than the limit */
+    NOTEBOOK_REFUSED_LINE_END = 2,    /* the rule of line ends is broken, or there is no line */
+    NOTEBOOK_REFUSED_VERSION = 3,     /* line 1 is neither JAHISTC04,1 nor JAHISTC04,2 */
+    NOTEBOOK_REFUSED_CHARACTER = 4,   /* a byte or a pair of bytes is no character */
+    NOTEBOOK_REFUSED_RECORD = 5,      /* the record number is not listed */
+    NOTEBOOK_REFUSED_PIECE = 6,       /* a record 911 in a whole file */
+    NOTEBOOK_REFUSED_ITEMS = 7,       /* wrong number of items */
+    NOTEBOOK_REFUSED_EMPTY = 8,       /* a required item is empty */
+    NOTEBOOK_REFUSED_LONG = 9,        /* an item has too many bytes */
+    NOTEBOOK_REFUSED_EDGE = 10,       /* an item begins or ends with a space, or is in quotes */
+    NOTEBOOK_REFUSED_FORM = 11,       /* an item is not of its kind */
+    NOTEBOOK_REFUSED_PAIR = 12,       /* two items, or an item and the group, do not agree */
+    NOTEBOOK_REFUSED_PLACE = 13,      /* the record cannot stand here */
+    NOTEBOOK_REFUSED_MISSING = 14,    /* a required record is missing in what this line or the end closes */
+    NOTEBOOK_REFUSED_RP = 15,         /* the prescription's value is wrong */
+    NOTEBOOK_REFUSED_DATE_ORDER = 16, /* a group is newer than the one before it */
+    NOTEBOOK_REFUSED_ID = 17,         /* the ID is not 14 digits */
+    NOTEBOOK_REFUSED_NO_CUTTING = 18, /* the file cannot be cut for this capacity */
+    NOTEBOOK_REFUSED_SET = 19,        /* the pieces do not make a file */
+    NOTEBOOK_REFUSED_SHORT = 20       /* the output cannot hold the result */
 };
 
 /* The word of a refusal; "ok" for 0, and "unknown" for a number that no call gives. */
@@ -103,7 +114,7 @@ struct notebook_reply notebook_check(const uint8_t *file, size_t file_length);
  * Writes the index of a file, six numbers for each record in the file's order: record number; offset of its line in the file, from 0; its
  * bytes without the line end; ordinal of its group, 0 outside groups; for 201 to 391 the line of the last 55 before it in its group, or
  * 0; for 281 and 291 the line of the last 201 before it, or 0. out_length counts numbers, not bytes.
- * Result: a records; out[0] to out[6 * a - 1] are the index, the numbers behind them are as they were.
+ * Result: a records; out[0] to out[6 * a - 1] are the index, the numbers after them are as they were.
  * Refusals: 1 to 16; then 20 if out_length is less than six times the records. out is as it was.
  */
 struct notebook_reply notebook_index(const uint8_t *file, size_t file_length, uint32_t *out, size_t out_length);
@@ -111,7 +122,7 @@ struct notebook_reply notebook_index(const uint8_t *file, size_t file_length, ui
 /*
  * Writes the canonical file: days in the era form, postal codes without hyphen, RP numbers and quantities without leading zeros, no 1Ah;
  * all else as in the file.
- * Result: a bytes; the first a bytes of out are the canonical file, those behind them are as they were.
+ * Result: a bytes; the first a bytes of out are the canonical file, those after them are as they were.
  * Refusals: 1 to 16; then 20 if out is shorter than the canonical file. out is as it was.
  */
 struct notebook_reply notebook_canonical(const uint8_t *file, size_t file_length, uint8_t *out, size_t out_length);
@@ -120,7 +131,7 @@ struct notebook_reply notebook_canonical(const uint8_t *file, size_t file_length
  * Cuts the canonical file into the fewest pieces of at most capacity bytes. If it fits whole, it is the only piece, without a record 911;
  * otherwise each of the 2 to 999 pieces ends with 911, the ID, their count and its place.
  * Result: a pieces, b bytes of all pieces; the first b bytes of out are the pieces, one after another, each beginning with the file's
- * line 1; the bytes behind them are as they were.
+ * line 1; the bytes after them are as they were.
  * Refusals: 1 to 16; then 17 if the ID is not 14 digits, also where no record 911 is needed; then 18 if there is no such cutting; then
  * 20 if out is shorter than the pieces. out is as it was.
  */
@@ -129,12 +140,15 @@ struct notebook_reply notebook_cut(const uint8_t *file, size_t file_length, uint
 
 /*
  * Joins pieces that lie one after another in any order, with or without a 1Ah after each, and checks the joined file.
- * Result: a bytes; the first a bytes of out are the joined file, without records 911 and 1Ah, and those behind them are as they were. Items
+ * Result: a bytes; the first a bytes of out are the joined file, without records 911 and 1Ah, and those after them are as they were. Items
  * are spelled as in the pieces: those that cut wrote join to the canonical file.
  * Refusals: 1 and 2 on the pieces, with the line counted over all of them; then 19 if they are not one whole set; then 1 to 16 on the
  * joined file, with its line; then 20 if out is shorter than the joined file. out is as it was.
  */
 struct notebook_reply notebook_join(const uint8_t *pieces, size_t pieces_length, uint8_t *out, size_t out_length);
+
+/* The version of the library, counted as NOTEBOOK_VERSION_NUMBER is. */
+uint64_t notebook_version(void);
 
 #ifdef __cplusplus
 }

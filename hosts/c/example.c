@@ -35,7 +35,7 @@ static size_t piece_end(size_t at, size_t length)
     return end;
 }
 
-/* Copies the pieces of even or of odd place behind what is shuffled already. */
+/* Copies the pieces of even or of odd place after what is shuffled already. */
 static size_t every_second(unsigned odd, size_t length, size_t to)
 {
     size_t at = 0;
@@ -52,55 +52,45 @@ static size_t every_second(unsigned odd, size_t length, size_t to)
     return to;
 }
 
-int main(int count, char **words)
+/* The ending of a word after its count: 1 group, 2 groups. */
+static const char *s(uint64_t count)
 {
-    const char *name = 1 < count ? words[1] : "samples/visit.csv";
-    uint64_t capacity = 2 < count ? strtoull(words[2], NULL, 10) : 160;
-    FILE *input = fopen(name, "rb");
-    struct notebook_reply r;
-    size_t length, bytes, i;
+    return count == 1 ? "" : "s";
+}
 
-    if (input == NULL) {
+/* The bytes read, at most one more than the limit; or says what failed and ends. */
+static size_t read_file(const char *name)
+{
+    FILE *input = fopen(name, "rb");
+    size_t length = input == NULL ? 0 : fread(file, 1, sizeof file, input);
+    if (input == NULL || ferror(input)) {
         perror(name);
-        return 2;
-    }
-    length = fread(file, 1, sizeof file, input);
-    if (ferror(input)) {
-        perror(name);
-        return 2;
+        exit(2);
     }
     fclose(input);
+    return length;
+}
 
-    r = notebook_check(file, length);
-    if (r.refusal != NOTEBOOK_ACCEPTED) {
-        return refuse("check", r);
-    }
-    printf("check: %" PRIu64 " records, %" PRIu64 " groups, %" PRIu64 " drugs\n", r.a, r.b, r.c);
-
-    r = notebook_index(file, length, entries, NOTEBOOK_INDEX_MAX);
-    if (r.refusal != NOTEBOOK_ACCEPTED) {
-        return refuse("index", r);
-    }
-    for (i = 0; i < r.a; i++) {
+static void list_drugs(uint64_t records)
+{
+    uint64_t i;
+    for (i = 0; i < records; i++) {
         const uint32_t *entry = entries + NOTEBOOK_ENTRY_NUMBERS * i;
         if (entry[0] == 201) {
-            printf("index: a drug in line %lu, bytes %lu to %lu, group %lu, doctor's line %lu\n", (unsigned long)i + 2,
-                   (unsigned long)entry[1], (unsigned long)(entry[1] + entry[2]), (unsigned long)entry[3], (unsigned long)entry[4]);
+            printf("index: a drug in line %" PRIu64 ", bytes %" PRIu32 " to %" PRIu32 ", group %" PRIu32 ", doctor's line %" PRIu32 "\n",
+                   i + 2, entry[1], entry[1] + entry[2], entry[3], entry[4]);
         }
     }
+}
 
-    r = notebook_canonical(file, length, canonical, sizeof canonical);
-    if (r.refusal != NOTEBOOK_ACCEPTED) {
-        return refuse("canonical", r);
-    }
-    bytes = (size_t)r.a;
-    printf("canonical: %lu bytes, from %lu\n", (unsigned long)bytes, (unsigned long)length);
-
-    r = notebook_cut(file, length, capacity, id, NOTEBOOK_ID_LENGTH, pieces, sizeof pieces);
+/* Cuts into pieces for the capacity, shuffles them and joins them to the canonical file of so many bytes. */
+static int cut_and_join(size_t length, uint64_t capacity, size_t bytes)
+{
+    struct notebook_reply r = notebook_cut(file, length, capacity, id, NOTEBOOK_ID_LENGTH, pieces, sizeof pieces);
     if (r.refusal != NOTEBOOK_ACCEPTED) {
         return refuse("cut", r);
     }
-    printf("cut: %" PRIu64 " pieces of at most %" PRIu64 " bytes, %" PRIu64 " bytes in all\n", r.a, capacity, r.b);
+    printf("cut: %" PRIu64 " piece%s of at most %" PRIu64 " byte%s, %" PRIu64 " bytes in all\n", r.a, s(r.a), capacity, s(capacity), r.b);
 
     length = every_second(0, (size_t)r.b, 0);
     length = every_second(1, (size_t)r.b, length);
@@ -111,4 +101,28 @@ int main(int count, char **words)
     printf("join: %" PRIu64 " bytes, %s the canonical file\n", r.a,
            r.a == bytes && memcmp(joined, canonical, bytes) == 0 ? "equal to" : "NOT EQUAL TO");
     return 0;
+}
+
+int main(int count, char **words)
+{
+    size_t length = read_file(1 < count ? words[1] : "samples/visit.csv");
+    uint64_t capacity = 2 < count ? strtoull(words[2], NULL, 10) : 160;
+    struct notebook_reply r = notebook_check(file, length);
+    if (r.refusal != NOTEBOOK_ACCEPTED) {
+        return refuse("check", r);
+    }
+    printf("check: %" PRIu64 " record%s, %" PRIu64 " group%s, %" PRIu64 " drug%s\n", r.a, s(r.a), r.b, s(r.b), r.c, s(r.c));
+
+    r = notebook_index(file, length, entries, NOTEBOOK_INDEX_MAX);
+    if (r.refusal != NOTEBOOK_ACCEPTED) {
+        return refuse("index", r);
+    }
+    list_drugs(r.a);
+
+    r = notebook_canonical(file, length, canonical, sizeof canonical);
+    if (r.refusal != NOTEBOOK_ACCEPTED) {
+        return refuse("canonical", r);
+    }
+    printf("canonical: %" PRIu64 " bytes, from %lu\n", r.a, (unsigned long)length);
+    return cut_and_join(length, capacity, (size_t)r.a);
 }

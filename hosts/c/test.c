@@ -1,6 +1,6 @@
 /*
- * The five calls from C: document 01's cases, every refusal, and what each call leaves in its output. Prints one line and ends with 0,
- * or prints each difference and ends with 1.
+ * The calls from C: document 01's cases, every refusal, what each call leaves in its output, and the version. Prints one line and ends
+ * with 0, or prints each difference and ends with 1.
  */
 #include <stdio.h>
 #include <stdlib.h>
@@ -105,7 +105,7 @@ static struct bytes memos(size_t count)
     return b;
 }
 
-/* --- outputs: a pattern, with guards before and behind what is lent --- */
+/* --- outputs: a pattern, with guards before and after what is lent --- */
 
 enum { GUARD = 64 };
 
@@ -124,7 +124,7 @@ static uint8_t *lend(size_t length)
     return all + GUARD;
 }
 
-/* Whether the pattern stands before the output, and from an index of it on to the end of the guard behind. */
+/* Whether the pattern stands before the output, and from an index of it on to the end of the guard after it. */
 static int kept(const uint8_t *out, size_t length, size_t from)
 {
     const uint8_t *all = out - GUARD;
@@ -149,7 +149,7 @@ static int begins_piece(const uint8_t *at, size_t left)
     return 10 <= left && memcmp(at, "JAHISTC04,", 10) == 0;
 }
 
-/* The pieces from the last to the first, with a 1Ah behind each if asked for. */
+/* The pieces from the last to the first, with a 1Ah after each if asked for. */
 static struct bytes backwards(const uint8_t *pieces, size_t length, int with_end_mark)
 {
     struct bytes b = text("");
@@ -182,7 +182,7 @@ static void join_gives(struct bytes pieces, struct bytes file)
     give_back(out);
 
     out = lend(file.length - 1);
-    HOLD(refused(notebook_join(pieces.at, pieces.length, out, file.length - 1), NOTEBOOK_SHORT, 0));
+    HOLD(refused(notebook_join(pieces.at, pieces.length, out, file.length - 1), NOTEBOOK_REFUSED_SHORT, 0));
     HOLD(kept(out, file.length - 1, 0));
     give_back(out);
 }
@@ -218,14 +218,14 @@ static void small_file(void)
     give_back(out);
 
     out = lend(34);
-    HOLD(refused(notebook_canonical(file.at, file.length, out, 34), NOTEBOOK_SHORT, 0));
+    HOLD(refused(notebook_canonical(file.at, file.length, out, 34), NOTEBOOK_REFUSED_SHORT, 0));
     HOLD(kept(out, 34, 0));
-    HOLD(refused(notebook_canonical(file.at, file.length, out, 0), NOTEBOOK_SHORT, 0));
+    HOLD(refused(notebook_canonical(file.at, file.length, out, 0), NOTEBOOK_REFUSED_SHORT, 0));
     HOLD(kept(out, 34, 0));
     give_back(out);
 
     memset(numbers, 0x5a, sizeof numbers);
-    HOLD(refused(notebook_index(file.at, file.length, numbers, 5), NOTEBOOK_SHORT, 0));
+    HOLD(refused(notebook_index(file.at, file.length, numbers, 5), NOTEBOOK_REFUSED_SHORT, 0));
     HOLD(numbers[0] == 0x5a5a5a5a && numbers[5] == 0x5a5a5a5a);
     HOLD(result(notebook_index(file.at, file.length, numbers, 7), 1, 0, 0));
     HOLD(numbers[0] == 1 && numbers[1] == 13 && numbers[2] == 21);
@@ -262,7 +262,7 @@ static void cut_gives(size_t records, uint64_t capacity, uint64_t count, size_t 
     give_back(out);
 
     out = lend(bytes - 1);
-    HOLD(refused(cut(file, capacity, ID, out, bytes - 1), NOTEBOOK_SHORT, 0));
+    HOLD(refused(cut(file, capacity, ID, out, bytes - 1), NOTEBOOK_REFUSED_SHORT, 0));
     HOLD(kept(out, bytes - 1, 0));
     give_back(out);
 
@@ -294,17 +294,17 @@ static void cuttings(void)
     cut_gives(20, 69, 6, 404);
     cut_gives(18, 60, 10, 547);
     cut_gives(2, 51, 1, 51);
-    cut_refuses(file, 59, ID, NOTEBOOK_NO_CUTTING, 0);
-    cut_refuses(file, 0, ID, NOTEBOOK_NO_CUTTING, 0);
-    cut_refuses(file, 60, "", NOTEBOOK_ID, 0);
-    cut_refuses(file, 60, "2026111500000", NOTEBOOK_ID, 0);
-    cut_refuses(file, 60, "202611150000011", NOTEBOOK_ID, 0);
-    cut_refuses(file, 60, "2026111500000x", NOTEBOOK_ID, 0);
-    cut_refuses(file, 59, "x", NOTEBOOK_ID, 0);
-    cut_refuses(file, UINT64_MAX, "x", NOTEBOOK_ID, 0);
+    cut_refuses(file, 59, ID, NOTEBOOK_REFUSED_NO_CUTTING, 0);
+    cut_refuses(file, 0, ID, NOTEBOOK_REFUSED_NO_CUTTING, 0);
+    cut_refuses(file, 60, "", NOTEBOOK_REFUSED_ID, 0);
+    cut_refuses(file, 60, "2026111500000", NOTEBOOK_REFUSED_ID, 0);
+    cut_refuses(file, 60, "202611150000011", NOTEBOOK_REFUSED_ID, 0);
+    cut_refuses(file, 60, "2026111500000x", NOTEBOOK_REFUSED_ID, 0);
+    cut_refuses(file, 59, "x", NOTEBOOK_REFUSED_ID, 0);
+    cut_refuses(file, UINT64_MAX, "x", NOTEBOOK_REFUSED_ID, 0);
     free(file.at);
     file = memos(2);
-    cut_refuses(file, 50, ID, NOTEBOOK_NO_CUTTING, 0);
+    cut_refuses(file, 50, ID, NOTEBOOK_REFUSED_NO_CUTTING, 0);
     free(file.at);
 }
 
@@ -344,29 +344,29 @@ static void refusals(void)
         const char *file;
         uint64_t refusal, line;
     } cases[] = {
-        {"", NOTEBOOK_LINE_END, 1},
-        {"\x1a", NOTEBOOK_LINE_END, 1},
-        {LINE_1 "1,A,1,19890108,,,,,,,", NOTEBOOK_LINE_END, 2},
-        {"JAHISTC04,3\r\n", NOTEBOOK_VERSION, 1},
-        {LINE_1 PATIENT "4,\xff,,2\r\n", NOTEBOOK_CHARACTER, 3},
-        {LINE_1 PATIENT "999,x\r\n", NOTEBOOK_RECORD, 3},
-        {LINE_1 PATIENT "911,20261115000001,2,1\r\n", NOTEBOOK_PIECE, 3},
-        {LINE_1 PATIENT "4,x,2\r\n", NOTEBOOK_ITEMS, 3},
-        {LINE_1 PATIENT "4,,,2\r\n", NOTEBOOK_EMPTY, 3},
-        {LINE_1 "1,AAAAAAAAAAAAAAAAAAAAAAAAAAAAAAAAAAAAAAAAA,1,19890108,,,,,,,\r\n", NOTEBOOK_LONG, 2},
-        {LINE_1 PATIENT "4, x,,2\r\n", NOTEBOOK_EDGE, 3},
-        {LINE_1 PATIENT "4,x,,3\r\n", NOTEBOOK_FORM, 3},
-        {LINE_1 PATIENT GROUP "201,1,x,1,T,2,,2\r\n", NOTEBOOK_PAIR, 4},
-        {LINE_1 PATIENT MEMO "2,1,x,2\r\n", NOTEBOOK_PLACE, 4},
-        {LINE_1, NOTEBOOK_MISSING, 2},
-        {LINE_1 PATIENT GROUP "201,2,x,1,T,1,,2\r\n", NOTEBOOK_RP, 4},
-        {LINE_1 PATIENT GROUP "5,20160412,2\r\n", NOTEBOOK_DATE_ORDER, 4},
+        {"", NOTEBOOK_REFUSED_LINE_END, 1},
+        {"\x1a", NOTEBOOK_REFUSED_LINE_END, 1},
+        {LINE_1 "1,A,1,19890108,,,,,,,", NOTEBOOK_REFUSED_LINE_END, 2},
+        {"JAHISTC04,3\r\n", NOTEBOOK_REFUSED_VERSION, 1},
+        {LINE_1 PATIENT "4,\xff,,2\r\n", NOTEBOOK_REFUSED_CHARACTER, 3},
+        {LINE_1 PATIENT "999,x\r\n", NOTEBOOK_REFUSED_RECORD, 3},
+        {LINE_1 PATIENT "911,20261115000001,2,1\r\n", NOTEBOOK_REFUSED_PIECE, 3},
+        {LINE_1 PATIENT "4,x,2\r\n", NOTEBOOK_REFUSED_ITEMS, 3},
+        {LINE_1 PATIENT "4,,,2\r\n", NOTEBOOK_REFUSED_EMPTY, 3},
+        {LINE_1 "1,AAAAAAAAAAAAAAAAAAAAAAAAAAAAAAAAAAAAAAAAA,1,19890108,,,,,,,\r\n", NOTEBOOK_REFUSED_LONG, 2},
+        {LINE_1 PATIENT "4, x,,2\r\n", NOTEBOOK_REFUSED_EDGE, 3},
+        {LINE_1 PATIENT "4,x,,3\r\n", NOTEBOOK_REFUSED_FORM, 3},
+        {LINE_1 PATIENT GROUP "201,1,x,1,T,2,,2\r\n", NOTEBOOK_REFUSED_PAIR, 4},
+        {LINE_1 PATIENT MEMO "2,1,x,2\r\n", NOTEBOOK_REFUSED_PLACE, 4},
+        {LINE_1, NOTEBOOK_REFUSED_MISSING, 2},
+        {LINE_1 PATIENT GROUP "201,2,x,1,T,1,,2\r\n", NOTEBOOK_REFUSED_RP, 4},
+        {LINE_1 PATIENT GROUP "5,20160412,2\r\n", NOTEBOOK_REFUSED_DATE_ORDER, 4},
     };
     struct bytes file = memos(8187);
     size_t i;
     file = add(file, "4,x,,", 5);
     HOLD(file.length == NOTEBOOK_FILE_MAX + 1);
-    every_call_refuses(file, NOTEBOOK_LARGE, 0);
+    every_call_refuses(file, NOTEBOOK_REFUSED_LARGE, 0);
     free(file.at);
     for (i = 0; i < sizeof cases / sizeof cases[0]; i++) {
         file = text(cases[i].file);
@@ -386,15 +386,15 @@ static void sets(void)
         const char *pieces;
         uint64_t refusal, line;
     } cases[] = {
-        {"", NOTEBOOK_LINE_END, 1},
-        {PIECE_1 "\x1a\x1a" PIECE_2, NOTEBOOK_LINE_END, 4},
-        {PIECE_1, NOTEBOOK_SET, 0},
-        {PIECE_1 PIECE_1, NOTEBOOK_SET, 0},
-        {PIECE_2 PIECE_1 PIECE_2, NOTEBOOK_SET, 0},
-        {PIECE_1 LINE_1 MEMO "911,20261115000002,2,2\r\n", NOTEBOOK_SET, 0},
-        {PIECE_1 LINE_1 MEMO, NOTEBOOK_SET, 0},
-        {MEMO PIECE_1 PIECE_2, NOTEBOOK_SET, 0},
-        {LINE_1 MEMO "911," ID ",2,1\r\n" LINE_1 PATIENT "911," ID ",2,2\r\n", NOTEBOOK_MISSING, 2},
+        {"", NOTEBOOK_REFUSED_LINE_END, 1},
+        {PIECE_1 "\x1a\x1a" PIECE_2, NOTEBOOK_REFUSED_LINE_END, 4},
+        {PIECE_1, NOTEBOOK_REFUSED_SET, 0},
+        {PIECE_1 PIECE_1, NOTEBOOK_REFUSED_SET, 0},
+        {PIECE_2 PIECE_1 PIECE_2, NOTEBOOK_REFUSED_SET, 0},
+        {PIECE_1 LINE_1 MEMO "911,20261115000002,2,2\r\n", NOTEBOOK_REFUSED_SET, 0},
+        {PIECE_1 LINE_1 MEMO, NOTEBOOK_REFUSED_SET, 0},
+        {MEMO PIECE_1 PIECE_2, NOTEBOOK_REFUSED_SET, 0},
+        {LINE_1 MEMO "911," ID ",2,1\r\n" LINE_1 PATIENT "911," ID ",2,2\r\n", NOTEBOOK_REFUSED_MISSING, 2},
     };
     struct bytes pieces = text(PIECE_2 "\x1a" PIECE_1 "\x1a");
     struct bytes file = text(LINE_1 CANONICAL_PATIENT MEMO);
@@ -438,7 +438,7 @@ static void limits(void)
     /* The smallest capacity that serves: as many pieces as there can be for this file. */
     capacity = 60;
     r = cut(file, capacity, ID, out, NOTEBOOK_CUT_MAX);
-    while (r.refusal == NOTEBOOK_NO_CUTTING && capacity < 200) {
+    while (r.refusal == NOTEBOOK_REFUSED_NO_CUTTING && capacity < 200) {
         capacity++;
         r = cut(file, capacity, ID, out, NOTEBOOK_CUT_MAX);
     }
@@ -454,12 +454,12 @@ static void limits(void)
 
     file = memos(16379);
     HOLD(file.length == 131068);
-    join_refuses(file, NOTEBOOK_LARGE, 0);
+    join_refuses(file, NOTEBOOK_REFUSED_LARGE, 0);
     file = add(file, "4,x,", 4);
     HOLD(file.length == NOTEBOOK_PIECES_MAX);
-    join_refuses(file, NOTEBOOK_LINE_END, 16382);
+    join_refuses(file, NOTEBOOK_REFUSED_LINE_END, 16382);
     file = add(file, ",", 1);
-    join_refuses(file, NOTEBOOK_LARGE, 0);
+    join_refuses(file, NOTEBOOK_REFUSED_LARGE, 0);
     free(file.at);
 
     give_back(joined);
@@ -475,12 +475,22 @@ static void words(void)
         "form",  "pair",     "place",   "missing",   "RP",     "date order", "ID",    "no cutting", "set",  "short",
     };
     uint64_t i;
-    for (i = 1; i <= NOTEBOOK_SHORT; i++) {
+    for (i = 1; i <= NOTEBOOK_REFUSED_SHORT; i++) {
         HOLD(strcmp(notebook_word(i), table[i - 1]) == 0);
     }
     HOLD(strcmp(notebook_word(NOTEBOOK_ACCEPTED), "ok") == 0);
     HOLD(strcmp(notebook_word(21), "unknown") == 0);
     HOLD(strcmp(notebook_word(UINT64_MAX), "unknown") == 0);
+}
+
+/* Whether the header's text, its number and the library's number are one version. */
+static void version(void)
+{
+    unsigned major, minor, patch;
+    char rest;
+    HOLD(sscanf(NOTEBOOK_VERSION_STRING, "%u.%u.%u%c", &major, &minor, &patch, &rest) == 3);
+    HOLD(major * 10000 + minor * 100 + patch == NOTEBOOK_VERSION_NUMBER);
+    HOLD(notebook_version() == NOTEBOOK_VERSION_NUMBER);
 }
 
 int main(void)
@@ -491,6 +501,7 @@ int main(void)
     sets();
     limits();
     words();
+    version();
     printf("test.c: %u checks, %u differences\n", checks, differences);
     return differences != 0;
 }

@@ -18,7 +18,7 @@ pub extern "C" fn notebook_check(file: &[u8]) -> replies::Reply
     replies::reply_of(checking::check(file))
 }
 
-// Writes six numbers for each record from the front of the buffer on and keeps what lies behind them: a records; or the one refusal
+// Writes six numbers for each record from the front of the buffer on and keeps what lies after them: a records; or the one refusal
 // with its line, and the whole buffer as it was.
 #[no_mangle]
 pub extern "C" fn notebook_index(file: &[u8], out: &mut [u32]) -> replies::Reply
@@ -28,7 +28,7 @@ pub extern "C" fn notebook_index(file: &[u8], out: &mut [u32]) -> replies::Reply
     replies::reply_of(index::index(file, out))
 }
 
-// Writes the canonical file from the front of the buffer on and keeps what lies behind it: a bytes; or the one refusal with its line, and
+// Writes the canonical file from the front of the buffer on and keeps what lies after it: a bytes; or the one refusal with its line, and
 // the whole buffer as it was.
 #[no_mangle]
 pub extern "C" fn notebook_canonical(file: &[u8], out: &mut [u8]) -> replies::Reply
@@ -38,7 +38,7 @@ pub extern "C" fn notebook_canonical(file: &[u8], out: &mut [u8]) -> replies::Re
     replies::reply_of(canonical::canonical_file(file, out))
 }
 
-// Writes the pieces of the canonical file for a capacity, one after another from the front of the buffer on, and keeps what lies behind
+// Writes the pieces of the canonical file for a capacity, one after another from the front of the buffer on, and keeps what lies after
 // them: a pieces, b bytes; or the one refusal with its line, and the whole buffer as it was.
 #[no_mangle]
 pub extern "C" fn notebook_cut(
@@ -53,7 +53,7 @@ pub extern "C" fn notebook_cut(
     replies::reply_of(cut::cut(file, capacity, id, out))
 }
 
-// Writes the file that pieces in any order join to, from the front of the buffer on, and keeps what lies behind it: a bytes; or the one
+// Writes the file that pieces in any order join to, from the front of the buffer on, and keeps what lies after it: a bytes; or the one
 // refusal with its line, and the whole buffer as it was.
 #[no_mangle]
 pub extern "C" fn notebook_join(pieces: &[u8], out: &mut [u8]) -> replies::Reply
@@ -63,10 +63,13 @@ pub extern "C" fn notebook_join(pieces: &[u8], out: &mut [u8]) -> replies::Reply
     replies::reply_of(join::join(pieces, out))
 }
 
+// The file VERSION as one number (tests/version.py).
+const VERSION: u64 = 200;
+
 // The version of this library: 10,000 times the major, 100 times the minor, and the patch.
 #[no_mangle]
 pub extern "C" fn notebook_version() -> u64
     ensures { λ r. ⌜ r ≡ libraryVersion ⌝ }
 {
-    200
+    VERSION
 }

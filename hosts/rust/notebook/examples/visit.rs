@@ -20,7 +20,8 @@ fn visit() -> Result<(), Box<dyn Error>> {
     let file = std::fs::read(&path)?;
 
     let checked = notebook::check(&file)?;
-    println!("check: {} records, {} groups, {} drugs", checked.records, checked.groups, checked.drugs);
+    let (records, groups) = (counted(checked.records, "record"), counted(checked.groups, "group"));
+    println!("check: {records}, {groups}, {}", counted(checked.drugs, "drug"));
 
     // Record i stands in line i + 2: line 1 is the version.
     for (line, entry) in (2..).zip(notebook::index(&file)?).filter(|(_, entry)| entry.record == 201) {
@@ -31,11 +32,16 @@ fn visit() -> Result<(), Box<dyn Error>> {
     println!("canonical: {} bytes, from {}", canonical.len(), file.len());
 
     let cut = notebook::cut(&file, 160, "20261115000001")?;
-    println!("cut: {} pieces, {} bytes in all", cut.len(), cut.as_bytes().len());
+    println!("cut: {}, {} bytes in all", counted(cut.len() as u64, "piece"), cut.as_bytes().len());
 
     let mut pieces: Vec<&[u8]> = cut.pieces().collect();
     pieces.reverse();
     let joined = notebook::join(&pieces.concat())?;
     println!("join: {} bytes, {}", joined.len(), if joined == canonical { "the canonical file" } else { "ANOTHER FILE" });
     Ok(())
+}
+
+/// 1 group, 2 groups.
+fn counted(count: u64, word: &str) -> String {
+    format!("{count} {word}{}", if count == 1 { "" } else { "s" })
 }
