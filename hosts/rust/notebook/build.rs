@@ -1,46 +1,70 @@
-//! Finds `libgateway.a` and links it, or says what is missing.
+//! Finds the library and links it, or says what is missing. It is `libgateway.a` as `rt staticlib gateway` makes it, or the same
+//! installed by `make install` as `libnotebook.a`.
 
 use std::path::{Path, PathBuf};
+use std::process::Command;
 
-const ARCHIVE: &str = "libgateway.a";
-const CALLS: [&str; 5] = ["notebook_check", "notebook_index", "notebook_canonical", "notebook_cut", "notebook_join"];
-const ADVICE: &str =
-    "run `rt staticlib gateway` in the repository's root, or set NOTEBOOK_LIB_DIR to the folder that has it";
+/// The library's names, as the linker knows them.
+const LIBRARIES: [&str; 2] = ["notebook", "gateway"];
+const EXPORTS: [&str; 6] =
+    ["notebook_check", "notebook_index", "notebook_canonical", "notebook_cut", "notebook_join", "notebook_version"];
+const ADVICE: &str = "run `rt staticlib gateway` in the repository's root, or set NOTEBOOK_LIB_DIR to the folder that has \
+                      libgateway.a or libnotebook.a, or install the library where pkg-config finds it";
 
 fn main() {
     println!("cargo::rerun-if-changed=build.rs");
-    println!("cargo::rerun-if-env-changed=NOTEBOOK_LIB_DIR");
-    match library() {
-        Ok(folder) => {
+    for name in ["NOTEBOOK_LIB_DIR", "PKG_CONFIG", "PKG_CONFIG_PATH"] {
+        println!("cargo::rerun-if-env-changed={name}");
+    }
+    match folder().and_then(|folder| Ok((library(&folder)?, folder))) {
+        Ok((name, folder)) => {
             println!("cargo::rustc-link-search=native={}", folder.display());
-            println!("cargo::rustc-link-lib=static=gateway");
+            println!("cargo::rustc-link-lib=static={name}");
         }
         Err(message) => println!("cargo::error={message}"),
     }
 }
 
-/// The folder with the library: NOTEBOOK_LIB_DIR, or the repository's target/staticlib.
-fn library() -> Result<PathBuf, String> {
+/// The folder with the library: NOTEBOOK_LIB_DIR; else the repository's target/staticlib; else what pkg-config says.
+fn folder() -> Result<PathBuf, String> {
     if std::env::var("CARGO_CFG_TARGET_ARCH").as_deref() != Ok("x86_64") {
-        return Err(format!("{ARCHIVE} is made for x86-64; this build is for another processor"));
+        return Err("the library is made for x86-64; this build is for another processor".to_string());
     }
-    let folder = match std::env::var_os("NOTEBOOK_LIB_DIR") {
-        Some(folder) if Path::new(&folder).is_relative() => {
-            let folder = Path::new(&folder).display().to_string();
-            return Err(format!("NOTEBOOK_LIB_DIR is {folder}: it must be an absolute path"));
-        }
-        Some(folder) => PathBuf::from(folder),
-        None => Path::new(env!("CARGO_MANIFEST_DIR")).join("../../../target/staticlib"),
-    };
-    let archive = folder.join(ARCHIVE);
+    if let Some(folder) = std::env::var_os("NOTEBOOK_LIB_DIR").map(PathBuf::from) {
+        let relative = format!("NOTEBOOK_LIB_DIR is {}: it must be an absolute path", folder.display());
+        return if folder.is_relative() { Err(relative) } else { Ok(folder) };
+    }
+    let root = Path::new(env!("CARGO_MANIFEST_DIR")).join("../../..");
+    let made = root.join("target/staticlib");
+    // Where the repository is around this crate, what it makes later is taken then.
+    if root.join("crates.txt").is_file() {
+        println!("cargo::rerun-if-changed={}", made.join("libgateway.a").display());
+    }
+    let found = if made.join("libgateway.a").is_file() { Some(made) } else { installed() };
+    found.ok_or(format!("no library; {ADVICE}"))
+}
+
+fn installed() -> Option<PathBuf> {
+    let program = std::env::var_os("PKG_CONFIG").unwrap_or("pkg-config".into());
+    let output = Command::new(program).args(["--variable=libdir", "notebook"]).output().ok()?;
+    let folder = String::from_utf8(output.stdout).ok().filter(|_| output.status.success())?;
+    Some(PathBuf::from(folder.trim_end_matches('\n')))
+}
+
+/// The name of the library in a folder, if it exports every call.
+fn library(folder: &Path) -> Result<&'static str, String> {
+    let archive = |name: &str| folder.join(format!("lib{name}.a"));
+    let name = LIBRARIES.into_iter().find(|name| archive(name).is_file());
+    let name = name.ok_or(format!("no libgateway.a or libnotebook.a in {}; {ADVICE}", folder.display()))?;
+    let archive = archive(name);
     println!("cargo::rerun-if-changed={}", archive.display());
-    let bytes = std::fs::read(&archive).map_err(|error| format!("no {}: {error}; {ADVICE}", archive.display()))?;
-    for call in CALLS {
+    let bytes = std::fs::read(&archive).map_err(|error| format!("{}: {error}", archive.display()))?;
+    for export in EXPORTS {
         // The archive's own table has every exported name, ended by a zero.
-        let name = [call.as_bytes(), b"\0"].concat();
+        let name = [export.as_bytes(), b"\0"].concat();
         if !bytes.windows(name.len()).any(|part| part == name) {
-            return Err(format!("{} does not export {call}, so it is an old one; {ADVICE}", archive.display()));
+            return Err(format!("{} does not export {export}, so it is an old one; {ADVICE}", archive.display()));
         }
     }
-    Ok(folder)
+    Ok(name)
 }
