@@ -19,7 +19,7 @@ import tempfile
 ROOT = os.path.dirname(os.path.dirname(os.path.abspath(__file__)))
 PROGRAMS = {"bin/notecheck", "bin/noteindex", "bin/notecanon", "bin/notecut", "bin/notejoin"}
 LIBRARY = {"lib/libnotebook.a", "lib/pkgconfig/notebook.pc", "include/notebook.h"}
-EXAMPLE = ["check: 15 records, 1 group, 3 drugs", "join: 577 bytes, equal to the canonical file"]
+COUNTS = "check: 15 records, 1 group, 3 drugs"
 
 SHOWN = """\
 $ notebook check samples
@@ -82,9 +82,13 @@ def hold(holds, what):
 
 
 def call(words, folder=ROOT, more=None, seconds=600):
-    """The exit status of a command, its standard output, and both streams together."""
+    """The exit status of a command (127 where there is none), its standard output, and both streams together."""
     told = {name: value for name, value in os.environ.items() if name not in ("MAKEFLAGS", "MAKELEVEL", "MFLAGS", "NOTEBOOK_LIB_DIR")}
-    done = subprocess.run(words, cwd=folder, env={**told, **(more or {})}, stdin=subprocess.DEVNULL, capture_output=True, text=True, timeout=seconds)
+    told.update(more or {})
+    try:
+        done = subprocess.run(words, cwd=folder, env=told, stdin=subprocess.DEVNULL, capture_output=True, text=True, timeout=seconds)
+    except OSError as error:
+        return 127, "", str(error)
     return done.returncode, done.stdout, done.stdout + done.stderr
 
 
@@ -114,20 +118,24 @@ def from_c(outside, found):
     # as README says
     succeeds(["sh", "-c", 'eval "cc example.c $(pkg-config --cflags --libs notebook) -o example"'], outside, found)
     out = succeeds(["./example", "visit.csv"], outside).splitlines()
-    hold(all(line in out for line in EXAMPLE), "the C example says %s" % out)
+    hold(COUNTS in out and "join: 577 bytes, equal to the canonical file" in out, "the C example says %s" % out)
     hold(succeeds(["pkg-config", "--modversion", "notebook"], outside, found).strip() == version()[0], "notebook.pc has another version")
 
 
 def from_rust(outside, ways):
     """A copy of the crate without the repository around it, which finds the library in each of the ways."""
     shutil.copytree(os.path.join(ROOT, "hosts/rust/notebook"), os.path.join(outside, "notebook"))
-    os.mkdir(os.path.join(outside, "src"))
+    os.makedirs(os.path.join(outside, "src/bin"))
+    shutil.copy(os.path.join(ROOT, "hosts/rust/notebook/examples/visit.rs"), os.path.join(outside, "src/bin"))
     for name, text in (("Cargo.toml", CARGO_TOML), ("src/main.rs", MAIN_RS)):
         with open(os.path.join(outside, name), "w", encoding="utf-8") as opened:
             opened.write(text)
     for way in ways:
-        out = succeeds(["cargo", "run", "--offline", "--quiet", "--target-dir", "built"], outside, way)
+        succeeds(["cargo", "build", "--offline", "--quiet", "--target-dir", "built"], outside, way)
+        out = succeeds(["built/debug/outside"], outside)
         hold(out == "15 1 3 %d\n" % version()[1], "the Rust program by %s says %r" % (way, out))
+    out = succeeds(["built/debug/visit", "visit.csv"], outside).splitlines()
+    hold(COUNTS in out and "join: 577 bytes, the canonical file" in out, "the Rust example says %s" % out)
     status, _, said = call(["cargo", "build", "--offline", "--target-dir", "built"], outside, {"NOTEBOOK_LIB_DIR": outside})
     hold(status != 0 and "no libgateway.a or libnotebook.a in" in said, "a folder without the library: %d, %s" % (status, said))
 
@@ -136,9 +144,8 @@ def from_shell(outside, prefix):
     command = os.path.join(prefix, "bin/notebook")
     hold(succeeds([command, "check", "visit.csv"], outside) == "visit.csv: ok 15 1 3\n", "the installed command gives another answer")
     hold(succeeds([command, "--version"], outside) == "notebook %s\n" % version()[0], "the installed command has another version")
-    with open(os.path.join(ROOT, "samples/visit.csv"), "rb") as sample:
-        said = subprocess.run([os.path.join(prefix, "bin/notecheck")], stdin=sample, capture_output=True, check=False).stdout
-    hold(said == b"ok 15 1 3\n", "the installed program says %r" % said)
+    program = ["sh", "-c", '"$0" < visit.csv', os.path.join(prefix, "bin/notecheck")]
+    hold(succeeds(program, outside) == "ok 15 1 3\n", "the installed program gives another answer")
 
 
 def under_a_prefix(folder):

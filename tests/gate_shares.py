@@ -50,12 +50,18 @@ def part_of(words):
         made = re.search(r"/bin/(\w+)\0", line + "\0")
         return "program %s" % (made.group(1) if made else "?")
     if name == "make":
-        return "host C"
+        return "host install" if "test-install" in words else "host C"
+    if "tests/users.py" in words:
+        return "host users"
     if name == "cargo":
         return "host Rust"
     if name.startswith("ld-linux"):
         return "run of programs"
     return None
+
+
+# Parts that have all below them for their own, whatever command it is.
+WHOLE = ("host install", "host users")
 
 
 def words_of(pid):
@@ -95,7 +101,8 @@ def look(pid, above, seen):
             continue
         # A process that becomes another command keeps its number and its seconds; one that has ended keeps them, but not its words.
         key = (child, began)
-        part = part_of(words) or (seen[key][0] if key in seen and words == [""] else above)
+        part = above if above in WHOLE else part_of(words)
+        part = part or (seen[key][0] if key in seen and words == [""] else above)
         seen[key] = (part, seconds)
         look(child, part, seen)
 
