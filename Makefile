@@ -102,8 +102,8 @@ install: needs-install all $(if $(CARGO),command)
 	$(INSTALL) -d $(to_lib)/pkgconfig $(to_include) $(to_bin)
 	$(INSTALL) -m 644 $(LIBRARY) $(to_lib)/libnotebook.a
 	$(INSTALL) -m 644 include/notebook.h $(to_include)/notebook.h
-	printf '%s\n' $(call quoted,libdir=$(libdir)) $(call quoted,includedir=$(includedir)) '' 'Name: notebook' \
-		'Description: Gateway for medication notebook files (JAHIS 15-106)' 'Version: $(VERSION)' \
+	printf '%s\n' $(call quoted,prefix=$(call absolute,$(PREFIX))) $(call quoted,libdir=$(libdir)) $(call quoted,includedir=$(includedir)) '' \
+		'Name: notebook' 'Description: Gateway for medication notebook files (JAHIS 15-106)' 'Version: $(VERSION)' \
 		'Cflags: -I"$${includedir}"' 'Libs: -L"$${libdir}" -lnotebook' > $(to_lib)/pkgconfig/notebook.pc
 	$(INSTALL) -m 755 $(PROGRAMS:%=target/bin/%) $(to_bin)
 	$(if $(CARGO),$(INSTALL) -m 755 $(COMMAND) $(to_bin)/notebook,@echo "CARGO is empty: the command notebook is not installed")

@@ -134,7 +134,7 @@ static void measure(size_t nothing)
         memcpy(pieces, file, file_length < sizeof pieces ? file_length : sizeof pieces);
         pieces_length = file_length < sizeof pieces ? file_length : sizeof pieces;
     } else {
-        printf("%lu pieces, %lu bytes; joined: ", (unsigned long)reply.a, (unsigned long)reply.b);
+        printf("%lu piece%s, %lu bytes; joined: ", (unsigned long)reply.a, reply.a == 1 ? "" : "s", (unsigned long)reply.b);
         memcpy(pieces, out, sizeof pieces);
         pieces_length = (size_t)reply.b;
     }
