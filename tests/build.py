@@ -119,6 +119,7 @@ def from_c(outside, found):
     succeeds(["sh", "-c", 'eval "cc example.c $(pkg-config --cflags --libs notebook) -o example"'], outside, found)
     out = succeeds(["./example", "visit.csv"], outside).splitlines()
     hold(COUNTS in out and "join: 577 bytes, equal to the canonical file" in out, "the C example says %s" % out)
+    hold(call(["sh", "-c", "./example visit.csv > /dev/full"], outside)[0] == 2, "the C example does not see that it cannot write")
     hold(succeeds(["pkg-config", "--modversion", "notebook"], outside, found).strip() == version()[0], "notebook.pc has another version")
 
 
@@ -136,6 +137,7 @@ def from_rust(outside, ways):
         hold(out == "15 1 3 %d\n" % version()[1], "the Rust program by %s says %r" % (way, out))
     out = succeeds(["built/debug/visit", "visit.csv"], outside).splitlines()
     hold(COUNTS in out and "join: 577 bytes, the canonical file" in out, "the Rust example says %s" % out)
+    hold(call(["sh", "-c", "built/debug/visit visit.csv > /dev/full"], outside)[0] == 1, "the Rust example panics where it cannot write")
     status, _, said = call(["cargo", "build", "--offline", "--target-dir", "built"], outside, {"NOTEBOOK_LIB_DIR": outside})
     hold(status != 0 and "no libgateway.a or libnotebook.a in" in said, "a folder without the library: %d, %s" % (status, said))
 

@@ -1,6 +1,6 @@
 /*
  * example [FILE [CAPACITY]]: checks a file, lists its drugs, makes it canonical, cuts it into pieces for a capacity, shuffles them and
- * joins them back. Ends with 0; with 1 where the gateway refuses the file; with 2 where the file cannot be read.
+ * joins them back. Ends with 0; with 1 where the gateway refuses the file; with 2 where the file cannot be read or the answer not written.
  */
 #include <inttypes.h>
 #include <stdio.h>
@@ -103,10 +103,8 @@ static int cut_and_join(size_t length, uint64_t capacity, size_t bytes)
     return 0;
 }
 
-int main(int count, char **words)
+static int visit(size_t length, uint64_t capacity)
 {
-    size_t length = read_file(1 < count ? words[1] : "samples/visit.csv");
-    uint64_t capacity = 2 < count ? strtoull(words[2], NULL, 10) : 160;
     struct notebook_reply r = notebook_check(file, length);
     if (r.refusal != NOTEBOOK_ACCEPTED) {
         return refuse("check", r);
@@ -125,4 +123,15 @@ int main(int count, char **words)
     }
     printf("canonical: %" PRIu64 " bytes, from %lu\n", r.a, (unsigned long)length);
     return cut_and_join(length, capacity, (size_t)r.a);
+}
+
+int main(int count, char **words)
+{
+    size_t length = read_file(1 < count ? words[1] : "samples/visit.csv");
+    int status = visit(length, 2 < count ? strtoull(words[2], NULL, 10) : 160);
+    if (fflush(stdout) != 0 || ferror(stdout)) {
+        perror("standard output");
+        return 2;
+    }
+    return status;
 }

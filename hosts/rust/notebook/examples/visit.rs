@@ -2,42 +2,45 @@
 //! last to the first.
 
 use std::error::Error;
+use std::io::{self, Write};
 use std::process::ExitCode;
 
 fn main() -> ExitCode {
-    visit().map_or_else(
+    let mut out = io::stdout().lock();
+    visit(&mut out).map_or_else(
         |error| {
-            // A refusal shows itself as `no 11 10: form`.
-            println!("{error}");
+            // A refusal shows itself as `no 11 10: form`. Nobody is left to tell where this fails too; `println!` would panic.
+            let _ = writeln!(out, "{error}");
             ExitCode::FAILURE
         },
         |()| ExitCode::SUCCESS,
     )
 }
 
-fn visit() -> Result<(), Box<dyn Error>> {
-    let path = std::env::args().nth(1).ok_or("usage: visit FILE")?;
+fn visit(out: &mut impl Write) -> Result<(), Box<dyn Error>> {
+    let path = std::env::args_os().nth(1).ok_or("usage: visit FILE")?;
     let file = std::fs::read(&path)?;
 
     let checked = notebook::check(&file)?;
     let (records, groups) = (counted(checked.records, "record"), counted(checked.groups, "group"));
-    println!("check: {records}, {groups}, {}", counted(checked.drugs, "drug"));
+    writeln!(out, "check: {records}, {groups}, {}", counted(checked.drugs, "drug"))?;
 
     // Record i stands in line i + 2: line 1 is the version.
     for (line, entry) in (2..).zip(notebook::index(&file)?).filter(|(_, entry)| entry.record == 201) {
-        println!("index: a drug in line {line}, group {}, doctor's line {}", entry.group, entry.doctor);
+        writeln!(out, "index: a drug in line {line}, group {}, doctor's line {}", entry.group, entry.doctor)?;
     }
 
     let canonical = notebook::canonical(&file)?;
-    println!("canonical: {} bytes, from {}", canonical.len(), file.len());
+    writeln!(out, "canonical: {} bytes, from {}", canonical.len(), file.len())?;
 
     let cut = notebook::cut(&file, 160, "20261115000001")?;
-    println!("cut: {}, {} bytes in all", counted(cut.len() as u64, "piece"), cut.as_bytes().len());
+    writeln!(out, "cut: {}, {} bytes in all", counted(cut.len() as u64, "piece"), cut.as_bytes().len())?;
 
     let mut pieces: Vec<&[u8]> = cut.pieces().collect();
     pieces.reverse();
     let joined = notebook::join(&pieces.concat())?;
-    println!("join: {} bytes, {}", joined.len(), if joined == canonical { "the canonical file" } else { "ANOTHER FILE" });
+    let found = if joined == canonical { "the canonical file" } else { "ANOTHER FILE" };
+    writeln!(out, "join: {} bytes, {found}", joined.len())?;
     Ok(())
 }
 
