@@ -1,0 +1,59 @@
+// Reading a descriptor into a lent buffer. io::read_full answers a short count both where the input ends and where a read fails; here a
+// failure is an answer of its own, so that no program takes a part of a file for the file.
+ghost use Prim.Native.Nat.{_≤_};
+ghost use lib.ListN.{length};
+ghost use Rattle.inputs.specs.Within.{Within};
+use libc::EINTR;
+
+// Where the bytes end that are in the buffer, or that a read failed.
+pub enum Input {
+    Bytes(usize),
+    Failed,
+}
+
+// One read, tried again where a signal interrupted it; 0 bytes are the end. The count of tries has no end in practice; a loop has to have one.
+fn read_once(fd: i32, buf: &mut [u8]) -> Input
+    ensures { λ r. ⌜ Within r (now (buf .exit)) ⌝ }
+{
+    let mut tries: u64 = u64::MAX;
+    while 0 < tries {
+        let got = libc::read(fd, buf);
+        if 0 <= got {
+            return Input::Bytes(io::count(got, buf));
+        }
+        if os::errno() != EINTR {
+            return Input::Failed;
+        }
+        tries -= 1;
+    }
+    Input::Failed
+}
+
+// Reads to the end of the input or of the buffer, from an index of the buffer on.
+pub fn read_from(fd: i32, buf: &mut [u8], at: usize) -> Input
+    requires { ⌜ at ≤ length (now buf) ⌝ }
+    ensures { λ r. ⌜ Within r (now (buf .exit)) ⌝ }
+{
+    let size = buf.len();
+    let mut end = at;
+    while end < size {
+        let read = read_once(fd, &mut buf[end..size]);
+        match read {
+            Input::Bytes(more) => {
+                if more == 0 {
+                    return Input::Bytes(end);
+                }
+                end += more;
+            }
+            Input::Failed => return Input::Failed,
+        }
+    }
+    Input::Bytes(end)
+}
+
+// The same from the buffer's front.
+pub fn read_all(fd: i32, buf: &mut [u8]) -> Input
+    ensures { λ r. ⌜ Within r (now (buf .exit)) ⌝ }
+{
+    read_from(fd, buf, 0)
+}
