@@ -4,11 +4,12 @@ use Prim.Native.Nat.{ℕ, zero, suc, _+_, _*_, _-_, _/_, _%_, _^_, _≤_, _<_}
 use native.Mathlib.Nat.{pow-suc, pow-le-pow-right}
 use native.Mathlib.Omega.{arith}
 use mathlib.Core.Path.{_≡_, refl, sym, ap, _∙_}
-use mathlib.Core.List.{List, [], _∷_, _++_}
+use mathlib.Core.List.{List, [], _∷_, _++_, append-assoc}
 use borrow.Author.Tests.{lt-ltb, eq-eqb, ne-eqb}
 use lib.ListN.{length, take, drop, length-append}
 use lib.Seq.{take-at}
 use Rattle.io.specs.Counts.{Counts}
+use Rattle.io.proofs.Counting.{counts}
 use Rattle.io.specs.Digits.{digits, Fewest}
 use Rattle.lists.specs.Lists.{bytes}
 use Rattle.buffers.specs.Buffers.{Wrote}
@@ -34,15 +35,13 @@ fewest-decimal (suc (suc k)) n f =
     = fewest-decimal (suc k) (n / 10) (omega arith, omega arith, λ _. rw o′ (omega arith)) in
     rw (again, lt-ltb (n % 10) 10 (omega arith), decimal-more n (omega arith))
 
--- a space, and the digits that io::decimal gave
-pub number-wrote : {d d₁ d₂ : List ℕ} {at a r : ℕ} (k n : ℕ) {t : List ℕ} → Fewest 10 1 n k → t ≡ digits 10 k n
-    → Wrote d d₁ at a (0x20 ∷ []) → Wrote d₁ d₂ a r t → Wrote d d₂ at r (0x20 ∷ decimal n)
-number-wrote k n f e x y = rw (e ∙ fewest-decimal k n f) at (then x y)
+-- the digits that io::decimal gave
+pub digits-wrote : {d d₁ : List ℕ} {at r : ℕ} (k n : ℕ) {t : List ℕ} → Fewest 10 1 n k → t ≡ digits 10 k n → Wrote d d₁ at r t → Wrote d d₁ at r (decimal n)
+digits-wrote k n f e x = rw (e ∙ fewest-decimal k n f) at x
 
--- there is room for the digits after the space
-pub digits-room : {d d₁ : List ℕ} {at a : ℕ} (k n : ℕ) {t : List ℕ} → n ≤ 18446744073709551615 → Fewest 10 1 n k → t ≡ digits 10 k n
-    → Wrote d d₁ at a (0x20 ∷ []) → at + 21 ≤ length d → a + length t ≤ length d₁
-digits-room k n h f e x g = omega (arith, ap length (e ∙ fewest-decimal k n f), decimal-twenty n h, x .next, x .size)
+-- they are at most 20
+pub digits-few : (k n : ℕ) {t : List ℕ} → n ≤ 18446744073709551615 → Fewest 10 1 n k → t ≡ digits 10 k n → length t ≤ 20
+digits-few k n h f e = omega (arith, ap length (e ∙ fewest-decimal k n f), decimal-twenty n h)
 
 -- ---- numbers, one after another
 
@@ -101,13 +100,49 @@ module _ (a b c : ℕ) where
 
 -- ---- a line
 
-module _ {d d₁ d₂ : List ℕ} {i j : ℕ} {word : List ℕ} (ns : List ℕ) (x : Wrote d d₁ 0 i word) (y : Wrote d₁ d₂ i j (spaced ns)) where
-  pub end-room : length word ≡ 2 → length (spaced ns) ≤ 63 → 66 ≤ length d → j + 1 ≤ length d₂
-  end-room w h g = omega (arith, x .next, x .size, y .next, y .size)
+module _ {d d₁ d₂ : List ℕ} {at i j : ℕ} {word : List ℕ} (ns : List ℕ) (x : Wrote d d₁ at i word) (y : Wrote d₁ d₂ i j (spaced ns)) where
+  pub end-room : at ≡ 0 → length word ≡ 2 → length (spaced ns) ≤ 63 → 66 ≤ length d → j + 1 ≤ length d₂
+  end-room a w h g = omega (arith, x .next, x .size, y .next, y .size)
 
-  pub line-wrote : {d₃ : List ℕ} {k : ℕ} → Wrote d₂ d₃ j k (0x0a ∷ []) → Wrote d d₃ 0 k (line word ns)
+  pub line-wrote : {d₃ : List ℕ} {k : ℕ} → Wrote d₂ d₃ j k (0x0a ∷ []) → Wrote d d₃ at k (line word ns)
   unfolding line
   line-wrote z = then (then x y) z
+
+-- ---- a record of the index
+
+-- where a number ends
+pub decimal-end : {d d₁ : List ℕ} {at r : ℕ} (n : ℕ) → n ≤ 18446744073709551615 → Wrote d d₁ at r (decimal n) → r ≤ at + 20
+decimal-end n h w = omega (arith, decimal-twenty n h, w .next)
+
+pub number-end : {d d₁ : List ℕ} {at r : ℕ} (n : ℕ) → n ≤ 18446744073709551615 → Wrote d d₁ at r (0x20 ∷ decimal n) → r ≤ at + 21
+number-end n h w = omega (arith, decimal-twenty n h, w .next)
+
+spaced-append : (ms ns : List ℕ) → spaced ms ++ spaced ns ≡ spaced (ms ++ ns)
+unfolding spaced
+spaced-append [] ns = refl
+spaced-append (m ∷ ms) ns = rw (append-assoc, spaced-append ms ns)
+
+-- six numbers, written as one, three, one and one
+module _ {s₁ s₂ s₃ s₄ : List ℕ} {i j k l : ℕ} (b c d e f : ℕ) (v : Wrote s₁ s₂ i j (spaced (b ∷ c ∷ d ∷ []))) (w : Wrote s₂ s₃ j k (0x20 ∷ decimal e))
+    (x : Wrote s₃ s₄ k l (0x20 ∷ decimal f)) where
+  five-wrote : Wrote s₁ s₄ i l (spaced (b ∷ c ∷ d ∷ e ∷ f ∷ []))
+  five-wrote =
+      rw (spaced-append (b ∷ c ∷ d ∷ []) (e ∷ f ∷ [])) at (then v (number-more e (f ∷ []) w (number-more f [] x (no-number (omega (arith, x .high, x .size))))))
+
+  pub entry-wrote : (a : ℕ) {s₀ s₅ : List ℕ} {at r : ℕ} → Wrote s₀ s₁ at i (decimal a) → Wrote s₄ s₅ l r (0x0a ∷ [])
+      → Wrote s₀ s₅ at r (line (decimal a) (b ∷ c ∷ d ∷ e ∷ f ∷ []))
+  entry-wrote a u y = line-wrote (b ∷ c ∷ d ∷ e ∷ f ∷ []) u five-wrote y
+
+-- ---- a failure
+
+-- there is room for the line's end
+pub error-room : {d d₁ d₂ d₃ : List ℕ} {i j k : ℕ} {head word : List ℕ} (ns : List ℕ) → Wrote d d₁ 0 i head → Wrote d₁ d₂ i j word → Wrote d₂ d₃ j k (spaced ns)
+    → length head ≡ 6 → length word ≤ 64 → length (spaced ns) ≤ 63 → 144 ≤ length d → k + 1 ≤ length d₃
+error-room ns x y z f g h e = omega (arith, x .next, x .size, y .next, y .size, z .next, z .size)
+
+-- the bytes at a buffer's front are counted
+pub front-counts : {d d′ : List ℕ} {n : ℕ} {w : List ℕ} → Wrote d d′ 0 n w → Counts n d′
+front-counts {d} {d′} {n} w = counts n d′ (omega (arith, w .high, w .size))
 
 module _ {d d′ : List ℕ} {n : ℕ} (values : ℕ) (r : Reply) where
   -- a line at a buffer's front

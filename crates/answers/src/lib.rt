@@ -1,23 +1,33 @@
 // How programs print a reply. `print` makes its line (printing, specs/Printed.antt), and everything that a program prints of a reply is written
 // from there, by one call of io::write_all. That `write` writes the bytes it is given is assumed, as the kit assumes it.
-ghost use mathlib.Core.List.{[], _∷_};
+ghost use mathlib.Core.List.{[], _∷_, _++_};
 ghost use Prim.Native.Nat.{_+_, _≤_};
 ghost use lib.ListN.{length, take};
 ghost use Rattle.io.specs.Counts.{Counts};
+ghost use Rattle.lists.specs.Lists.{bytes};
 ghost use Rattle.buffers.specs.Buffers.{Wrote};
 ghost use Rattle.printing.specs.Printed.{decimal, spaced, line, Prints};
+use libc::STDERR_FILENO;
 use libc::STDOUT_FILENO;
 use replies::Reply;
 
-// A space and a number, which has at most 20 digits.
+// A number, which has at most 20 digits.
+fn put_decimal(out: &mut [u8], at: usize, n: u64) -> usize
+    requires { ⌜ at + 20 ≤ length (now out) ⌝ }
+    ensures { λ r. ⌜ Wrote (now (out .entry)) (now (out .exit)) at r (decimal n) ⌝ }
+{
+    let mut text = [0u8; 20];
+    let k = io::decimal(n, &mut text);
+    buffers::put_all(out, at, &text[..k])
+}
+
+// A space and a number.
 fn put_number(out: &mut [u8], at: usize, n: u64) -> usize
     requires { ⌜ at + 21 ≤ length (now out) ⌝ }
     ensures { λ r. ⌜ Wrote (now (out .entry)) (now (out .exit)) at r (0x20 ∷ decimal n) ⌝ }
 {
-    let mut text = [0u8; 20];
-    let k = io::decimal(n, &mut text);
     let next = buffers::put_byte(out, at, 0x20);
-    buffers::put_all(out, next, &text[..k])
+    put_decimal(out, next, n)
 }
 
 // The first of three numbers, as many as are asked for.
@@ -61,11 +71,68 @@ pub fn print(values: usize, r: Reply, out: &mut [u8; 66]) -> usize
     put_line(out, b"no", 2, r.refusal, r.line, 0)
 }
 
+// The line of a failure: `error`, what failed and, where the count is 1, the number of the piece or the file that it is about.
+fn put_error(out: &mut [u8; 144], word: &[u8], count: usize, k: u64) -> usize
+    requires { ⌜ length (now word) ≤ 64 ⌝ }
+    ensures { λ r. ⌜ Wrote (now (out .entry)) (now (out .exit)) 0 r (line (bytes "error " ++ now (word .entry)) (take count (k ∷ 0 ∷ 0 ∷ []))) ⌝ }
+    ensures { λ r. ⌜ Counts r (now (out .exit)) ⌝ }
+{
+    let at = buffers::put_all(out, 0, b"error ");
+    let next = buffers::put_all(out, at, word);
+    let end = put_numbers(out, next, count, k, 0, 0);
+    buffers::put_byte(out, end, 0x0A)
+}
+
+// The line of a record in the index: six numbers with single spaces, and 0Ah.
+pub fn put_entry(out: &mut [u8], at: usize, a: u64, b: u64, c: u64, d: u64, e: u64, f: u64) -> usize
+    requires { ⌜ at + 126 ≤ length (now out) ⌝ }
+    ensures { λ r. ⌜ Wrote (now (out .entry)) (now (out .exit)) at r (line (decimal a) (b ∷ c ∷ d ∷ e ∷ f ∷ [])) ⌝ }
+    ensures { λ r. ⌜ r ≤ at + 126 ⌝ }
+{
+    let first = put_decimal(out, at, a);
+    let fourth = put_numbers(out, first, 3, b, c, d);
+    let fifth = put_number(out, fourth, e);
+    let sixth = put_number(out, fifth, f);
+    buffers::put_byte(out, sixth, 0x0A)
+}
+
+// Tells a failure on standard error, in one write. Where that fails, nothing is left to tell it by.
+fn write_error_line(word: &[u8], count: usize, k: u64)
+    requires { ⌜ length (now word) ≤ 64 ⌝ }
+{
+    let mut text = [0u8; 144];
+    let n = put_error(&mut text, word, count, k);
+    io::write_all(STDERR_FILENO, &text[..n]);
+}
+
+// `error WORD`
+pub fn write_error(word: &[u8])
+    requires { ⌜ length (now word) ≤ 64 ⌝ }
+{
+    write_error_line(word, 0, 0);
+}
+
+// `error WORD K`
+pub fn write_error_at(word: &[u8], k: u64)
+    requires { ⌜ length (now word) ≤ 64 ⌝ }
+{
+    write_error_line(word, 1, k);
+}
+
+// Writes bytes to a file descriptor and answers whether all were written; where not, tells it.
+pub fn write_bytes(fd: i32, bytes: &[u8]) -> bool {
+    let written = io::write_all(fd, bytes);
+    if !written {
+        write_error(b"write");
+    }
+    written
+}
+
 // Writes the line of a reply to a file descriptor.
 pub fn write_reply(fd: i32, values: usize, r: Reply) {
     let mut text = [0u8; 66];
     let n = print(values, r, &mut text);
-    io::write_all(fd, &text[..n]);
+    write_bytes(fd, &text[..n]);
 }
 
 // A space and a number that is no reply's, to standard output.

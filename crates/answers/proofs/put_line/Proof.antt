@@ -1,4 +1,5 @@
 use borrow.Author.Needs.{needs}
+use mathlib.Core.Path.{refl}
 use mathlib.Core.List.{[], _∷_}
 use lib.ListN.{take}
 use native.Mathlib.Omega.{arith}
@@ -21,7 +22,7 @@ put-byte-requires : tie.Need-put-byte-requires
 put-byte-requires c κs =
     let s = c .before .before .before .before .before .before .before .before .before .before .before .args in
     end-room (take (s .count) ((s .a) ∷ (s .b) ∷ (s .c) ∷ [])) (c .before .before .before .before .before .before .before .put-all .ensures)
-    (c .before .before .before .put-numbers .ensures) (omega arith) (numbers-short (s .a) (s .b) (s .c) (omega arith) (omega arith) (omega arith)
+    (c .before .before .before .put-numbers .ensures) refl (omega arith) (numbers-short (s .a) (s .b) (s .c) (omega arith) (omega arith) (omega arith)
     (s .count)) (omega arith)
 
 same-length : tie.Need-same-length

@@ -1,0 +1,44 @@
+use borrow.Author.Needs.{needs}
+use mathlib.Core.List.{[], _∷_}
+use lib.ListN.{take}
+use native.Mathlib.Omega.{arith}
+use Rattle.answers.proofs.Lines.{numbers-short, error-room, line-wrote, front-counts}
+use Rattle.buffers.proofs.Runs.{then}
+use Rattle.lists.specs.Lists.{bytes}
+use Rattle.answers.proofs.put_error.Statement.{statement}
+use Rattle.answers.proofs.put_error.Tie as tie
+use Rattle.answers.proofs.put_error.Reads as reads
+use Rattle.answers.proofs.put_error.Lts as lts
+use Rattle.answers.proofs.put_numbers.Reads as put-numbers-reads
+use Rattle.buffers.proofs.put_all.Reads as put-all-reads
+use Rattle.buffers.proofs.put_byte.Reads as put-byte-reads
+
+slice-aggregate-put-all : tie.Need-slice-aggregate-put-all
+slice-aggregate-put-all c = search needs
+
+put-all-requires : tie.Need-put-all-requires
+put-all-requires c κs = search needs
+
+put-all-requires-2 : tie.Need-put-all-requires-2
+put-all-requires-2 c κs = search needs
+
+put-numbers-requires : tie.Need-put-numbers-requires
+put-numbers-requires c κs = search needs
+
+put-byte-requires : tie.Need-put-byte-requires
+put-byte-requires c κs = error-room (take (c .before .before .before .before .before .before .before .before .before .args .count) (c .before .before .before .before .before .before .before .before .before .args .k ∷ 0 ∷ 0 ∷ [])) (c .before .before .before .before .before .put-all .ensures) (c .before .before .before .put-all2 .ensures) (c .before .put-numbers .ensures) (omega arith) (omega arith) (numbers-short (c .before .before .before .before .before .before .before .before .before .args .k) 0 0 (omega arith) (omega arith) (omega arith) (c .before .before .before .before .before .before .before .before .before .args .count)) (omega arith)
+
+returns : tie.Need-returns
+unfolding bytes
+returns c = let w = line-wrote (take (c .before .before .before .before .before .before .before .before .before .before .args .count) (c .before .before .before .before .before .before .before .before .before .before .args .k ∷ 0 ∷ 0 ∷ [])) (then (c .before .before .before .before .before .before .put-all .ensures) (c .before .before .before .before .put-all2 .ensures)) (c .before .before .put-numbers .ensures) (c .put-byte .ensures) in (w, front-counts w)
+
+pub put-error-spec : {M : Type 1} → statement M
+put-error-spec =
+    tie.close
+    (tie.spec
+    slice-aggregate-put-all
+    put-all-requires
+    put-all-requires-2
+    put-numbers-requires
+    put-byte-requires
+    returns)
