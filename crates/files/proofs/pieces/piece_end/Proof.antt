@@ -2,11 +2,11 @@ use borrow.Author.Needs.{needs}
 use Prim.Native.Nat.{_-_}
 use lib.ListN.{length}
 use Prim.Native.Nat.{_≤_, _<_}
-use Rattle.notecut.proofs.piece_end.Statement.{statement}
-use Rattle.notecut.proofs.piece_end.Tie as tie
-use Rattle.notecut.proofs.piece_end.Reads as reads
-use Rattle.notecut.proofs.piece_end.Lts as lts
-use Rattle.notecut.proofs.begins_piece.Reads as begins-piece-reads
+use Rattle.files.proofs.pieces.piece_end.Statement.{statement}
+use Rattle.files.proofs.pieces.piece_end.Tie as tie
+use Rattle.files.proofs.pieces.piece_end.Reads as reads
+use Rattle.files.proofs.pieces.piece_end.Lts as lts
+use Rattle.files.proofs.pieces.begins_piece.Reads as begins-piece-reads
 
 abbrev Inv-loop : tie.InvT-loop
 Inv-loop pieces from at₀ at = (from < at) × (at ≤ length pieces)

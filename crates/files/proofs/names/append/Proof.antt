@@ -3,10 +3,10 @@ use Prim.Native.Nat.{_-_}
 use lib.ListN.{length}
 use Prim.Native.Nat.{_≤_}
 use mathlib.Core.Path.{_≡_}
-use Rattle.notecut.proofs.append.Statement.{statement}
-use Rattle.notecut.proofs.append.Tie as tie
-use Rattle.notecut.proofs.append.Reads as reads
-use Rattle.notecut.proofs.append.Lts as lts
+use Rattle.files.proofs.names.append.Statement.{statement}
+use Rattle.files.proofs.names.append.Tie as tie
+use Rattle.files.proofs.names.append.Reads as reads
+use Rattle.files.proofs.names.append.Lts as lts
 
 abbrev Inv-loop : tie.InvT-loop
 Inv-loop name₀ at bytes end₀ i₀ name end i = (length name₀ ≡ length name) × (end ≤ length name₀)
