@@ -119,20 +119,24 @@ pub fn write_error_at(word: &[u8], k: u64)
     write_error_line(word, 1, k);
 }
 
-// Writes bytes to a file descriptor and answers whether all were written; where not, tells it.
-pub fn write_bytes(fd: i32, bytes: &[u8]) -> bool {
-    let written = io::write_all(fd, bytes);
+// Writes bytes to standard output and answers whether all were written; where not, tells it.
+pub fn write_output(bytes: &[u8]) -> bool {
+    let written = io::write_all(STDOUT_FILENO, bytes);
     if !written {
         write_error(b"write");
     }
     written
 }
 
-// Writes the line of a reply to a file descriptor.
+// Writes the line of a reply to standard output, or to standard error.
 pub fn write_reply(fd: i32, values: usize, r: Reply) {
     let mut text = [0u8; 66];
     let n = print(values, r, &mut text);
-    write_bytes(fd, &text[..n]);
+    if fd == STDOUT_FILENO {
+        write_output(&text[..n]);
+    } else {
+        io::write_all(fd, &text[..n]);
+    }
 }
 
 // A space and a number that is no reply's, to standard output.

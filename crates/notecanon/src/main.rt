@@ -4,14 +4,13 @@
 use inputs::Input;
 use libc::STDERR_FILENO;
 use libc::STDIN_FILENO;
-use libc::STDOUT_FILENO;
 
 fn write_file(file: &[u8], bytes: u64) {
     if bytes <= 65536 {
         let start: usize = 0;
         let end = bytes as usize;
         if end <= file.len() {
-            answers::write_bytes(STDOUT_FILENO, &file[start..end]);
+            answers::write_output(&file[start..end]);
         }
     }
 }

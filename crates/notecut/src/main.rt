@@ -9,7 +9,6 @@ use files::Outcome;
 use inputs::Input;
 use libc::STDERR_FILENO;
 use libc::STDIN_FILENO;
-use libc::STDOUT_FILENO;
 
 // --- the words ---
 
@@ -96,7 +95,7 @@ fn write_pieces(pieces: &[u8], words: usize) -> bool {
     if words == 4 {
         return tell(to_files(pieces));
     }
-    answers::write_bytes(STDOUT_FILENO, pieces)
+    answers::write_output(pieces)
 }
 
 // --- the program ---

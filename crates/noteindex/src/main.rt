@@ -41,7 +41,7 @@ fn write_lines(entries: &[u32; 49152], first: usize, end: usize) -> bool
         at = put_record(&mut text, at, entries, number);
         number += 1;
     }
-    answers::write_bytes(STDOUT_FILENO, &text[..at])
+    answers::write_output(&text[..at])
 }
 
 // The end of the part that begins with a record: 64 records, or those that are left.

@@ -8,7 +8,6 @@ ghost use Rattle.inputs.specs.Within.{Within};
 use inputs::Input;
 use libc::STDERR_FILENO;
 use libc::STDIN_FILENO;
-use libc::STDOUT_FILENO;
 
 // --- joining ---
 
@@ -17,7 +16,7 @@ fn write_file(file: &[u8], bytes: u64) {
         let start: usize = 0;
         let end = bytes as usize;
         if end <= file.len() {
-            answers::write_bytes(STDOUT_FILENO, &file[start..end]);
+            answers::write_output(&file[start..end]);
         }
     }
 }

@@ -9,7 +9,7 @@ use Rattle.noteindex.proofs.write_lines.Statement.{statement}
 use Rattle.noteindex.proofs.write_lines.Tie as tie
 use Rattle.noteindex.proofs.write_lines.Reads as reads
 use Rattle.noteindex.proofs.write_lines.Lts as lts
-use Rattle.answers.proofs.write_bytes.Reads as write-bytes-reads
+use Rattle.answers.proofs.write_output.Reads as write-output-reads
 use Rattle.noteindex.proofs.put_record.Reads as put-record-reads
 
 abbrev Inv-loop : tie.InvT-loop
@@ -39,11 +39,11 @@ loop-again c = search needs
 array-share-prefix-text : tie.Need-array-share-prefix-text Inv-loop μ-loop
 array-share-prefix-text c = search needs
 
-slice-aggregate-write-bytes : tie.Need-slice-aggregate-write-bytes Inv-loop μ-loop
-slice-aggregate-write-bytes c = front _ _ (omega arith)
+slice-aggregate-write-output : tie.Need-slice-aggregate-write-output Inv-loop μ-loop
+slice-aggregate-write-output c = front _ _ (omega arith)
 
-write-bytes-requires : tie.Need-write-bytes-requires Inv-loop μ-loop
-write-bytes-requires c κs = search needs
+write-output-requires : tie.Need-write-output-requires Inv-loop μ-loop
+write-output-requires c κs = search needs
 
 returns : tie.Need-returns Inv-loop μ-loop
 returns c = search needs
@@ -61,6 +61,6 @@ write-lines-spec =
     loop-less
     loop-again
     array-share-prefix-text
-    slice-aggregate-write-bytes
-    write-bytes-requires
+    slice-aggregate-write-output
+    write-output-requires
     returns)
