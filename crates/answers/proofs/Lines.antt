@@ -36,7 +36,8 @@ fewest-decimal (suc (suc k)) n f =
     rw (again, lt-ltb (n % 10) 10 (omega arith), decimal-more n (omega arith))
 
 -- the digits that io::decimal gave
-pub digits-wrote : {d d₁ : List ℕ} {at r : ℕ} (k n : ℕ) {t : List ℕ} → Fewest 10 1 n k → t ≡ digits 10 k n → Wrote d d₁ at r t → Wrote d d₁ at r (decimal n)
+pub digits-wrote : {d d₁ : List ℕ} {at r : ℕ} (k n : ℕ) {t : List ℕ} → Fewest 10 1 n k → t ≡ digits 10 k n → Wrote d d₁ at r t
+    → Wrote d d₁ at r (decimal n)
 digits-wrote k n f e x = rw (e ∙ fewest-decimal k n f) at x
 
 -- they are at most 20
@@ -122,12 +123,18 @@ unfolding spaced
 spaced-append [] ns = refl
 spaced-append (m ∷ ms) ns = rw (append-assoc, spaced-append ms ns)
 
+pub three-end : {d d₁ : List ℕ} {at r : ℕ} (a b c : ℕ) → a ≤ 18446744073709551615 → b ≤ 18446744073709551615 → c ≤ 18446744073709551615
+    → Wrote d d₁ at r (spaced (a ∷ b ∷ c ∷ [])) → r ≤ at + 63
+three-end a b c f g h w = omega (arith, numbers-short a b c f g h 3, w .next)
+
 -- six numbers, written as one, three, one and one
-module _ {s₁ s₂ s₃ s₄ : List ℕ} {i j k l : ℕ} (b c d e f : ℕ) (v : Wrote s₁ s₂ i j (spaced (b ∷ c ∷ d ∷ []))) (w : Wrote s₂ s₃ j k (0x20 ∷ decimal e))
+module _ {s₁ s₂ s₃ s₄ : List ℕ} {i j k l : ℕ} (b c d e f : ℕ) (v : Wrote s₁ s₂ i j (spaced (b ∷ c ∷ d ∷ [])))
+    (w : Wrote s₂ s₃ j k (0x20 ∷ decimal e))
     (x : Wrote s₃ s₄ k l (0x20 ∷ decimal f)) where
   five-wrote : Wrote s₁ s₄ i l (spaced (b ∷ c ∷ d ∷ e ∷ f ∷ []))
   five-wrote =
-      rw (spaced-append (b ∷ c ∷ d ∷ []) (e ∷ f ∷ [])) at (then v (number-more e (f ∷ []) w (number-more f [] x (no-number (omega (arith, x .high, x .size))))))
+      let last = number-more f [] x (no-number (omega (arith, x .high, x .size))) in
+      rw (spaced-append (b ∷ c ∷ d ∷ []) (e ∷ f ∷ [])) at (then v (number-more e (f ∷ []) w last))
 
   pub entry-wrote : (a : ℕ) {s₀ s₅ : List ℕ} {at r : ℕ} → Wrote s₀ s₁ at i (decimal a) → Wrote s₄ s₅ l r (0x0a ∷ [])
       → Wrote s₀ s₅ at r (line (decimal a) (b ∷ c ∷ d ∷ e ∷ f ∷ []))
@@ -136,8 +143,8 @@ module _ {s₁ s₂ s₃ s₄ : List ℕ} {i j k l : ℕ} (b c d e f : ℕ) (v :
 -- ---- a failure
 
 -- there is room for the line's end
-pub error-room : {d d₁ d₂ d₃ : List ℕ} {i j k : ℕ} {head word : List ℕ} (ns : List ℕ) → Wrote d d₁ 0 i head → Wrote d₁ d₂ i j word → Wrote d₂ d₃ j k (spaced ns)
-    → length head ≡ 6 → length word ≤ 64 → length (spaced ns) ≤ 63 → 144 ≤ length d → k + 1 ≤ length d₃
+pub error-room : {d d₁ d₂ d₃ : List ℕ} {i j k : ℕ} {head word : List ℕ} (ns : List ℕ) → Wrote d d₁ 0 i head → Wrote d₁ d₂ i j word
+    → Wrote d₂ d₃ j k (spaced ns) → length head ≡ 6 → length word ≤ 64 → length (spaced ns) ≤ 63 → 144 ≤ length d → k + 1 ≤ length d₃
 error-room ns x y z f g h e = omega (arith, x .next, x .size, y .next, y .size, z .next, z .size)
 
 -- the bytes at a buffer's front are counted

@@ -18,13 +18,17 @@ slice-aggregate-put-all : tie.Need-slice-aggregate-put-all
 slice-aggregate-put-all c = search needs
 
 put-all-requires : tie.Need-put-all-requires
-put-all-requires c κs = omega (arith, digits-few _ (c .before .before .before .before .before .args .n) (omega arith) (c .before .before .decimal .ensures .1 .0) (c .before .before .decimal .ensures .1 .1))
+put-all-requires c κs =
+    let d = c .before .before in
+    omega (arith, digits-few _ (d .before .before .before .args .n) (omega arith) (d .decimal .ensures .1 .0) (d .decimal .ensures .1 .1))
 
 same-length : tie.Need-same-length
 same-length c = search needs
 
 returns : tie.Need-returns
-returns c = digits-wrote _ (c .before .before .before .before .before .before .before .before .args .n) (c .before .before .before .before .before .decimal .ensures .1 .0) (c .before .before .before .before .before .decimal .ensures .1 .1) (c .before .before .put-all .ensures)
+returns c =
+    let d = c .before .before .before .before .before in
+    digits-wrote _ (d .before .before .before .args .n) (d .decimal .ensures .1 .0) (d .decimal .ensures .1 .1) (c .before .before .put-all .ensures)
 
 pub put-decimal-spec : {M : Type 1} → statement M
 put-decimal-spec =

@@ -1,6 +1,6 @@
 use borrow.Author.Needs.{needs}
 use native.Mathlib.Omega.{arith}
-use Rattle.answers.proofs.Lines.{numbers-short, decimal-end, number-end, entry-wrote}
+use Rattle.answers.proofs.Lines.{decimal-end, number-end, three-end, entry-wrote}
 use Rattle.answers.proofs.put_entry.Statement.{statement}
 use Rattle.answers.proofs.put_entry.Tie as tie
 use Rattle.answers.proofs.put_entry.Reads as reads
@@ -14,22 +14,89 @@ put-decimal-requires : tie.Need-put-decimal-requires
 put-decimal-requires c κs = search needs
 
 put-numbers-requires : tie.Need-put-numbers-requires
-put-numbers-requires c κs = omega (arith, decimal-end (c .before .before .before .before .before .before .args .a) (omega arith) (c .before .before .before .put-decimal .ensures), c .before .before .before .put-decimal .ensures .size)
+put-numbers-requires c κs =
+    let w₁ = c .before .before .before in
+    let s = w₁ .before .before .before .args in
+    omega (
+      arith,
+      decimal-end (s .a) (omega arith) (w₁ .put-decimal .ensures),
+      w₁ .put-decimal .ensures .size,
+    )
 
 put-number-requires : tie.Need-put-number-requires
-put-number-requires c κs = omega (arith, decimal-end (c .before .before .before .before .before .before .before .before .before .before .args .a) (omega arith) (c .before .before .before .before .before .before .before .put-decimal .ensures), c .before .before .before .before .before .before .before .put-decimal .ensures .size, numbers-short (c .before .before .before .before .before .before .before .before .before .before .args .b) (c .before .before .before .before .before .before .before .before .before .before .args .c) (c .before .before .before .before .before .before .before .before .before .before .args .d) (omega arith) (omega arith) (omega arith) 3, c .before .before .before .put-numbers .ensures .next, c .before .before .before .put-numbers .ensures .size)
+put-number-requires c κs =
+    let w₂ = c .before .before .before in
+    let w₁ = w₂ .before .before .before .before in
+    let s = w₁ .before .before .before .args in
+    omega (
+      arith,
+      decimal-end (s .a) (omega arith) (w₁ .put-decimal .ensures),
+      w₁ .put-decimal .ensures .size,
+      three-end (s .b) (s .c) (s .d) (omega arith) (omega arith) (omega arith) (w₂ .put-numbers .ensures),
+      w₂ .put-numbers .ensures .size,
+    )
 
 put-number-requires-2 : tie.Need-put-number-requires-2
-put-number-requires-2 c κs = omega (arith, decimal-end (c .before .before .before .before .before .before .before .before .before .before .before .before .before .before .args .a) (omega arith) (c .before .before .before .before .before .before .before .before .before .before .before .put-decimal .ensures), c .before .before .before .before .before .before .before .before .before .before .before .put-decimal .ensures .size, numbers-short (c .before .before .before .before .before .before .before .before .before .before .before .before .before .before .args .b) (c .before .before .before .before .before .before .before .before .before .before .before .before .before .before .args .c) (c .before .before .before .before .before .before .before .before .before .before .before .before .before .before .args .d) (omega arith) (omega arith) (omega arith) 3, c .before .before .before .before .before .before .before .put-numbers .ensures .next, c .before .before .before .before .before .before .before .put-numbers .ensures .size, number-end (c .before .before .before .before .before .before .before .before .before .before .before .before .before .before .args .e) (omega arith) (c .before .before .before .put-number .ensures), c .before .before .before .put-number .ensures .size)
+put-number-requires-2 c κs =
+    let w₃ = c .before .before .before in
+    let w₂ = w₃ .before .before .before .before in
+    let w₁ = w₂ .before .before .before .before in
+    let s = w₁ .before .before .before .args in
+    omega (
+      arith,
+      decimal-end (s .a) (omega arith) (w₁ .put-decimal .ensures),
+      w₁ .put-decimal .ensures .size,
+      three-end (s .b) (s .c) (s .d) (omega arith) (omega arith) (omega arith) (w₂ .put-numbers .ensures),
+      w₂ .put-numbers .ensures .size,
+      number-end (s .e) (omega arith) (w₃ .put-number .ensures),
+      w₃ .put-number .ensures .size,
+    )
 
 put-byte-requires : tie.Need-put-byte-requires
-put-byte-requires c κs = omega (arith, decimal-end (c .before .before .before .before .before .before .before .before .before .before .before .before .before .before .before .before .before .before .args .a) (omega arith) (c .before .before .before .before .before .before .before .before .before .before .before .before .before .before .before .put-decimal .ensures), c .before .before .before .before .before .before .before .before .before .before .before .before .before .before .before .put-decimal .ensures .size, numbers-short (c .before .before .before .before .before .before .before .before .before .before .before .before .before .before .before .before .before .before .args .b) (c .before .before .before .before .before .before .before .before .before .before .before .before .before .before .before .before .before .before .args .c) (c .before .before .before .before .before .before .before .before .before .before .before .before .before .before .before .before .before .before .args .d) (omega arith) (omega arith) (omega arith) 3, c .before .before .before .before .before .before .before .before .before .before .before .put-numbers .ensures .next, c .before .before .before .before .before .before .before .before .before .before .before .put-numbers .ensures .size, number-end (c .before .before .before .before .before .before .before .before .before .before .before .before .before .before .before .before .before .before .args .e) (omega arith) (c .before .before .before .before .before .before .before .put-number .ensures), c .before .before .before .before .before .before .before .put-number .ensures .size, number-end (c .before .before .before .before .before .before .before .before .before .before .before .before .before .before .before .before .before .before .args .f) (omega arith) (c .before .before .before .put-number2 .ensures), c .before .before .before .put-number2 .ensures .size)
+put-byte-requires c κs =
+    let w₄ = c .before .before .before in
+    let w₃ = w₄ .before .before .before .before in
+    let w₂ = w₃ .before .before .before .before in
+    let w₁ = w₂ .before .before .before .before in
+    let s = w₁ .before .before .before .args in
+    omega (
+      arith,
+      decimal-end (s .a) (omega arith) (w₁ .put-decimal .ensures),
+      w₁ .put-decimal .ensures .size,
+      three-end (s .b) (s .c) (s .d) (omega arith) (omega arith) (omega arith) (w₂ .put-numbers .ensures),
+      w₂ .put-numbers .ensures .size,
+      number-end (s .e) (omega arith) (w₃ .put-number .ensures),
+      w₃ .put-number .ensures .size,
+      number-end (s .f) (omega arith) (w₄ .put-number2 .ensures),
+      w₄ .put-number2 .ensures .size,
+    )
 
 same-length : tie.Need-same-length
 same-length c = search needs
 
 returns : tie.Need-returns
-returns c = (entry-wrote (c .before .before .before .before .before .before .before .before .before .before .before .before .before .before .before .before .before .before .before .before .before .args .b) (c .before .before .before .before .before .before .before .before .before .before .before .before .before .before .before .before .before .before .before .before .before .args .c) (c .before .before .before .before .before .before .before .before .before .before .before .before .before .before .before .before .before .before .before .before .before .args .d) (c .before .before .before .before .before .before .before .before .before .before .before .before .before .before .before .before .before .before .before .before .before .args .e) (c .before .before .before .before .before .before .before .before .before .before .before .before .before .before .before .before .before .before .before .before .before .args .f) (c .before .before .before .before .before .before .before .before .before .before .before .before .before .before .put-numbers .ensures) (c .before .before .before .before .before .before .before .before .before .before .put-number .ensures) (c .before .before .before .before .before .before .put-number2 .ensures) (c .before .before .before .before .before .before .before .before .before .before .before .before .before .before .before .before .before .before .before .before .before .args .a) (c .before .before .before .before .before .before .before .before .before .before .before .before .before .before .before .before .before .before .put-decimal .ensures) (c .before .before .put-byte .ensures), omega (arith, decimal-end (c .before .before .before .before .before .before .before .before .before .before .before .before .before .before .before .before .before .before .before .before .before .args .a) (omega arith) (c .before .before .before .before .before .before .before .before .before .before .before .before .before .before .before .before .before .before .put-decimal .ensures), c .before .before .before .before .before .before .before .before .before .before .before .before .before .before .before .before .before .before .put-decimal .ensures .size, numbers-short (c .before .before .before .before .before .before .before .before .before .before .before .before .before .before .before .before .before .before .before .before .before .args .b) (c .before .before .before .before .before .before .before .before .before .before .before .before .before .before .before .before .before .before .before .before .before .args .c) (c .before .before .before .before .before .before .before .before .before .before .before .before .before .before .before .before .before .before .before .before .before .args .d) (omega arith) (omega arith) (omega arith) 3, c .before .before .before .before .before .before .before .before .before .before .before .before .before .before .put-numbers .ensures .next, c .before .before .before .before .before .before .before .before .before .before .before .before .before .before .put-numbers .ensures .size, number-end (c .before .before .before .before .before .before .before .before .before .before .before .before .before .before .before .before .before .before .before .before .before .args .e) (omega arith) (c .before .before .before .before .before .before .before .before .before .before .put-number .ensures), c .before .before .before .before .before .before .before .before .before .before .put-number .ensures .size, number-end (c .before .before .before .before .before .before .before .before .before .before .before .before .before .before .before .before .before .before .before .before .before .args .f) (omega arith) (c .before .before .before .before .before .before .put-number2 .ensures), c .before .before .before .before .before .before .put-number2 .ensures .size, c .before .before .put-byte .ensures .next))
+returns c =
+    let w₅ = c .before .before in
+    let w₄ = w₅ .before .before .before .before in
+    let w₃ = w₄ .before .before .before .before in
+    let w₂ = w₃ .before .before .before .before in
+    let w₁ = w₂ .before .before .before .before in
+    let s = w₁ .before .before .before .args in (
+      entry-wrote (s .b) (s .c) (s .d) (s .e) (s .f) (w₂ .put-numbers .ensures) (w₃ .put-number .ensures) (w₄ .put-number2 .ensures) (s .a)
+          (w₁ .put-decimal .ensures) (w₅ .put-byte .ensures),
+      omega (
+        arith,
+        decimal-end (s .a) (omega arith) (w₁ .put-decimal .ensures),
+        w₁ .put-decimal .ensures .size,
+        three-end (s .b) (s .c) (s .d) (omega arith) (omega arith) (omega arith) (w₂ .put-numbers .ensures),
+        w₂ .put-numbers .ensures .size,
+        number-end (s .e) (omega arith) (w₃ .put-number .ensures),
+        w₃ .put-number .ensures .size,
+        number-end (s .f) (omega arith) (w₄ .put-number2 .ensures),
+        w₄ .put-number2 .ensures .size,
+        w₅ .put-byte .ensures .next,
+      ),
+    )
 
 pub put-entry-spec : {M : Type 1} → statement M
 put-entry-spec =

@@ -26,11 +26,22 @@ put-numbers-requires : tie.Need-put-numbers-requires
 put-numbers-requires c κs = search needs
 
 put-byte-requires : tie.Need-put-byte-requires
-put-byte-requires c κs = error-room (take (c .before .before .before .before .before .before .before .before .before .args .count) (c .before .before .before .before .before .before .before .before .before .args .k ∷ 0 ∷ 0 ∷ [])) (c .before .before .before .before .before .put-all .ensures) (c .before .before .before .put-all2 .ensures) (c .before .put-numbers .ensures) (omega arith) (omega arith) (numbers-short (c .before .before .before .before .before .before .before .before .before .args .k) 0 0 (omega arith) (omega arith) (omega arith) (c .before .before .before .before .before .before .before .before .before .args .count)) (omega arith)
+put-byte-requires c κs =
+    let s = c .before .before .before .before .before .before .before .before .before .args in
+    error-room (take (s .count) (s .k ∷ 0 ∷ 0 ∷ [])) (c .before .before .before .before .before .put-all .ensures)
+    (c .before .before .before .put-all2 .ensures) (c .before .put-numbers .ensures) (omega arith) (omega arith)
+    (numbers-short (s .k) 0 0 (omega arith) (omega arith) (omega arith) (s .count)) (omega arith)
 
 returns : tie.Need-returns
 unfolding bytes
-returns c = let w = line-wrote (take (c .before .before .before .before .before .before .before .before .before .before .args .count) (c .before .before .before .before .before .before .before .before .before .before .args .k ∷ 0 ∷ 0 ∷ [])) (then (c .before .before .before .before .before .before .put-all .ensures) (c .before .before .before .before .put-all2 .ensures)) (c .before .before .put-numbers .ensures) (c .put-byte .ensures) in (w, front-counts w)
+returns c =
+    let w₃ = c .before .before in
+    let w₂ = w₃ .before .before in
+    let w₁ = w₂ .before .before in
+    let s = w₁ .before .before .before .before .args in
+    let w = line-wrote (take (s .count) (s .k ∷ 0 ∷ 0 ∷ [])) (then (w₁ .put-all .ensures) (w₂ .put-all2 .ensures)) (w₃ .put-numbers .ensures)
+    (c .put-byte .ensures) in
+    (w, front-counts w)
 
 pub put-error-spec : {M : Type 1} → statement M
 put-error-spec =
