@@ -15,11 +15,29 @@
 //! ```
 //!
 //! [`index`], [`canonical`], [`cut`] and [`join`] allocate what their results need. Each has a form that writes into a
-//! buffer of the caller (`.._into`): it writes from the buffer's front on, keeps what lies behind the result, and leaves the
+//! buffer of the caller (`.._into`): it writes from the buffer's front on, keeps what lies after the result, and leaves the
 //! whole buffer as it was if it refuses; a buffer that can't hold the whole result is refused as [`Reason::Short`].
 
 #![deny(unsafe_code)]
 #![warn(missing_docs)]
+// Nothing that an input or a limit of the system reaches may panic. `clippy.toml` lists macros and functions that panic too.
+#![cfg_attr(
+    not(test),
+    forbid(
+        clippy::disallowed_macros,
+        clippy::disallowed_methods,
+        clippy::expect_used,
+        clippy::indexing_slicing,
+        clippy::panic,
+        clippy::print_stderr,
+        clippy::print_stdout,
+        clippy::string_slice,
+        clippy::todo,
+        clippy::unimplemented,
+        clippy::unreachable,
+        clippy::unwrap_used
+    )
+)]
 
 #[allow(unsafe_code, missing_docs)]
 pub mod raw;
@@ -94,17 +112,16 @@ impl Cut {
 
     /// The pieces in order.
     pub fn pieces(&self) -> impl ExactSizeIterator<Item = &[u8]> + '_ {
-        (0..self.len()).map(|piece| self.piece(piece))
+        (0..self.len()).map(|piece| self.get(piece).unwrap_or_default())
     }
 
     /// A piece by its place from 0 on, if there are so many.
     pub fn get(&self, piece: usize) -> Option<&[u8]> {
-        (piece < self.len()).then(|| self.piece(piece))
-    }
-
-    fn piece(&self, piece: usize) -> &[u8] {
-        let from = piece.checked_sub(1).map_or(0, |before| self.ends[before]);
-        &self.bytes[from..self.ends[piece]]
+        let from = match piece.checked_sub(1) {
+            Some(before) => *self.ends.get(before)?,
+            None => 0,
+        };
+        self.bytes.get(from..*self.ends.get(piece)?)
     }
 
     /// The bytes of all pieces, as [`join`] takes them.
@@ -180,7 +197,10 @@ pub fn cut(file: &[u8], capacity: u64, id: impl AsRef<[u8]>) -> Result<Cut, Refu
         at += line.len();
     }
     ends.push(at);
-    assert_eq!(ends.len(), written.pieces, "a piece begins with its line 1");
+    if ends.len() != written.pieces {
+        // The library is proved to begin each piece so. Whatever else this is, it is no set of pieces.
+        return Err(Refusal { reason: Reason::Unknown, line: 0 });
+    }
     Ok(Cut { bytes, ends })
 }
 
@@ -248,7 +268,7 @@ mod tests {
     }
 
     #[test]
-    fn lent_buffers_keep_what_lies_behind() {
+    fn lent_buffers_keep_what_lies_after() {
         let mut out = [b'?'; 70];
         let bytes = canonical_into(FILE, &mut out).expect("the file is accepted");
         assert_eq!((bytes, &out[bytes..]), (59, &[b'?'; 11][..]));

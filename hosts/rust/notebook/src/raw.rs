@@ -77,4 +77,6 @@ pub(crate) fn numbers(entries: &mut [Entry]) -> &mut [u32] {
     unsafe { std::slice::from_raw_parts_mut(entries.as_mut_ptr().cast(), length) }
 }
 
-const _: () = assert!(size_of::<Entry>() == 6 * size_of::<u32>() && align_of::<Entry>() == align_of::<u32>());
+// It does not compile where an entry is anything else than six numbers.
+const _: [(); 6 * size_of::<u32>()] = [(); size_of::<Entry>()];
+const _: [(); align_of::<u32>()] = [(); align_of::<Entry>()];

@@ -48,10 +48,12 @@ pub enum Reason {
     Set,
     /// The output cannot hold the result.
     Short,
+    /// The library has given a number that this crate does not know.
+    Unknown = 255,
 }
 
 impl Reason {
-    /// All reasons, by number.
+    /// All reasons that the library gives, by number.
     pub const ALL: [Reason; 20] = [
         Reason::Large,
         Reason::LineEnd,
@@ -75,7 +77,7 @@ impl Reason {
         Reason::Short,
     ];
 
-    /// The number, 1 to 20.
+    /// The number, 1 to 20; 255 for [`Reason::Unknown`].
     pub fn number(self) -> u8 {
         self as u8
     }
@@ -103,7 +105,14 @@ impl Reason {
             Reason::NoCutting => "no cutting",
             Reason::Set => "set",
             Reason::Short => "short",
+            Reason::Unknown => "unknown",
         }
+    }
+
+    /// Whether it refuses what was asked for, and not the file: the ID (17), the capacity (18), the room for the result (20),
+    /// or a number that this crate does not know. The file may be a good one, so its sender is not to blame.
+    pub fn is_operators(self) -> bool {
+        matches!(self, Reason::Id | Reason::NoCutting | Reason::Short | Reason::Unknown)
     }
 }
 
@@ -120,9 +129,11 @@ pub struct Refusal {
 impl Refusal {
     /// The refusal in a reply, if it is one.
     pub(crate) fn of(reply: Reply) -> Option<Refusal> {
-        let place = usize::try_from(reply.refusal).ok()?.checked_sub(1)?;
-        // The library is proved to answer 0 to 20.
-        Some(Refusal { reason: Reason::ALL[place], line: reply.line })
+        if reply.refusal == 0 {
+            return None;
+        }
+        let known = Reason::ALL.into_iter().find(|reason| u64::from(reason.number()) == reply.refusal);
+        Some(Refusal { reason: known.unwrap_or(Reason::Unknown), line: reply.line })
     }
 }
 
@@ -146,5 +157,23 @@ mod tests {
         let refusal = Refusal::of(Reply { refusal: 15, line: 9, ..Reply::default() });
         assert_eq!(refusal.expect("15 is a refusal").to_string(), "no 15 9: RP");
         assert_eq!(Refusal::of(Reply::default()), None);
+    }
+
+    #[test]
+    fn a_number_that_is_not_known_is_no_acceptance() {
+        for number in [21, 255, 256, 1 << 32, (1 << 32) + 11, u64::MAX] {
+            let refusal = Refusal::of(Reply { refusal: number, line: 3, ..Reply::default() });
+            assert_eq!(refusal, Some(Refusal { reason: Reason::Unknown, line: 3 }), "{number}");
+        }
+        assert_eq!(Refusal { reason: Reason::Unknown, line: 3 }.to_string(), "no 255 3: unknown");
+        assert!(!Reason::ALL.contains(&Reason::Unknown));
+    }
+
+    #[test]
+    fn refusals_of_what_was_asked_for() {
+        let operators: Vec<u8> =
+            Reason::ALL.into_iter().filter(|reason| reason.is_operators()).map(Reason::number).collect();
+        assert_eq!(operators, [17, 18, 20]);
+        assert!(Reason::Unknown.is_operators());
     }
 }
