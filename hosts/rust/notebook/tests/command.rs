@@ -1,56 +1,9 @@
 //! The command `notebook`, run on the samples and on small files.
 
-use std::ffi::OsStr;
+mod shared;
+
+use shared::*;
 use std::fs;
-use std::io::Write;
-use std::path::{Path, PathBuf};
-use std::process::{Command, Output, Stdio};
-
-const SMALL: &[u8] = b"JAHISTC04,2\r\n1,A,1,19890108,,,,,,,\r\n\x1A";
-const SMALL_CANONICAL: &[u8] = b"JAHISTC04,2\r\n1,A,1,H010108,,,,,,,\r\n";
-const ID: &str = "12345678901234";
-
-/// Runs the command in a folder with bytes on standard input.
-fn run_in<S: AsRef<OsStr>>(folder: &Path, input: &[u8], words: &[S]) -> Output {
-    let mut child = Command::new(env!("CARGO_BIN_EXE_notebook"))
-        .args(words)
-        .current_dir(folder)
-        .stdin(Stdio::piped())
-        .stdout(Stdio::piped())
-        .stderr(Stdio::piped())
-        .spawn()
-        .expect("the command starts");
-    // A command that does not read its input may be gone before.
-    let _ = child.stdin.take().expect("the input is a pipe").write_all(input);
-    child.wait_with_output().expect("the command ends")
-}
-
-fn root() -> PathBuf {
-    Path::new(env!("CARGO_MANIFEST_DIR")).join("../../..")
-}
-
-/// Status, standard output and standard error, in the repository's root.
-fn run(words: &[&str], input: &[u8]) -> (i32, String, String) {
-    told(run_in(&root(), input, words))
-}
-
-fn told(output: Output) -> (i32, String, String) {
-    let text = |bytes: Vec<u8>| String::from_utf8(bytes).expect("the answer is UTF-8");
-    (output.status.code().expect("the command ends by itself"), text(output.stdout), text(output.stderr))
-}
-
-/// A new folder for a test.
-fn folder(name: &str) -> PathBuf {
-    let folder = Path::new(env!("CARGO_TARGET_TMPDIR")).join(name);
-    let _ = fs::remove_dir_all(&folder);
-    fs::create_dir_all(&folder).expect("the folder is made");
-    folder
-}
-
-/// The small file with records 4.
-fn notes(count: usize) -> Vec<u8> {
-    [&SMALL[..SMALL.len() - 1], &b"4,x,,2\r\n".repeat(count)].concat()
-}
 
 #[test]
 fn check_the_samples() {
@@ -102,19 +55,22 @@ fn canonical_of_a_file() {
 fn canonical_files_of_a_folder() {
     let folder = folder("canonical");
     fs::create_dir_all(folder.join("in/b")).expect("a folder is made");
-    fs::write(folder.join("in/a.csv"), SMALL).expect("a file is written");
-    fs::write(folder.join("in/b/a.csv"), notes(1)).expect("a file is written");
-    fs::write(folder.join("in/b/no.csv"), b"x\r\n").expect("a file is written");
+    write(folder.join("in/a.csv"), SMALL);
+    write(folder.join("in/b/a.csv"), notes(1));
+    write(folder.join("in/b/no.csv"), b"x\r\n");
     let (status, out, err) = told(run_in(&folder, b"", &["canonical", "--to", "out", "in"]));
     assert_eq!((status, &out[..]), (1, "in/a.csv: ok 35\nin/b/a.csv: ok 43\n"));
     assert_eq!(err, "in/b/no.csv: no 3 1: version\n");
     assert_eq!(fs::read(folder.join("out/a.csv")).expect("it is written"), SMALL_CANONICAL);
     assert_eq!(fs::read(folder.join("out/b/a.csv")).expect("it is written").len(), 43);
     assert!(!folder.join("out/b/no.csv").exists());
-    // Nothing is written over.
-    let (status, out, err) = told(run_in(&folder, b"", &["canonical", "--to", "out", "in/a.csv"]));
-    assert_eq!((status, &out[..]), (2, ""));
-    assert!(err.starts_with("notebook: out/a.csv: "), "{err}");
+    // What is there already counts as written; nothing is written over.
+    let again = told(run_in(&folder, b"", &["canonical", "--to", "out", "in/a.csv"]));
+    assert_eq!(again, (0, "in/a.csv: ok 35\n".into(), "".into()));
+    write(folder.join("out/a.csv"), "another file");
+    let again = told(run_in(&folder, b"", &["canonical", "--to", "out", "in/a.csv"]));
+    assert_eq!(again, (2, "".into(), "notebook: out/a.csv: already exists\n".into()));
+    assert_eq!(fs::read(folder.join("out/a.csv")).expect("it is there"), b"another file");
 }
 
 #[test]
@@ -125,14 +81,14 @@ fn cut_and_join() {
     let (_, whole, _) = run(&["canonical", "-"], &notes(20));
     assert_eq!(run(&["join", "-"], pieces.as_bytes()), (0, whole, "".into()));
     assert_eq!(cut(&notes(18), &["--capacity=60"]).1.len(), 547);
-    assert_eq!(cut(&notes(18), &["--capacity", "59"]), (1, "".into(), "-: no 18 0: no cutting\n".into()));
+    assert_eq!(cut(&notes(18), &["--capacity", "59"]), (2, "".into(), "-: no 18 0: no cutting\n".into()));
     assert_eq!(cut(&notes(2), &["--capacity", "51"]).1.len(), 51);
-    assert_eq!(cut(&notes(2), &["--capacity", "50"]), (1, "".into(), "-: no 18 0: no cutting\n".into()));
+    assert_eq!(cut(&notes(2), &["--capacity", "50"]), (2, "".into(), "-: no 18 0: no cutting\n".into()));
     let (status, json, _) = cut(&notes(20), &["--capacity", "69", "--json"]);
     assert_eq!(status, 0);
     assert!(json.starts_with("{\"file\":\"-\",\"ok\":true,\"pieces\":6,\"bytes\":404,\"base64\":[\"SkFI"), "{json}");
     let wrong_id = run(&["cut", "--capacity", "69", "--id", "1", "-"], &notes(20));
-    assert_eq!(wrong_id, (1, "".into(), "-: no 17 0: ID\n".into()));
+    assert_eq!(wrong_id, (2, "".into(), "-: no 17 0: ID\n".into()));
 }
 
 #[test]
@@ -149,22 +105,43 @@ fn pieces_in_files() {
     assert_eq!(told(run_in(&folder, b"", &names)), (0, canonical, "".into()));
     names.pop();
     assert_eq!(told(run_in(&folder, b"", &names)), (1, "".into(), "join: no 19 0: set\n".into()));
-    // A second cutting would write over the first.
-    let (status, out, err) = told(run_in(&folder, &notes(18), &words));
-    assert_eq!((status, &out[..]), (2, ""));
-    assert!(err.starts_with("notebook: p-01: "), "{err}");
+    // A second cutting finds everything there.
+    assert_eq!(told(run_in(&folder, &notes(18), &words)), (0, out, "".into()));
 }
 
 #[test]
-fn a_piece_that_ends_within_a_line_is_not_glued_to_the_next() {
-    let folder = folder("glued");
+fn pieces_are_the_bytes_of_the_files() {
+    let folder = folder("bytes");
     let head = "JAHISTC04,2\r\n1,A,1,19890108,,,,,,,\r\n5,20160411,1\r\n";
-    fs::write(folder.join("a"), format!("{head}55,x,")).expect("a file is written");
-    fs::write(folder.join("b"), "JAHISTC04,2\r\n201,1,x,1,x,,,2\r\n").expect("a file is written");
-    // Together the two are a file: line 4 would be 55,x,JAHISTC04,2.
-    let glued = format!("{head}55,x,JAHISTC04,2\r\n201,1,x,1,x,,,2\r\n");
-    assert_eq!(run(&["check", "-"], glued.as_bytes()).0, 0);
-    assert_eq!(told(run_in(&folder, b"", &["join", "a", "b"])), (1, "".into(), "join: no 2 4: line end\n".into()));
+    write(folder.join("a"), format!("{head}55,x,"));
+    write(folder.join("b"), "JAHISTC04,2\r\n201,1,x,1,x,,,2\r\n");
+    write(folder.join("empty"), "");
+    // Line 4 goes on in the next file: 55,x,JAHISTC04,2.
+    let file = format!("{head}55,x,JAHISTC04,2\r\n201,1,x,1,x,,,2\r\n");
+    let joined = told(run_in(&folder, b"", &["join", "empty", "a", "empty", "b", "empty"]));
+    assert_eq!(joined, told(run_in(&folder, file.as_bytes(), &["join", "-"])));
+    assert_eq!(joined, (0, file, "".into()));
+    assert_eq!(told(run_in(&folder, b"", &["join", "a"])), (1, "".into(), "join: no 2 4: line end\n".into()));
+    // Without a line end the next line 1 is part of a record 911.
+    let pieces = run(&["cut", "--capacity", "69", "--id", ID, "-"], &notes(20)).1;
+    let (first, second) = pieces.split_at(pieces.rfind("JAHIS").expect("a piece begins so"));
+    write(folder.join("1"), &first[..first.len() - 2]);
+    write(folder.join("2"), second);
+    let together = [&first[..first.len() - 2], second].concat();
+    let told_of_files = told(run_in(&folder, b"", &["join", "1", "2"]));
+    assert_eq!(told_of_files, run(&["join", "-"], together.as_bytes()));
+    assert_eq!(told_of_files, (1, "".into(), "join: no 19 0: set\n".into()));
+}
+
+#[test]
+fn join_reads_no_more_than_it_needs() {
+    let folder = folder("join-reads");
+    write(folder.join("most"), vec![b'x'; 131_072]);
+    write(folder.join("more"), vec![b'x'; 131_073]);
+    let large = (1, "".into(), "join: no 1 0: large\n".into());
+    assert_eq!(told(run_in(&folder, b"", &["join", "more", "nothing"])), large);
+    assert_eq!(told(run_in(&folder, b"", &["join", "most", "/dev/zero", "nothing"])), large);
+    assert_eq!(told(run_in(&folder, b"", &["join", "most", "nothing"])).0, 2);
 }
 
 #[test]
@@ -174,29 +151,13 @@ fn many_files_in_order() {
     for number in 0..500 {
         let name = format!("{number:03}.csv");
         let notes_in_it = number * 37 % 200;
-        fs::write(folder.join(&name), notes(notes_in_it)).expect("a file is written");
+        write(folder.join(&name), notes(notes_in_it));
         expected += &format!("./{name}: ok {} 0 0\n", notes_in_it + 1);
     }
     for jobs in ["1", "2", "8"] {
         let answer = told(run_in(&folder, b"", &["check", "--jobs", jobs, "."]));
         assert_eq!(answer, (0, expected.clone(), "".into()), "{jobs}");
     }
-}
-
-#[cfg(unix)]
-#[test]
-fn names_of_any_kind() {
-    use std::os::unix::ffi::OsStrExt;
-    let folder = folder("names");
-    fs::write(folder.join(OsStr::from_bytes(b"a\xFF\"\n.csv")), SMALL).expect("a file is written");
-    std::os::unix::fs::symlink(".", folder.join("circle")).expect("a link is made");
-    let output = run_in(&folder, b"", &["check", "--json", "."]);
-    let told = "{\"file\":\"./a\u{fffd}\\\"\\n.csv\",\"file_hex\":\"2e2f61ff220a2e637376\",\"ok\":true,\"records\":1,\"groups\":0,\"drugs\":0}\n";
-    assert_eq!(String::from_utf8(output.stdout).expect("JSON is UTF-8"), told);
-    let output = run_in(&folder, b"", &["check", "."]);
-    assert_eq!(output.stdout, b"./a\xFF\"\n.csv: ok 1 0 0\n");
-    fs::write(folder.join("-x"), SMALL).expect("a file is written");
-    assert_eq!(run_in(&folder, b"", &["check", "--", "-x"]).stdout, b"-x: ok 1 0 0\n");
 }
 
 #[test]

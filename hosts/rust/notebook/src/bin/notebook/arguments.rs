@@ -1,55 +1,52 @@
 //! The command line.
 
+use crate::names;
+use std::collections::BTreeMap;
 use std::ffi::{OsStr, OsString};
+use std::os::unix::ffi::OsStrExt;
 use std::path::PathBuf;
 
-pub const HELP: &str = "\
-notebook: check, index, respell, cut and join medication notebook files (JAHIS 15-106)
-
-  notebook check [--json] [--jobs N] PATH..
-      `FILE: ok RECORDS GROUPS DRUGS`, or `FILE: no NUMBER LINE: WORD` for a file that is refused.
-  notebook index [--json] [--jobs N] PATH..
-      `FILE: ok RECORDS` and a line for each record: number, offset, bytes, group, line of the
-      doctor's 55, line of the drug's 201.
-  notebook canonical [--json] FILE
-      The canonical file to standard output.
-  notebook canonical --to FOLDER [--json] [--jobs N] PATH..
-      The canonical files into FOLDER, under the names that they have below their PATH.
-  notebook cut --capacity N --id ID [--prefix P] [--json] FILE
-      The pieces of at most N bytes to standard output, one after another; or into new files
-      P1, P2.., and their names and lengths to standard output. ID is 14 digits.
-  notebook join [--json] PATH..
-      The file that the pieces make, to standard output. The files are the pieces, in any order.
-
-A PATH is a file or a folder. A folder stands for every regular file in it and in its folders,
-sorted by name; symbolic links in it are left out. `-` is standard input, `--` ends the options.
-
-  --json      one JSON object a line. A file's name that is not UTF-8 stands in `file_hex` too;
-              written files are in `base64`
-  --jobs N    files that are read at the same time, 1 to 64 (the processors of this machine);
-              the output's order is that of the input
-  --to, --prefix never write over a file.
-
-Refusals of check and index are results. Those of canonical, cut and join go to standard error,
-with nothing on standard output. Lines are counted in the file; in join those of number 2 in the
-pieces as given, those of 3 to 16 in the joined file.
-
-Exit status: 0 accepted; 1 a file was refused; 2 bad usage, or something could not be read or written.
-";
+pub const HELP: &str = include_str!("help.txt");
 
 pub enum Call {
+    Many(Many, Paths),
+    One(One, OsString),
+    Join { output: Option<PathBuf>, paths: Paths },
+}
+
+/// The calls on any number of files.
+pub enum Many {
     Check,
     Index,
-    Canonical { to: Option<PathBuf> },
-    Cut { capacity: u64, id: OsString, prefix: Option<OsString> },
-    Join,
+    CanonicalTo(PathBuf),
+}
+
+/// The calls on one file.
+pub enum One {
+    Canonical { output: Option<PathBuf> },
+    Cut(Cutting),
+}
+
+pub struct Cutting {
+    pub capacity: u64,
+    pub id: OsString,
+    pub prefix: Option<OsString>,
 }
 
 pub struct Arguments {
     pub call: Call,
     pub json: bool,
+    pub quiet: bool,
+    pub summary: bool,
     pub jobs: usize,
-    pub paths: Vec<OsString>,
+    /// What is shown in place of the one path.
+    pub name: Option<OsString>,
+}
+
+pub enum Paths {
+    Given(Vec<OsString>),
+    /// The file that lists them.
+    Listed(OsString),
 }
 
 pub enum Parsed {
@@ -57,101 +54,176 @@ pub enum Parsed {
     Say(String),
 }
 
-/// The options with a value, and the subcommands that take each.
-const VALUES: [(&str, &[&str]); 5] = [
-    ("--jobs", &["check", "index", "canonical"]),
-    ("--to", &["canonical"]),
-    ("--capacity", &["cut"]),
-    ("--id", &["cut"]),
-    ("--prefix", &["cut"]),
+const SUBCOMMANDS: [&str; 5] = ["check", "index", "canonical", "cut", "join"];
+
+/// The options, whether they have a value, and the subcommands that take each.
+const OPTIONS: [(&str, bool, &[&str]); 11] = [
+    ("--json", false, &SUBCOMMANDS),
+    ("--quiet", false, &["check", "index", "canonical"]),
+    ("--summary", false, &["check", "index", "canonical"]),
+    ("--jobs", true, &["check", "index", "canonical"]),
+    ("--files0-from", true, &["check", "index", "canonical", "join"]),
+    ("--name", true, &["check", "index", "canonical", "cut"]),
+    ("--to", true, &["canonical"]),
+    ("--output", true, &["canonical", "join"]),
+    ("--capacity", true, &["cut"]),
+    ("--id", true, &["cut"]),
+    ("--prefix", true, &["cut"]),
 ];
 
-pub fn parse(mut words: impl Iterator<Item = OsString>) -> Result<Parsed, String> {
-    let name = words.next().ok_or("a subcommand is missing")?;
-    let name = name.to_string_lossy().into_owned();
-    match &name[..] {
-        "--help" | "-h" | "help" => return Ok(Parsed::Say(HELP.to_string())),
-        "--version" | "-V" => return Ok(Parsed::Say(format!("notebook {}\n", env!("CARGO_PKG_VERSION")))),
-        "check" | "index" | "canonical" | "cut" | "join" => {}
-        _ => return Err(format!("there is no subcommand {name}")),
+/// The options that canonical has only for many files, and those that it has only for one.
+const FOR_MANY: [&str; 3] = ["--quiet", "--summary", "--files0-from"];
+const FOR_ONE: [&str; 2] = ["--name", "--output"];
+
+pub const STDIN_TWICE: &str = "standard input can be read only once";
+
+/// Whether objects are asked for, though the rest may be wrong.
+pub fn asks_for_json(words: &[OsString]) -> bool {
+    words.iter().take_while(|word| *word != "--").any(|word| word == "--json")
+}
+
+pub fn parse(words: Vec<OsString>) -> Result<Parsed, String> {
+    let mut words = words.into_iter();
+    let word = words.next().ok_or("a subcommand is missing")?;
+    if let Some(text) = asked_text(&word).or((word == "help").then_some(HELP.to_string())) {
+        return Ok(Parsed::Say(text));
     }
-    let mut values: [Option<OsString>; VALUES.len()] = Default::default();
-    let (mut json, mut options, mut paths) = (false, true, Vec::new());
+    let subcommand = SUBCOMMANDS.into_iter().find(|known| word == *known);
+    let subcommand = subcommand.ok_or_else(|| format!("there is no subcommand {}", names::shown(&word)))?;
+    let mut given = Given { subcommand, values: BTreeMap::new(), paths: Vec::new() };
     while let Some(word) = words.next() {
-        let bytes = word.as_encoded_bytes();
-        if !options || word == "-" || !bytes.starts_with(b"-") {
-            paths.push(word);
-            continue;
+        if word == "--" {
+            given.paths.extend(words);
+            break;
         }
-        let text = word.to_string_lossy().into_owned();
-        match &text[..] {
-            "--" => options = false,
-            "--json" => json = true,
-            "--help" | "-h" => return Ok(Parsed::Say(HELP.to_string())),
-            "--version" | "-V" => return Ok(Parsed::Say(format!("notebook {}\n", env!("CARGO_PKG_VERSION")))),
-            _ => {
-                let (option, given) =
-                    text.split_once('=').map_or((&text[..], None), |(option, _)| (option, Some(option.len() + 1)));
-                let place = VALUES.iter().position(|(known, of)| *known == option && of.contains(&&name[..]));
-                let place = place.ok_or_else(|| format!("{name} has no option {option}"))?;
-                let value = match given {
-                    // The name of an option is ASCII, so its value begins at a whole character.
-                    Some(from) => tail(&word, from),
-                    None => words.next().ok_or_else(|| format!("{option} needs a value"))?,
-                };
-                if values[place].replace(value).is_some() {
-                    return Err(format!("{option} is given twice"));
-                }
-            }
+        if let Some(text) = asked_text(&word) {
+            return Ok(Parsed::Say(text));
+        }
+        if word == "-" || !word.as_bytes().starts_with(b"-") {
+            given.paths.push(word);
+        } else {
+            given.option(&word, &mut words)?;
         }
     }
-    let [jobs, to, capacity, id, prefix] = values;
-    if paths.is_empty() {
-        return Err(format!("{name} needs a file, or - for standard input"));
+    given.arguments().map(Parsed::Run)
+}
+
+fn asked_text(word: &OsStr) -> Option<String> {
+    match word.as_bytes() {
+        b"--help" | b"-h" => Some(HELP.to_string()),
+        b"--version" | b"-V" => Some(format!("notebook {}\n", env!("CARGO_PKG_VERSION"))),
+        _ => None,
     }
-    if paths.iter().filter(|path| *path == "-").count() > 1 {
-        return Err("standard input can be read only once".to_string());
+}
+
+/// What the words have said so far.
+struct Given {
+    subcommand: &'static str,
+    /// The values of the options; that of one without a value is empty.
+    values: BTreeMap<&'static str, OsString>,
+    paths: Vec<OsString>,
+}
+
+impl Given {
+    /// Takes an option, and its value from the same word or from the next.
+    fn option(&mut self, word: &OsStr, words: &mut impl Iterator<Item = OsString>) -> Result<(), String> {
+        let mut parts = word.as_bytes().splitn(2, |&byte| byte == b'=');
+        let option = OsStr::from_bytes(parts.next().unwrap_or_default());
+        let value = parts.next().map(|value| OsStr::from_bytes(value).to_owned());
+        let known = OPTIONS.into_iter().find(|(known, _, of)| option == *known && of.contains(&self.subcommand));
+        let Some((option, has_value, _)) = known else {
+            return Err(format!("{} has no option {}", self.subcommand, names::shown(option)));
+        };
+        if !has_value {
+            self.values.insert(option, OsString::new());
+            return value.map_or(Ok(()), |_| Err(format!("{option} takes no value")));
+        }
+        let value = value.or_else(|| words.next()).ok_or_else(|| format!("{option} needs a value"))?;
+        self.values.insert(option, value).map_or(Ok(()), |_| Err(format!("{option} is given twice")))
     }
-    let one = |call: &str| if paths.len() == 1 { Ok(()) } else { Err(format!("{call} takes one file")) };
-    let call = match &name[..] {
-        "check" => Call::Check,
-        "index" => Call::Index,
-        "join" => Call::Join,
-        "canonical" => {
-            if to.is_none() {
-                one("canonical without --to")?;
-            }
-            Call::Canonical { to: to.map(PathBuf::from) }
+
+    fn has(&self, option: &str) -> bool {
+        self.values.contains_key(option)
+    }
+
+    fn value(&mut self, option: &str) -> Option<OsString> {
+        self.values.remove(option)
+    }
+
+    fn arguments(mut self) -> Result<Arguments, String> {
+        self.agree()?;
+        let name = self.value("--name");
+        let [json, quiet, summary] = ["--json", "--quiet", "--summary"].map(|flag| self.has(flag));
+        let jobs = self.jobs()?;
+        Ok(Arguments { call: self.call()?, json, quiet, summary, jobs, name })
+    }
+
+    /// Whether the options and paths go together.
+    fn agree(&self) -> Result<(), String> {
+        let listed = self.has("--files0-from");
+        if listed && !self.paths.is_empty() {
+            return Err("--files0-from stands in place of files".to_string());
         }
-        _ => {
-            one("cut")?;
-            let capacity = number(&capacity.ok_or("cut needs --capacity")?).ok_or("--capacity is a number of bytes")?;
-            Call::Cut { capacity, id: id.ok_or("cut needs --id")?, prefix }
+        if !listed && self.paths.is_empty() {
+            return Err(format!("{} needs a file, or - for standard input", self.subcommand));
         }
-    };
-    let jobs = match jobs {
-        Some(jobs) => {
-            number(&jobs).filter(|jobs| (1..=64).contains(jobs)).ok_or("--jobs is a number from 1 to 64")? as usize
+        if self.has("--name") && (listed || self.paths.len() > 1) {
+            return Err("--name is for one file".to_string());
         }
-        None => std::thread::available_parallelism().map_or(1, |jobs| jobs.get().min(64)),
-    };
-    Ok(Parsed::Run(Arguments { call, json, jobs, paths }))
+        if self.subcommand == "canonical" {
+            let to = self.has("--to");
+            let (how, wrong) = if to { ("with", &FOR_ONE[..]) } else { ("without", &FOR_MANY[..]) };
+            let wrong = wrong.iter().find(|option| self.has(option));
+            return wrong.map_or(Ok(()), |option| Err(format!("canonical {how} --to has no option {option}")));
+        }
+        Ok(())
+    }
+
+    fn call(mut self) -> Result<Call, String> {
+        let output = self.value("--output").map(PathBuf::from);
+        Ok(match (self.subcommand, self.value("--to")) {
+            ("check", _) => Call::Many(Many::Check, self.paths()?),
+            ("index", _) => Call::Many(Many::Index, self.paths()?),
+            ("join", _) => Call::Join { output, paths: self.paths()? },
+            ("canonical", Some(folder)) => Call::Many(Many::CanonicalTo(folder.into()), self.paths()?),
+            ("canonical", None) => Call::One(One::Canonical { output }, self.path("canonical without --to")?),
+            _ => Call::One(One::Cut(self.cutting()?), self.path("cut")?),
+        })
+    }
+
+    fn cutting(&mut self) -> Result<Cutting, String> {
+        let capacity = self.value("--capacity").ok_or("cut needs --capacity")?;
+        let capacity = number(&capacity).ok_or("--capacity is a number of bytes")?;
+        let id = self.value("--id").ok_or("cut needs --id")?;
+        Ok(Cutting { capacity, id, prefix: self.value("--prefix") })
+    }
+
+    fn path(self, call: &str) -> Result<OsString, String> {
+        match <[OsString; 1]>::try_from(self.paths) {
+            Ok([path]) => Ok(path),
+            Err(_) => Err(format!("{call} takes one file")),
+        }
+    }
+
+    fn paths(mut self) -> Result<Paths, String> {
+        match self.value("--files0-from") {
+            Some(list) => Ok(Paths::Listed(list)),
+            None if self.paths.iter().filter(|path| *path == "-").count() > 1 => Err(STDIN_TWICE.to_string()),
+            None => Ok(Paths::Given(self.paths)),
+        }
+    }
+
+    fn jobs(&mut self) -> Result<usize, String> {
+        let Some(jobs) = self.value("--jobs") else {
+            return Ok(std::thread::available_parallelism().map_or(1, |jobs| jobs.get().min(64)));
+        };
+        let jobs = number(&jobs).and_then(|jobs| usize::try_from(jobs).ok()).filter(|jobs| (1..=64).contains(jobs));
+        jobs.ok_or_else(|| "--jobs is a number from 1 to 64".to_string())
+    }
 }
 
 /// A number in digits alone.
 fn number(word: &OsStr) -> Option<u64> {
     let text = word.to_str()?;
     (!text.is_empty() && text.bytes().all(|byte| byte.is_ascii_digit())).then(|| text.parse().ok())?
-}
-
-/// The part of a word from a place on that follows `=`.
-#[cfg(unix)]
-fn tail(word: &OsStr, from: usize) -> OsString {
-    use std::os::unix::ffi::OsStrExt;
-    OsStr::from_bytes(&word.as_bytes()[from..]).to_owned()
-}
-
-#[cfg(not(unix))]
-fn tail(word: &OsStr, from: usize) -> OsString {
-    word.to_string_lossy()[from..].to_string().into()
 }

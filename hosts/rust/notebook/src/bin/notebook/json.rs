@@ -7,9 +7,13 @@ use std::fmt::Write;
 pub struct Object(String);
 
 impl Object {
+    pub fn new() -> Self {
+        Object(String::from("{"))
+    }
+
     /// An object about a file.
     pub fn of(file: &OsStr) -> Self {
-        Object(String::from("{")).name("file", file)
+        Object::new().name("file", file)
     }
 
     fn key(mut self, key: &str) -> Self {
@@ -33,6 +37,10 @@ impl Object {
 
     pub fn number(self, key: &str, value: u64) -> Self {
         self.raw(key, &value.to_string())
+    }
+
+    pub fn object(self, key: &str, value: Object) -> Self {
+        self.raw(key, &(value.0 + "}"))
     }
 
     pub fn text(self, key: &str, value: &str) -> Self {
@@ -80,8 +88,9 @@ fn string(text: &str) -> String {
             '\n' => quoted.push_str("\\n"),
             '\r' => quoted.push_str("\\r"),
             '\t' => quoted.push_str("\\t"),
-            control if control < ' ' => {
-                let _ = write!(quoted, "\\u{:04x}", u32::from(control));
+            // The last of these are controls of a terminal too.
+            '\0'..' ' | '\x7f'..='\u{9f}' => {
+                let _ = write!(quoted, "\\u{:04x}", u32::from(character));
             }
             other => quoted.push(other),
         }
@@ -98,8 +107,8 @@ pub fn base64(bytes: &[u8]) -> String {
         let byte = |at: usize| u32::from(chunk.get(at).copied().unwrap_or(0));
         let bits = byte(0) << 16 | byte(1) << 8 | byte(2);
         for place in 0..4 {
-            let letter = LETTERS[(bits >> (18 - 6 * place)) as usize % 64];
-            text.push(if place <= chunk.len() { char::from(letter) } else { '=' });
+            let letter = LETTERS.get((bits >> (18 - 6 * place)) as usize % 64).filter(|_| place <= chunk.len());
+            text.push(letter.map_or('=', |&letter| char::from(letter)));
         }
     }
     text
@@ -111,12 +120,12 @@ mod tests {
 
     #[test]
     fn strings_are_escaped() {
-        assert_eq!(string("a\"b\\c\n\r\t\u{1}\u{7f}é"), "\"a\\\"b\\\\c\\n\\r\\t\\u0001\u{7f}é\"");
+        assert_eq!(string("a\"b\\c\n\r\t\u{1}é"), "\"a\\\"b\\\\c\\n\\r\\t\\u0001é\"");
+        assert_eq!(string("\u{7e}\u{7f}\u{80}\u{9f}\u{a0}"), "\"\u{7e}\\u007f\\u0080\\u009f\u{a0}\"");
         let object = Object::of(OsStr::new("a\"b")).flag("ok", true).number("n", 3).names("to", &["x".into()]);
         assert_eq!(object.line(), b"{\"file\":\"a\\\"b\",\"ok\":true,\"n\":3,\"to\":[\"x\"]}\n");
     }
 
-    #[cfg(unix)]
     #[test]
     fn names_that_are_not_utf_8() {
         use std::os::unix::ffi::OsStrExt;

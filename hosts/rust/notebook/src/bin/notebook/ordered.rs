@@ -1,12 +1,19 @@
 //! Work on many inputs at once, with the results in the order of the inputs.
 
+use crate::system;
 use std::collections::BTreeMap;
 use std::io;
-use std::sync::{Condvar, Mutex};
+use std::sync::{Condvar, Mutex, MutexGuard, PoisonError};
 use std::thread;
 
 /// Results that may wait for an earlier one, for each job. It bounds the memory when one input takes long.
 const AHEAD: usize = 64;
+
+/// The stack of a thread; the calls take a fraction of it.
+const STACK: usize = 512 << 10;
+
+/// More than the work on one input takes.
+const MEMORY: usize = 4 << 20;
 
 struct State<T> {
     /// The next input to work on, and the next result to hand over.
@@ -17,54 +24,84 @@ struct State<T> {
     stopped: bool,
 }
 
-/// Does `work` on the inputs 0 to `count` in `jobs` threads and hands each result to `each`, in order. Stops at the first
-/// error of `each`.
-pub fn run<T: Send>(
+struct Shared<T> {
+    state: Mutex<State<T>>,
+    /// A result is there; there is room for more results.
+    ready: Condvar,
+    room: Condvar,
+}
+
+impl<T> Shared<T> {
+    fn lock(&self) -> MutexGuard<'_, State<T>> {
+        self.state.lock().unwrap_or_else(PoisonError::into_inner)
+    }
+
+    /// The next input to work on, when there is room for its result.
+    fn next(&self, ahead: usize, count: usize) -> Option<usize> {
+        let full = |state: &mut State<T>| !state.stopped && state.next < count && state.next > state.due + ahead;
+        let mut state = self.room.wait_while(self.lock(), full).unwrap_or_else(PoisonError::into_inner);
+        if state.stopped || state.next >= count {
+            return None;
+        }
+        state.next += 1;
+        Some(state.next - 1)
+    }
+
+    /// The result of an input, when it is done.
+    fn result(&self, at: usize) -> T {
+        let mut state = self.lock();
+        loop {
+            if let Some(result) = state.done.remove(&at) {
+                state.due = at + 1;
+                self.room.notify_all();
+                return result;
+            }
+            state = self.ready.wait(state).unwrap_or_else(PoisonError::into_inner);
+        }
+    }
+}
+
+/// Does `work` on the inputs in up to `jobs` threads and hands each result to `each`, in order. Stops at the first error of
+/// `each`. Where threads can't be started it goes on with those that are there, or without any.
+pub fn run<I: Sync, T: Send>(
     jobs: usize,
-    count: usize,
-    work: impl Fn(usize) -> T + Sync,
+    inputs: &[I],
+    work: impl Fn(&I) -> T + Sync,
     mut each: impl FnMut(usize, T) -> io::Result<()>,
 ) -> io::Result<()> {
-    if jobs.min(count) <= 1 {
-        return (0..count).try_for_each(|at| each(at, work(at)));
-    }
     let state = Mutex::new(State { next: 0, due: 0, done: BTreeMap::new(), stopped: false });
-    let (ready, room) = (Condvar::new(), Condvar::new());
-    let lock = || state.lock().expect("no thread panics with the lock");
+    let shared = Shared { state, ready: Condvar::new(), room: Condvar::new() };
+    let worker = || {
+        while let Some((at, input)) = shared.next(AHEAD * jobs, inputs.len()).and_then(|at| Some((at, inputs.get(at)?))) {
+            let result = work(input);
+            shared.lock().done.insert(at, result);
+            shared.ready.notify_one();
+        }
+    };
     thread::scope(|scope| {
-        for _ in 0..jobs.min(count) {
-            scope.spawn(|| loop {
-                let mut state = room
-                    .wait_while(lock(), |state| {
-                        !state.stopped && state.next < count && state.next > state.due + AHEAD * jobs
-                    })
-                    .expect("no thread panics with the lock");
-                if state.stopped || state.next == count {
-                    return;
-                }
-                let at = state.next;
-                state.next += 1;
-                drop(state);
-                let result = work(at);
-                lock().done.insert(at, result);
-                ready.notify_one();
-            });
+        if start(scope, jobs.min(inputs.len()), &worker) == 0 {
+            return (0..).zip(inputs).try_for_each(|(at, input)| each(at, work(input)));
         }
-        for at in 0..count {
-            let mut state =
-                ready.wait_while(lock(), |state| !state.done.contains_key(&at)).expect("no thread panics with the lock");
-            let result = state.done.remove(&at).expect("the result is there");
-            state.due = at + 1;
-            drop(state);
-            room.notify_all();
-            if let Err(error) = each(at, result) {
-                lock().stopped = true;
-                room.notify_all();
-                return Err(error);
-            }
-        }
-        Ok(())
+        let told = (0..inputs.len()).try_for_each(|at| each(at, shared.result(at)));
+        shared.lock().stopped = true;
+        shared.room.notify_all();
+        told
     })
+}
+
+/// Starts threads, and answers how many. One alone would only be waited for.
+fn start<'scope>(scope: &'scope thread::Scope<'scope, '_>, jobs: usize, worker: &'scope (impl Fn() + Sync)) -> usize {
+    if jobs < 2 {
+        return 0;
+    }
+    let start_one = || thread::Builder::new().stack_size(STACK).spawn_scoped(scope, worker).is_ok();
+    (1..=jobs).take_while(|&count| has_memory(count) && start_one()).count()
+}
+
+/// Whether there is memory for so many threads' work: their stacks must not take it.
+fn has_memory(threads: usize) -> bool {
+    let mut memory: Vec<u8> = Vec::new();
+    system::may_fail(|| memory.try_reserve_exact(MEMORY.saturating_mul(threads)).is_ok())
 }
 
 #[cfg(test)]
@@ -76,20 +113,21 @@ mod tests {
     fn results_come_in_order() {
         for jobs in [1, 2, 7] {
             let mut seen = Vec::new();
-            let work = |at: usize| {
+            let work = |&at: &usize| {
                 if at % 97 == 0 {
                     thread::sleep(Duration::from_millis(3));
                 }
                 at * at
             };
-            run(jobs, 1_000, work, |at, square| {
+            let inputs: Vec<usize> = (0..1_000).collect();
+            run(jobs, &inputs, work, |at, square| {
                 seen.push((at, square));
                 Ok(())
             })
             .expect("nothing fails");
             assert!(seen.iter().copied().eq((0..1_000).map(|at| (at, at * at))));
         }
-        assert!(run(4, 0, |at| at, |_, _| Ok(())).is_ok());
+        assert!(run(4, &[(); 0], |_| (), |_, ()| Ok(())).is_ok());
     }
 
     #[test]
@@ -97,9 +135,9 @@ mod tests {
         let mut handed = 0;
         let result = run(
             3,
-            100_000,
-            |at| at,
-            |at, _| {
+            &[(); 100_000],
+            |_| (),
+            |at, ()| {
                 handed += 1;
                 if at == 10 {
                     Err(io::ErrorKind::BrokenPipe.into())

@@ -1,6 +1,8 @@
 //! Standard output and error of a run over many files, with a progress bar if standard error is a terminal.
 
-use std::io::{self, IsTerminal, Write};
+use crate::system::{self, Standard};
+use crate::tell;
+use std::io::{self, IsTerminal};
 use std::time::{Duration, Instant};
 
 /// A run is long, and gets a bar, after this time. The bar is drawn anew at most so often.
@@ -14,13 +16,20 @@ pub struct Screen {
     pending: Vec<u8>,
     total: usize,
     start: Instant,
-    drawn: Option<Instant>,
+    drawn: Option<Drawn>,
     terminal: bool,
+}
+
+/// The bar on the screen: when it was drawn, and its columns.
+struct Drawn {
+    at: Instant,
+    columns: usize,
 }
 
 impl Screen {
     pub fn new(total: usize) -> Self {
-        Screen { pending: Vec::new(), total, start: Instant::now(), drawn: None, terminal: io::stderr().is_terminal() }
+        let terminal = Standard::Error.file().is_ok_and(|file| file.is_terminal());
+        Screen { pending: Vec::new(), total, start: Instant::now(), drawn: None, terminal }
     }
 
     /// Standard output, kept until there is enough of it.
@@ -38,28 +47,31 @@ impl Screen {
             return Ok(());
         }
         self.flush()?;
-        io::stderr().write_all(bytes)
+        tell::write_err(bytes);
+        Ok(())
     }
 
     /// So many inputs are done.
     pub fn progress(&mut self, done: usize) -> io::Result<()> {
-        if !self.terminal || self.start.elapsed() < LONG || self.drawn.is_some_and(|drawn| drawn.elapsed() < REDRAW) {
+        let fresh = self.drawn.as_ref().is_some_and(|drawn| drawn.at.elapsed() < REDRAW);
+        if !self.terminal || fresh || self.start.elapsed() < LONG {
             return Ok(());
         }
         self.flush()?;
-        self.drawn = Some(Instant::now());
-        write!(io::stderr(), "{}", bar(done, self.total))
+        let bar = bar(done, self.total, system::columns().unwrap_or(80));
+        tell::write_err(format!("\r{bar}").as_bytes());
+        self.drawn = Some(Drawn { at: Instant::now(), columns: bar.len() });
+        Ok(())
     }
 
     /// Takes the bar away and writes what waits, so that the two never mix.
     fn flush(&mut self) -> io::Result<()> {
-        if self.drawn.take().is_some() {
-            write!(io::stderr(), "\r{:70}\r", "")?;
+        if let Some(Drawn { columns, .. }) = self.drawn.take() {
+            tell::write_err(format!("\r{:columns$}\r", "").as_bytes());
         }
-        let mut stdout = io::stdout().lock();
-        stdout.write_all(&self.pending)?;
+        let written = tell::write_out(&self.pending);
         self.pending.clear();
-        stdout.flush()
+        written
     }
 
     pub fn finish(mut self) -> io::Result<()> {
@@ -67,10 +79,20 @@ impl Screen {
     }
 }
 
-fn bar(done: usize, total: usize) -> String {
-    const WIDTH: usize = 40;
-    let filled = WIDTH * done / total.max(1);
-    format!("\r[{}{}] {done} of {total}", "#".repeat(filled), ".".repeat(WIDTH - filled))
+/// The bar, in fewer columns than the terminal has, so that the cursor stays in its line.
+fn bar(done: usize, total: usize, columns: usize) -> String {
+    const WIDEST: usize = 40;
+    let numbers = format!("{done} of {total}");
+    let room = columns.saturating_sub(1);
+    if numbers.len() > room {
+        return String::new();
+    }
+    let width = room.saturating_sub("[] ".len() + numbers.len()).min(WIDEST);
+    if columns < 20 || width == 0 {
+        return numbers;
+    }
+    let filled = (width * done).checked_div(total).unwrap_or(0).min(width);
+    format!("[{}{}] {numbers}", "#".repeat(filled), ".".repeat(width - filled))
 }
 
 #[cfg(test)]
@@ -78,8 +100,16 @@ mod tests {
     use super::*;
 
     #[test]
-    fn bars() {
-        assert_eq!(bar(1, 4), format!("\r[{}{}] 1 of 4", "#".repeat(10), ".".repeat(30)));
-        assert_eq!(bar(4, 4), format!("\r[{}] 4 of 4", "#".repeat(40)));
+    fn bars_fit() {
+        assert_eq!(bar(1, 4, 100), format!("[{}{}] 1 of 4", "#".repeat(10), ".".repeat(30)));
+        assert_eq!(bar(4, 4, 50), format!("[{}] 4 of 4", "#".repeat(40)));
+        assert_eq!(bar(1, 2, 30), "[##########..........] 1 of 2");
+        assert_eq!(bar(1, 2, 20), "[#####.....] 1 of 2");
+        assert_eq!(bar(1, 2, 19), "1 of 2");
+        assert_eq!(bar(1, 2, 7), "1 of 2");
+        assert_eq!(bar(1, 2, 6), "");
+        assert_eq!(bar(1_000_000, 2_000_000, 24), "[#.] 1000000 of 2000000");
+        assert_eq!(bar(1_000_000, 2_000_000, 21), "1000000 of 2000000");
+        assert_eq!(bar(0, 0, 1), "");
     }
 }

@@ -1,0 +1,25 @@
+//! The files that `canonical --to` writes, one for each input.
+
+use crate::inputs::Found;
+use crate::names;
+use std::collections::BTreeSet;
+use std::io::{self, ErrorKind};
+use std::path::{Path, PathBuf};
+
+/// Turns each input into a failure whose file an earlier input has, or needs as a folder: which of the two came first must
+/// not depend on the threads.
+pub fn claim(to: &Path, found: &mut [Found]) {
+    let (mut files, mut folders) = (BTreeSet::new(), BTreeSet::new());
+    for one in found {
+        let Found::Input(input) = one else { continue };
+        let target = to.join(&input.below);
+        let outer: Vec<PathBuf> = target.ancestors().skip(1).map(Path::to_path_buf).collect();
+        if files.contains(&target) || folders.contains(&target) || outer.iter().any(|folder| files.contains(folder)) {
+            let message = format!("another input is written to {}", names::shown(target.as_os_str()));
+            *one = Found::Failed(input.name.clone(), io::Error::new(ErrorKind::AlreadyExists, message));
+            continue;
+        }
+        files.insert(target);
+        folders.extend(outer);
+    }
+}

@@ -1,0 +1,295 @@
+//! Files that are written whole or not at all.
+
+use crate::inputs;
+use crate::system::{self, EINVAL, ENOSYS, O_DIRECTORY, O_NOFOLLOW, O_NONBLOCK};
+use std::collections::BTreeSet;
+use std::ffi::OsStr;
+use std::fs::{self, DirBuilder, File, OpenOptions, TryLockError};
+use std::io::{self, ErrorKind, Write};
+use std::os::unix::ffi::OsStrExt;
+use std::os::unix::fs::{DirBuilderExt, MetadataExt, OpenOptionsExt};
+use std::path::{Path, PathBuf};
+use std::sync::{Mutex, PoisonError};
+
+/// The file that could not be written, and why.
+pub type Failure<'a> = (&'a Path, io::Error);
+
+/// How often a part that other runs make and remove is tried.
+const TRIES: usize = 8;
+
+/// A file in the making.
+struct Part<'a> {
+    path: &'a Path,
+    bytes: &'a [u8],
+    /// Its name until all parts are whole.
+    part: PathBuf,
+    /// It holds the lock that tells other runs that the part is in use.
+    file: File,
+    state: State,
+}
+
+#[derive(Clone, Copy)]
+enum State {
+    Part,
+    Named,
+    /// Another run has written the same file meanwhile.
+    NotOurs,
+}
+
+/// Writes new files, all or none. A name that has exactly its bytes already counts as written; any other name that is there
+/// is refused before anything is made.
+pub fn write<'a>(files: &[(&'a Path, &'a [u8])]) -> Result<(), Failure<'a>> {
+    let (mut there, mut missing) = (Vec::new(), Vec::new());
+    for &(path, bytes) in files {
+        let there_already = is_there(path, bytes).map_err(|error| (path, error))?;
+        if there_already { &mut there } else { &mut missing }.push((path, bytes));
+    }
+    let mut parts = Vec::new();
+    let written = make_parts(&missing, &mut parts).and_then(|()| name_parts(&mut parts)).and_then(|()| sync_folders(files));
+    if written.is_err() {
+        parts.iter().for_each(remove);
+        return written;
+    }
+    for (path, _) in there {
+        // A killed run may have left a part beside it.
+        let _ = part_name(path).and_then(|part| remove_left(&part));
+    }
+    Ok(())
+}
+
+/// Whether the name is a regular file with exactly these bytes; an error if it is anything else.
+fn is_there(path: &Path, bytes: &[u8]) -> io::Result<bool> {
+    let found = match fs::symlink_metadata(path) {
+        Ok(found) => found,
+        Err(error) if error.kind() == ErrorKind::NotFound => return Ok(false),
+        Err(error) => return Err(error),
+    };
+    if found.is_file() && found.len() == bytes.len() as u64 {
+        let file = OpenOptions::new().read(true).custom_flags(O_NOFOLLOW | O_NONBLOCK).open(path)?;
+        if inputs::read_most(&file, bytes.len() + 1)? == bytes {
+            return Ok(true);
+        }
+    }
+    Err(io::Error::new(ErrorKind::AlreadyExists, "already exists"))
+}
+
+fn make_parts<'a>(files: &[(&'a Path, &'a [u8])], parts: &mut Vec<Part<'a>>) -> Result<(), Failure<'a>> {
+    for &(path, bytes) in files {
+        let made = part_name(path).and_then(|part| Ok((new_part(&part)?, part)));
+        let (file, part) = made.map_err(|error| (path, error))?;
+        parts.push(Part { path, bytes, part, file, state: State::Part });
+    }
+    // All names are taken before the first byte is written.
+    for part in parts {
+        part.file.write_all(part.bytes).and_then(|()| part.file.sync_all()).map_err(|error| (part.path, error))?;
+    }
+    Ok(())
+}
+
+fn name_parts<'a>(parts: &mut [Part<'a>]) -> Result<(), Failure<'a>> {
+    for part in parts {
+        part.state = name_part(part).map_err(|error| (part.path, error))?;
+    }
+    Ok(())
+}
+
+fn name_part(part: &Part) -> io::Result<State> {
+    let error = match system::rename_new(&part.part, part.path) {
+        Ok(()) => return Ok(State::Named),
+        Err(error) => error,
+    };
+    let unknown = matches!(error.raw_os_error(), Some(EINVAL | ENOSYS));
+    if !unknown && error.kind() != ErrorKind::AlreadyExists {
+        return Err(error);
+    }
+    if is_there(part.path, part.bytes)? {
+        fs::remove_file(&part.part)?;
+        return Ok(State::NotOurs);
+    }
+    if !unknown {
+        return Err(error);
+    }
+    // The file system does not know renaming without replacing, and nothing is there.
+    fs::rename(&part.part, part.path)?;
+    Ok(State::Named)
+}
+
+fn sync_folders<'a>(files: &[(&'a Path, &'a [u8])]) -> Result<(), Failure<'a>> {
+    let mut synced = BTreeSet::new();
+    for &(path, _) in files {
+        let folder = folder_and_name(path).map_err(|error| (path, error))?.0;
+        if synced.insert(folder) {
+            sync_folder(folder).map_err(|error| (path, error))?;
+        }
+    }
+    Ok(())
+}
+
+/// Has the system keep a folder's names.
+fn sync_folder(folder: &Path) -> io::Result<()> {
+    let opened = OpenOptions::new().read(true).custom_flags(O_DIRECTORY).open(folder)?;
+    match opened.sync_all() {
+        // Some file systems can't.
+        Err(error) if error.raw_os_error() == Some(EINVAL) => Ok(()),
+        result => result,
+    }
+}
+
+/// Removes what was made of a part.
+fn remove(part: &Part) {
+    match part.state {
+        State::Part => remove_ours(&part.file, &part.part),
+        State::Named => remove_ours(&part.file, part.path),
+        State::NotOurs => {}
+    }
+}
+
+/// Removes a name if it still is this file.
+fn remove_ours(file: &File, name: &Path) {
+    if is_named(file, name).unwrap_or(false) {
+        let _ = fs::remove_file(name);
+    }
+}
+
+// ---- Parts
+
+/// Makes a part that no other run has, open for writing and locked.
+fn new_part(part: &Path) -> io::Result<File> {
+    for _ in 0..TRIES {
+        let file = match OpenOptions::new().read(true).write(true).create_new(true).mode(0o600).open(part) {
+            Ok(file) => file,
+            Err(error) if error.kind() == ErrorKind::AlreadyExists => {
+                remove_left(part)?;
+                continue;
+            }
+            Err(error) => return Err(error),
+        };
+        match hold(&file, part) {
+            Ok(true) => return Ok(file),
+            Ok(false) => {}
+            Err(error) => {
+                remove_ours(&file, part);
+                return Err(error);
+            }
+        }
+    }
+    Err(in_use())
+}
+
+/// Locks a part. False if another run has taken it, before it was locked, for one that was left.
+fn hold(file: &File, part: &Path) -> io::Result<bool> {
+    match file.try_lock() {
+        Ok(()) => is_named(file, part),
+        Err(TryLockError::WouldBlock) => Ok(false),
+        Err(TryLockError::Error(error)) => Err(error),
+    }
+}
+
+/// Removes a part that a run has left; one that a run has locked is an error.
+fn remove_left(part: &Path) -> io::Result<()> {
+    let file = match OpenOptions::new().read(true).custom_flags(O_NOFOLLOW | O_NONBLOCK).open(part) {
+        Ok(file) => file,
+        Err(error) if error.kind() == ErrorKind::NotFound => return Ok(()),
+        Err(error) => return Err(error),
+    };
+    match file.try_lock() {
+        // Another run may have removed or renamed it meanwhile.
+        Ok(()) if is_named(&file, part)? => fs::remove_file(part),
+        Ok(()) => Ok(()),
+        Err(TryLockError::WouldBlock) => Err(in_use()),
+        Err(TryLockError::Error(error)) => Err(error),
+    }
+}
+
+fn in_use() -> io::Error {
+    io::Error::new(ErrorKind::ResourceBusy, "in use by another run")
+}
+
+/// Whether the name is this file.
+fn is_named(file: &File, name: &Path) -> io::Result<bool> {
+    match fs::symlink_metadata(name) {
+        Ok(found) => Ok(identity(&found) == identity(&file.metadata()?)),
+        Err(error) if error.kind() == ErrorKind::NotFound => Ok(false),
+        Err(error) => Err(error),
+    }
+}
+
+/// Device and inode.
+pub fn identity(file: &fs::Metadata) -> (u64, u64) {
+    (file.dev(), file.ino())
+}
+
+/// The name of the part: in the same folder, and the same every time, so that the next run finds what a killed one left.
+fn part_name(path: &Path) -> io::Result<PathBuf> {
+    let (folder, name) = folder_and_name(path)?;
+    // FNV-1a.
+    let hash = |hash: u64, byte: &u8| (hash ^ u64::from(*byte)).wrapping_mul(0x0000_0100_0000_01b3);
+    let hash = name.as_bytes().iter().fold(0xcbf2_9ce4_8422_2325, hash);
+    Ok(folder.join(format!(".notebook-{hash:016x}.part")))
+}
+
+/// Whether a file's name is that of a part.
+pub fn is_part(name: &OsStr) -> bool {
+    name.as_bytes().starts_with(b".notebook-") && name.as_bytes().ends_with(b".part")
+}
+
+fn folder_and_name(path: &Path) -> io::Result<(&Path, &OsStr)> {
+    let bytes = path.as_os_str().as_bytes();
+    let name = bytes.rsplit(|&byte| byte == b'/').next().unwrap_or_default();
+    if matches!(name, b"" | b"." | b"..") {
+        return Err(io::Error::new(ErrorKind::InvalidInput, "not the name of a file"));
+    }
+    let folder = bytes.strip_suffix(name).unwrap_or_default();
+    let folder: &[u8] = if folder.is_empty() { b"." } else { folder };
+    Ok((Path::new(OsStr::from_bytes(folder)), OsStr::from_bytes(name)))
+}
+
+// ---- Folders
+
+/// The folders that a run has made.
+#[derive(Default)]
+pub struct Folders(Mutex<Vec<PathBuf>>);
+
+impl Folders {
+    /// Makes a folder and those that it lies in, if they are not there.
+    pub fn make(&self, folder: &Path) -> io::Result<()> {
+        let is_missing = |folder: &&Path| !folder.as_os_str().is_empty() && !folder.is_dir();
+        let missing: Vec<&Path> = folder.ancestors().take_while(is_missing).collect();
+        for folder in missing.into_iter().rev() {
+            match DirBuilder::new().mode(0o700).create(folder) {
+                Ok(()) => self.0.lock().unwrap_or_else(PoisonError::into_inner).push(folder.into()),
+                // Another thread was first; what is no folder fails later.
+                Err(error) if error.kind() == ErrorKind::AlreadyExists => continue,
+                Err(error) => return Err(error),
+            }
+            let outer = folder.parent().filter(|outer| !outer.as_os_str().is_empty());
+            sync_folder(outer.unwrap_or(Path::new(".")))?;
+        }
+        Ok(())
+    }
+
+    /// Removes those that have stayed empty.
+    pub fn remove_empty(&self) {
+        for folder in self.0.lock().unwrap_or_else(PoisonError::into_inner).iter().rev() {
+            let _ = fs::remove_dir(folder);
+        }
+    }
+}
+
+#[cfg(test)]
+mod tests {
+    use super::*;
+
+    #[test]
+    fn parts_lie_beside_their_files() {
+        let name = |path: &str| part_name(Path::new(path)).map(|part| part.display().to_string()).ok();
+        // FNV-1a of "a", from its authors' table.
+        assert_eq!(name("x/a").as_deref(), Some("x/.notebook-af63dc4c8601ec8c.part"));
+        assert_eq!(name("/a").as_deref(), Some("/.notebook-af63dc4c8601ec8c.part"));
+        assert_eq!(name("a").as_deref(), Some("./.notebook-af63dc4c8601ec8c.part"));
+        for path in ["", "x/", "x/.", "..", "/"] {
+            assert_eq!(name(path), None, "{path}");
+        }
+        assert!(is_part(OsStr::new(".notebook-1.part")) && !is_part(OsStr::new("notebook-1.part")));
+    }
+}
