@@ -69,6 +69,9 @@ pub fn run<I: Sync, T: Send>(
     work: impl Fn(&I) -> T + Sync,
     mut each: impl FnMut(usize, T) -> io::Result<()>,
 ) -> io::Result<()> {
+    if jobs.min(inputs.len()) < 2 {
+        return (0..).zip(inputs).try_for_each(|(at, input)| each(at, work(input)));
+    }
     let state = Mutex::new(State { next: 0, due: 0, done: BTreeMap::new(), stopped: false });
     let shared = Shared { state, ready: Condvar::new(), room: Condvar::new() };
     let worker = || {
@@ -79,21 +82,19 @@ pub fn run<I: Sync, T: Send>(
         }
     };
     thread::scope(|scope| {
-        if start(scope, jobs.min(inputs.len()), &worker) == 0 {
-            return (0..).zip(inputs).try_for_each(|(at, input)| each(at, work(input)));
-        }
-        let told = (0..inputs.len()).try_for_each(|at| each(at, shared.result(at)));
+        let threads = start(scope, jobs.min(inputs.len()), &worker);
+        let told = (0..).zip(inputs).try_for_each(|(at, input)| {
+            let result = if threads > 0 { shared.result(at) } else { work(input) };
+            each(at, result)
+        });
         shared.lock().stopped = true;
         shared.room.notify_all();
         told
     })
 }
 
-/// Starts threads, and answers how many. One alone would only be waited for.
+/// Starts threads, and answers how many.
 fn start<'scope>(scope: &'scope thread::Scope<'scope, '_>, jobs: usize, worker: &'scope (impl Fn() + Sync)) -> usize {
-    if jobs < 2 {
-        return 0;
-    }
     let start_one = || thread::Builder::new().stack_size(STACK).spawn_scoped(scope, worker).is_ok();
     (1..=jobs).take_while(|&count| has_memory(count) && start_one()).count()
 }

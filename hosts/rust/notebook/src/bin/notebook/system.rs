@@ -16,6 +16,8 @@ use std::sync::atomic::{AtomicBool, Ordering};
 const RLIMIT_CORE: c_int = 4;
 const RLIMIT_NOFILE: c_int = 7;
 const M_ARENA_MAX: c_int = -8;
+const SIGILL: c_int = 4;
+const SIGABRT: c_int = 6;
 const SIGBUS: c_int = 7;
 const SIGSEGV: c_int = 11;
 const SIGXFSZ: c_int = 25;
@@ -111,10 +113,12 @@ extern "C" fn before_the_runtime() {
         signal(SIGXFSZ, IGNORED);
         let stack = Stack { start: (&raw mut FAULT_STACK).cast(), flags: 0, size: 16 << 10 };
         sigaltstack(&stack, ptr::null_mut());
-        // The runtime would set up a stack for these in every thread, and panic where it can't.
+        // Of some memory the standard library has its own, and aborts where there is none. For two of these signals the runtime
+        // would set up a stack in every thread, and panic where it can't.
         let action = Action { handler: fault as *const () as usize, mask: [0; 16], flags: SA_ONSTACK, restorer: 0 };
-        sigaction(SIGSEGV, &action, ptr::null_mut());
-        sigaction(SIGBUS, &action, ptr::null_mut());
+        for number in [SIGABRT, SIGBUS, SIGILL, SIGSEGV] {
+            sigaction(number, &action, ptr::null_mut());
+        }
     }
     for (descriptor, closed) in (0..).zip(&CLOSED) {
         // SAFETY: the path is a string that ends with a zero. A file opened later must not get the number of a standard stream.
