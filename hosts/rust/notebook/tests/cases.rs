@@ -25,7 +25,7 @@ impl<'a> Frames<'a> {
         self.bytes(bytes).iter().fold(0, |value, &byte| value << 8 | u64::from(byte))
     }
 
-    /// A run of bytes behind its length.
+    /// A run of bytes after its length.
     fn run(&mut self, length: usize) -> &'a [u8] {
         let count = self.number(length) as usize;
         self.bytes(count)
@@ -59,7 +59,7 @@ fn cases(calls: &[u8]) -> Vec<Case> {
         });
     }
     assert!(found.iter().all(|case| b"vickjp".contains(&case.call)), "every frame is of a call that is tested");
-    assert_eq!(lines.count(), 256, "the table of all pairs of bytes is what stands behind the last frame's line");
+    assert_eq!(lines.count(), 256, "the table of all pairs of bytes is what stands after the last frame's line");
     found.retain(|case| calls.contains(&case.call));
     found
 }
@@ -92,7 +92,7 @@ fn check_every_case_by_the_command() {
     let told = String::from_utf8(output.stdout).expect("the answers are UTF-8");
     assert_eq!(told.lines().count(), cases.len());
     for (number, (told, case)) in told.lines().zip(&cases).enumerate() {
-        let (_, answer) = case.answer.rsplit_once(": ").expect("an answer stands behind its label");
+        let (_, answer) = case.answer.rsplit_once(": ").expect("an answer stands after its label");
         let told = told.strip_prefix(&format!("./{number:05}: ")).expect("the files are in order");
         assert_eq!(told.split(':').next(), Some(answer));
     }

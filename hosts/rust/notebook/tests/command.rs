@@ -184,6 +184,10 @@ fn usage_and_failures() {
         let (status, out, err) = run(words, SMALL);
         assert!(status == 2 && out.is_empty() && err.starts_with("notebook: "), "{words:?} {err}");
     }
+}
+
+#[test]
+fn files_that_are_not_there() {
     let (status, out, err) = run(&["check", "samples/nothing.csv", "samples/visit.csv"], b"");
     assert_eq!((status, &out[..]), (2, "samples/visit.csv: ok 15 1 3\n"));
     assert!(err.starts_with("notebook: samples/nothing.csv: "), "{err}");

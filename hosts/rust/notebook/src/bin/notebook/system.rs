@@ -88,7 +88,8 @@ extern "C" {
 static CLOSED: [AtomicBool; 3] = [const { AtomicBool::new(false) }; 3];
 
 /// The stack of `fault`: where the stack itself is full there is no other.
-static mut FAULT_STACK: [u8; 16 << 10] = [0; 16 << 10];
+static mut FAULT_STACK: [u8; FAULT_STACK_BYTES] = [0; FAULT_STACK_BYTES];
+const FAULT_STACK_BYTES: usize = 16 << 10;
 
 /// Rust's runtime opens /dev/null for closed descriptors, and aborts if it can't: what was closed is only known before it.
 #[used]
@@ -96,9 +97,15 @@ static mut FAULT_STACK: [u8; 16 << 10] = [0; 16 << 10];
 static BEFORE_THE_RUNTIME: extern "C" fn() = before_the_runtime;
 
 extern "C" fn before_the_runtime() {
+    set_limits();
+    set_signals();
+    note_closed();
+}
+
+fn set_limits() {
     let none = Limit { soft: 0, hard: 0 };
     let mut files = Limit { soft: 0, hard: 0 };
-    // SAFETY: the pointers are to structures of the form that the system has; the handler number is one that it defines.
+    // SAFETY: the pointers are to structures of the form that the system has.
     unsafe {
         // A core file would hold patients' records.
         setrlimit(RLIMIT_CORE, &none);
@@ -109,17 +116,26 @@ extern "C" fn before_the_runtime() {
         }
         // Where the address space is limited an arena for each thread can't be had, and every small piece takes a page.
         mallopt(M_ARENA_MAX, 1);
+    }
+}
+
+fn set_signals() {
+    let action = Action { handler: fault as *const () as usize, mask: [0; 16], flags: SA_ONSTACK, restorer: 0 };
+    // SAFETY: the pointers are to structures of the form that the system has, and the stack is used for nothing else.
+    unsafe {
         // A file that grows beyond the limit is then an error of write.
         signal(SIGXFSZ, IGNORED);
-        let stack = Stack { start: (&raw mut FAULT_STACK).cast(), flags: 0, size: 16 << 10 };
+        let stack = Stack { start: (&raw mut FAULT_STACK).cast(), flags: 0, size: FAULT_STACK_BYTES };
         sigaltstack(&stack, ptr::null_mut());
-        // Of some memory the standard library has its own, and aborts where there is none. For two of these signals the runtime
-        // would set up a stack in every thread, and panic where it can't.
-        let action = Action { handler: fault as *const () as usize, mask: [0; 16], flags: SA_ONSTACK, restorer: 0 };
+        // Of some memory the standard library has its own, and aborts where there is none. For two of these signals the
+        // runtime would set up a stack in every thread, and panic where it can't.
         for number in [SIGABRT, SIGBUS, SIGILL, SIGSEGV] {
             sigaction(number, &action, ptr::null_mut());
         }
     }
+}
+
+fn note_closed() {
     for (descriptor, closed) in (0..).zip(&CLOSED) {
         // SAFETY: the path is a string that ends with a zero. A file opened later must not get the number of a standard stream.
         unsafe {
