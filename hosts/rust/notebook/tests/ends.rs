@@ -25,9 +25,24 @@ fn standard_error_may_fail() {
         ("notebook check samples/nothing.csv samples/visit.csv 2>&-", 2, VISIT),
         ("notebook check --json samples/visit.csv extra 2>/dev/full >/dev/null", 2, ""),
         ("notebook frob 2>/dev/full", 2, ""),
-        ("{ notebook frob 3>&1 2>&1 >&3 3>&-; echo $? >&4; } 4>&1 | true", 0, ""),
         ("notebook join samples/nothing.csv 2</dev/null", 2, ""),
     ]);
+    for (call, status) in [("frob", 2), ("check samples/nothing.csv", 2), ("canonical samples/refused.csv", 1)] {
+        let ended = command(call).stderr(nobody_reads()).status().expect("the command runs");
+        assert_eq!(ended.code(), Some(status), "{call}");
+    }
+}
+
+/// The command in the repository's root.
+fn command(words: &str) -> Command {
+    let mut command = Command::new(env!("CARGO_BIN_EXE_notebook"));
+    command.args(words.split(' ')).current_dir(root());
+    command
+}
+
+/// A pipe whose reader has gone.
+fn nobody_reads() -> std::io::PipeWriter {
+    std::io::pipe().expect("a pipe").1
 }
 
 #[test]
@@ -50,10 +65,7 @@ fn standard_output_must_not_fail() {
             assert_eq!(shell(&root(), &format!("{line} 2>/dev/full")), (2, "".into(), "".into()), "{line}");
         }
         // A reader that has gone is no reason for a line.
-        let mut child = Command::new(env!("CARGO_BIN_EXE_notebook"));
-        let (reader, writer) = std::io::pipe().expect("a pipe");
-        drop(reader);
-        let child = child.args(call.split(' ')).current_dir(root()).stdout(writer).stderr(Stdio::piped()).output();
+        let child = command(call).stdout(nobody_reads()).stderr(Stdio::piped()).output();
         assert_eq!(told(child.expect("the command runs")), (2, "".into(), "".into()), "{call}");
     }
     let object = "{\"error\":\"standard output: No space left on device (os error 28)\"}\n";
@@ -122,8 +134,7 @@ fn limits_of_the_system() {
 
 #[test]
 fn no_core() {
-    let mut child = Command::new(env!("CARGO_BIN_EXE_notebook"));
-    let child = child.args(["check", "-"]).stdin(Stdio::piped()).stdout(Stdio::piped()).spawn();
+    let child = command("check -").stdin(Stdio::piped()).stdout(Stdio::piped()).spawn();
     let mut child = child.expect("the command starts");
     let mut input = child.stdin.take().expect("the input is a pipe");
     let limits = || fs::read_to_string(format!("/proc/{}/limits", child.id())).expect("it waits for its input");
