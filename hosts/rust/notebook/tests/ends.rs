@@ -88,6 +88,10 @@ fn a_failed_read_is_no_verdict() {
             assert_eq!(shell(&root(), &line), (2, "".into(), format!("notebook: -: {message}\n")), "{line}");
         }
     }
+    for path in ["/dev/stdin", "/dev/fd/0", "/proc/self/fd/0"] {
+        let error = format!("notebook: {path}: No such device or address (os error 6)\n");
+        assert_eq!(shell(&root(), &format!("notebook check {path} <&-")), (2, "".into(), error));
+    }
     let object = "{\"file\":\"-\",\"error\":\"Bad file descriptor (os error 9)\"}\n";
     assert_eq!(shell(&root(), "notebook check --json - <&-"), (2, object.into(), "".into()));
     assert_eq!(shell(&root(), "notebook join --json - <&-"), (2, "".into(), object.into()));

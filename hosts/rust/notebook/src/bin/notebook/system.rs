@@ -24,7 +24,8 @@ const SIGXFSZ: c_int = 25;
 const IGNORED: usize = 1;
 const SA_ONSTACK: c_int = 0x0800_0000;
 const F_GETFD: c_int = 1;
-const O_RDWR: c_int = 2;
+const AF_UNIX: c_int = 1;
+const SOCK_STREAM: c_int = 1;
 const AT_FDCWD: c_int = -100;
 const RENAME_NOREPLACE: c_uint = 1;
 const TIOCGWINSZ: c_ulong = 0x5413;
@@ -75,7 +76,7 @@ extern "C" {
     fn sigaction(number: c_int, action: *const Action, before: *mut Action) -> c_int;
     fn sigaltstack(stack: *const Stack, before: *mut Stack) -> c_int;
     fn fcntl(descriptor: c_int, command: c_int, ...) -> c_int;
-    fn open(path: *const c_char, flags: c_int, ...) -> c_int;
+    fn socket(domain: c_int, kind: c_int, protocol: c_int) -> c_int;
     fn ioctl(descriptor: c_int, request: c_ulong, ...) -> c_int;
     fn renameat2(old_at: c_int, old: *const c_char, new_at: c_int, new: *const c_char, flags: c_uint) -> c_int;
     fn write(descriptor: c_int, bytes: *const c_void, count: usize) -> isize;
@@ -137,11 +138,13 @@ fn set_signals() {
 
 fn note_closed() {
     for (descriptor, closed) in (0..).zip(&CLOSED) {
-        // SAFETY: the path is a string that ends with a zero. A file opened later must not get the number of a standard stream.
+        // SAFETY: the calls take numbers alone.
         unsafe {
             if fcntl(descriptor, F_GETFD) == -1 {
                 closed.store(true, Ordering::Relaxed);
-                if open(c"/dev/null".as_ptr(), O_RDWR) != descriptor {
+                // A file opened later must not get the number of a standard stream. /dev/stdin leads to what has it: a
+                // socket can't be opened so, but /dev/null would be an empty file.
+                if socket(AF_UNIX, SOCK_STREAM, 0) != descriptor {
                     _exit(FAILED);
                 }
             }
