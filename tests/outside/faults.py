@@ -1,0 +1,203 @@
+"""Every call of every command fails in turn, by hosts/c/failing.c. A run then ends as a clean one, or tells a failure: never a verdict, never a file
+that is not whole. A retry without faults ends as a clean run."""
+
+import errno
+import functools
+import os
+import re
+
+from outside import jobs, tools
+from outside.tools import Wrong, has_status, holds, run, same, same_tree
+
+READS = {"read", "pread", "pread64"}
+WRITES = {"write", "writev", "pwrite", "pwrite64"}
+MEMORY = {"malloc", "calloc", "realloc"}
+STANDARD_ERROR = 2
+
+# How the calls of a name fail; of the others, as `else` says. The number is what the call leaves in errno.
+HOWS = {
+    **{name: (errno.EIO, errno.EINTR, "short") for name in READS},
+    **{name: (errno.ENOSPC, errno.EINTR, "short") for name in WRITES},
+    **{name: (errno.ENOMEM,) for name in MEMORY},
+    "pthread_create": (errno.EAGAIN,),
+    "open": (errno.EACCES, errno.EMFILE),
+    "open64": (errno.EACCES, errno.EMFILE),
+    "renameat2": (errno.EIO, errno.EEXIST, errno.EINVAL, errno.ENOSYS),
+    "flock": (errno.EWOULDBLOCK, errno.EINTR, errno.ENOLCK),
+    "isatty": (errno.ENOTTY,),
+    "else": (errno.EIO,),
+}
+# One test for each of these and each command line.
+SORTS = {"reading": READS, "writing": WRITES, "memory": MEMORY, "other calls": None}
+ALL = "all calls"  # of the programs, which make few
+
+
+def how_named(how):
+    return how if isinstance(how, str) else errno.errorcode[how]
+
+
+# --- what a run that had a fault may be ---
+
+
+def harmless(job, name, descriptor, how):
+    """Whether the run has to end as a clean one. The kit's write takes an interruption for a failure, which the programs tell."""
+    if how == "short" or name in WRITES and descriptor == STANDARD_ERROR:
+        return True
+    return how == errno.EINTR and (name in READS or name in WRITES and job.command) or how in (errno.EINVAL, errno.ENOSYS)
+
+
+def is_clean(job, done, name, descriptor):
+    told = done.err == job.err or name in WRITES and descriptor == STANDARD_ERROR and job.err.startswith(done.err)
+    return told and done.status == job.status and job.out in (None, done.out)
+
+
+def files_left(job, folder):
+    """What is under a final name is whole and, but for canonical --to, all is there or nothing; beside that there are only the inputs."""
+    new = {name: held for name, held in job.made.items() if name not in job.files}
+    there = {name: held for name, held in new.items() if os.path.lexists(os.path.join(folder, name))}
+    holds("only %s of %d files" % (sorted(there), len(new)), job.by_file or len(there) in (0, len(new)))
+    folders = {name: None for name in job.folders() if os.path.isdir(os.path.join(folder, name))}
+    same_tree(folder, {**folders, **job.files, **there})
+
+
+def error_lines(job, done):
+    """The failures told, by the command: lines on standard error, objects in json on either stream."""
+    lines = done.err.decode().splitlines()
+    if not job.json:
+        holds("standard error: %r" % done.err, all(line.startswith("notebook: ") for line in lines))
+        return lines
+    return [one["error"] for one in tools.objects(done.err + done.out) if "error" in one]
+
+
+def answers_kept(job, done, name, descriptor):
+    """Standard output has only lines of the clean run, in their order; or its beginning, where writing has failed."""
+    if job.out is None or job.out.startswith(done.out) and name in WRITES:
+        return
+    one_file = job.command and job.line.split()[1] in ("canonical", "cut", "join") and not job.made
+    if one_file or not job.command:
+        same("standard output", done.out, b"")
+    left = iter(job.out.splitlines(True))
+    for line in done.out.splitlines(True):
+        if job.json and b'"error":' in line:
+            continue
+        holds("standard output has %r" % line, line in left)
+
+
+def command_failed(job, done, name, descriptor):
+    has_status(done, 2)
+    failures = error_lines(job, done)
+    holds("no failure is told", failures)
+    answers_kept(job, done, name, descriptor)
+    for line in done.err.decode().splitlines():
+        told = re.match(r"notebook: (\S+): ", line)
+        holds("an answer and a failure for %s" % (told and told[1]), not told or ("\n%s: " % told[1]).encode() not in b"\n" + done.out)
+
+
+def program_failed(job, done, name, descriptor):
+    has_status(done, 0)
+    word = "read" if name in READS and not job.made else "write" if name in WRITES else "(read|write|exists)"
+    tools.like("standard error", done.err, "error %s( [1-9][0-9]*)?\n" % word)
+    answers_kept(job, done, name, descriptor)
+
+
+def ended_by_libc(done, name):
+    """libc itself gives up where it has no memory for the end of a thread's variables; no program can mend that."""
+    return name in MEMORY and done.err.startswith(b"Fatal glibc error: failed to register TLS destructor")
+
+
+def judge(job, done, folder, name, descriptor, how):
+    if ended_by_libc(done, name):
+        return
+    clean = is_clean(job, done, name, descriptor)
+    if clean:
+        same_tree(folder, job.after())
+    elif harmless(job, name, descriptor, how):
+        raise Wrong("not as a clean run: %s" % tools.shown(done))
+    elif job.command:
+        command_failed(job, done, name, descriptor)
+    else:
+        program_failed(job, done, name, descriptor)
+    files_left(job, folder)
+
+
+# --- runs ---
+
+
+def one_fault(job, name, number, descriptor, how):
+    with tools.fresh_folder() as folder:
+        job.prepare(folder)
+        done = run(job.line, folder, job.given, fault="%s %d %s" % (name, number, how))
+        judge(job, done, folder, name, descriptor, how)
+        if job.made:
+            retry(job, folder)
+
+
+def retry(job, folder):
+    done = run(job.line, folder, job.given)
+    holds("the retry: %s" % tools.shown(done), done.status == job.status and done.err == job.err and job.out in (None, done.out))
+    same_tree(folder, job.after())
+
+
+def sort_of(name):
+    return next((sort for sort, names in SORTS.items() if names and name in names), "other calls")
+
+
+def clean_calls(job, folder):
+    """The calls of a clean run, which is judged too."""
+    job.prepare(folder)
+    log = os.path.join(tools.place["top"], "log")
+    done = run(job.line, folder, job.given, log=log)
+    calls = tools.logged(log)
+    holds("the clean run: %s" % tools.shown(done), is_clean(job, done, "", -1))
+    same_tree(folder, job.after())
+    holds("no calls seen", calls)
+    return calls
+
+
+def every_fault(job, sort, folder):
+    """All faults of one command line and one sort of calls. The first that go wrong are told, with the count of all."""
+    seen, wrong, runs = {}, [], 0
+    for name, descriptor in clean_calls(job, folder):
+        seen[name] = seen.get(name, 0) + 1
+        for how in HOWS.get(name, HOWS["else"]) if sort in (ALL, sort_of(name)) else ():
+            runs += 1
+            try:
+                one_fault(job, name, seen[name], descriptor, how)
+            except Wrong as reason:
+                wrong.append("%s %d %s: %s" % (name, seen[name], how_named(how), reason))
+    holds("no such calls", runs)
+    holds("%d of %d runs, first: %s" % (len(wrong), runs, "; ".join(wrong[:3])), not wrong)
+
+
+# --- a removal that fails too ---
+
+# the first fault, on the way to which files are made; the removal that fails then
+REMOVALS = ["write 3 28", "fsync 2 5"]
+
+
+def removal_fails(job, fault, removal, folder):
+    """What cannot be removed stays, but under no final name; a retry works."""
+    job.prepare(folder)
+    done = run(job.line, folder, job.given, fault="%s;%s 1 5" % (fault, removal))
+    if job.command:
+        has_status(done, 2)
+    else:
+        tools.like("standard error", done.err, "error write( [1-9][0-9]*)?\n")
+    for name, held in job.made.items():
+        path = os.path.join(folder, name)
+        holds("%s is not whole" % name, not os.path.lexists(path) or tools.held(path) == held)
+    has_status(run(job.line, folder, job.given), 0)
+    left = {name for name in tools.tree(folder) if name not in job.after()}
+    same("left by the command after a retry", left if job.command else set(), set())
+
+
+def tests():
+    every = jobs.READING + jobs.WRITING + jobs.AGAIN + jobs.KILLED
+    partial = functools.partial
+    return [("%s, %s" % (job.name, sort), partial(every_fault, job, sort)) for job in every for sort in (SORTS if job.command else [ALL])] + [
+        ("%s, %s and no %s" % (job.name, fault, removal), partial(removal_fails, job, fault, removal))
+        for job in jobs.WRITING
+        for fault in REMOVALS
+        for removal in ("unlink",)
+        if job.line.split()[1] == "cut" or not job.command
+    ]

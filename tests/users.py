@@ -1,0 +1,70 @@
+"""Tests of the command and the programs from the outside: how they end, what they leave, what they tell.
+
+    python3 tests/users.py [--notebook PATH] [--programs FOLDER] [PART..]
+
+By default hosts/rust/target/debug/notebook and target/bin, and every part. A line for each test; the last line is `N passed, M failed`, and the
+exit status 0 where none has failed. The parts are in tests/outside; faults come from hosts/c/failing.c, which is built into target/c.
+"""
+
+import argparse
+import importlib
+import os
+import resource
+import sys
+import time
+
+sys.dont_write_bytecode = True
+
+from outside import tools
+
+PARTS = ("ends", "whole", "faults", "kills", "meaning", "names", "small")
+
+
+def words_given():
+    parser = argparse.ArgumentParser(description="Tests of the command and the programs from the outside.")
+    parser.add_argument("--notebook", default=os.path.join(tools.ROOT, "hosts/rust/target/debug/notebook"))
+    parser.add_argument("--programs", default=os.path.join(tools.ROOT, "target/bin"))
+    parser.add_argument("parts", nargs="*", metavar="PART", help="of " + ", ".join(PARTS))
+    given = parser.parse_args()
+    for part in given.parts:
+        if part not in PARTS:
+            parser.error("no part %s: %s" % (part, ", ".join(PARTS)))
+    return given
+
+
+def run_test(part, name, test):
+    """Whether it has passed, with its line told."""
+    try:
+        with tools.fresh_folder() as folder:
+            test(folder)
+    except tools.Wrong as wrong:
+        print("FAIL %s: %s: %s" % (part, name, wrong), flush=True)
+        return False
+    except tools.Skipped as why:
+        print("skip %s: %s: %s" % (part, name, why), flush=True)
+        return True
+    print("ok   %s: %s" % (part, name), flush=True)
+    return True
+
+
+def seconds():
+    used = [resource.getrusage(who) for who in (resource.RUSAGE_SELF, resource.RUSAGE_CHILDREN)]
+    return sum(one.ru_utime + one.ru_stime for one in used)
+
+
+def main():
+    given = words_given()
+    passed = failed = 0
+    with tools.prepared(given.notebook, given.programs):
+        for part in given.parts or PARTS:
+            before, start = seconds(), time.monotonic()
+            for name, test in importlib.import_module("outside." + part).tests():
+                good = run_test(part, name, test)
+                passed, failed = passed + good, failed + (not good)
+            print("     %s: %.1f s of processor time, %.1f s in all" % (part, seconds() - before, time.monotonic() - start))
+    print("%d passed, %d failed" % (passed, failed))
+    return 1 if failed else 0
+
+
+if __name__ == "__main__":
+    sys.exit(main())
