@@ -148,7 +148,7 @@ def answers(result, status, out, err):
 def objects(text):
     """A JSON object on each line."""
     try:
-        found = [json.loads(line) for line in text.decode().splitlines()]
+        found = [json.loads(line) for line in text.splitlines()]
     except ValueError:
         raise Wrong("not a JSON object on each line: %s" % shown(text))
     holds("not a JSON object on each line: %s" % shown(text), all(isinstance(one, dict) for one in found))

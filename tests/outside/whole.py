@@ -2,6 +2,7 @@
 
 import functools
 import os
+import re
 import signal
 import subprocess
 
@@ -95,6 +96,66 @@ def obstacle(job, put, folder):
         answers(done, 0, "", "error exists %d\n" % len(job.made))
     others = {} if not job.by_file else dict(list(job.made.items())[:-1])
     same_tree(folder, {**before, **others})
+
+
+# --- what lies under a temporary name ---
+
+OUTPUT = jobs.WRITING[2]
+PART = re.compile(r"\.notebook-[0-9a-f]{16}\.part")
+
+
+def longer_part(path):
+    with open(path, "wb") as file:
+        file.write(b"x" * 10000)
+
+
+def readable_part(path):
+    longer_part(path)
+    os.chmod(path, 0o666)
+
+
+def linked_part(path):
+    os.symlink("victim", path)
+
+
+def dangling_part(path):
+    os.symlink("nowhere", path)
+
+
+def second_name_as_part(path):
+    os.link(os.path.join(os.path.dirname(path), "victim"), path)
+
+
+PLANTED = {longer_part: True, readable_part: True, linked_part: False, dangling_part: False, second_name_as_part: False, os.mkdir: False,
+           os.mkfifo: False}
+
+
+def planted(put, works, folder):
+    """Something else is put where a killed run has left its part. Nothing but a part is written to; the result has its bytes and its mode."""
+    OUTPUT.prepare(folder)
+    tools.write(folder, {"victim": b"kept"})
+    has_status(run(OUTPUT.line, folder, fault="renameat2 1 before"), -9)
+    part = next((name for name in os.listdir(folder) if PART.fullmatch(name)), None)
+    holds("no part is left", part)
+    os.remove(os.path.join(folder, part))
+    put(os.path.join(folder, part))
+    done = run(OUTPUT.line, folder)
+    has_status(done, *((0,) if works else (0, 2)))
+    found = tools.tree(folder)
+    same("the victim", found["victim"], b"kept")
+    same("whether there is something else", found.keys() - {"a.csv", "victim", "c.csv", part}, set())
+    same("whether the file is there", "c.csv" in found, done.status == 0)
+    if done.status == 0:
+        same("the file", (found["c.csv"], oct(tools.mode(folder, "c.csv"))), (OUTPUT.made["c.csv"], oct(0o600)))
+
+
+def onto_itself(folder):
+    """An input that is named as the output stays as it is."""
+    tools.write(folder, {"a.csv": SMALL, "c.csv": SMALL_CANONICAL})
+    has_status(run("notebook canonical --output a.csv a.csv", folder), 2)
+    has_status(run("notebook canonical --output c.csv c.csv", folder), 0)
+    has_status(run("notebook join --output a.csv a.csv", folder), 0)
+    same_tree(folder, {"a.csv": SMALL, "c.csv": SMALL_CANONICAL})
 
 
 # --- a full disk ---
@@ -231,5 +292,6 @@ def tests():
         + [("one name for two inputs, %d threads" % n, partial(one_name, n)) for n in (1, 2, 8)]
         + [("two runs at once, " + name, partial(race, lines)) for name, lines in pairs.items()]
         + [("a run while another one stops, " + name, partial(interleaved, lines)) for name, lines in pairs.items()]
-        + [("a folder that is not there", no_folder)]
+        + [("under a temporary name: " + put.__name__.replace("_", " "), partial(planted, put, works)) for put, works in PLANTED.items()]
+        + [("a folder that is not there", no_folder), ("an input as output", onto_itself)]
     )
