@@ -17,6 +17,7 @@ sys.dont_write_bytecode = True
 
 from outside import tools
 
+PROGRAMS = ("notecheck", "noteindex", "notecanon", "notecut", "notejoin")
 PARTS = ("ends", "whole", "faults", "kills", "meaning", "names", "small")
 
 
@@ -29,6 +30,9 @@ def words_given():
     for part in given.parts:
         if part not in PARTS:
             parser.error("no part %s: %s" % (part, ", ".join(PARTS)))
+    for path in [given.notebook] + [os.path.join(given.programs, name) for name in PROGRAMS]:
+        if not os.access(path, os.X_OK):
+            parser.error("no program %s: build it first" % path)
     return given
 
 

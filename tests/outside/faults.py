@@ -25,6 +25,7 @@ HOWS = {
     "renameat2": (errno.EIO, errno.EEXIST, errno.EINVAL, errno.ENOSYS),
     "flock": (errno.EWOULDBLOCK, errno.EINTR, errno.ENOLCK),
     "isatty": (errno.ENOTTY,),
+    "fcntl": (),  # asks whether a descriptor is open, and cannot fail where it is
     "else": (errno.EIO,),
 }
 # One test for each of these and each command line.
@@ -47,29 +48,45 @@ def harmless(job, name, descriptor, how):
 
 
 def is_clean(job, done, name, descriptor):
-    told = done.err == job.err or name in WRITES and descriptor == STANDARD_ERROR and job.err.startswith(done.err)
+    """Where standard error cannot be written, a part of it may be missing, and a program may tell just that."""
+    told = done.err == job.err
+    if name in WRITES and descriptor == STANDARD_ERROR:
+        told = job.err.startswith(done.err) or not job.command and done.err == b"error write\n"
     return told and done.status == job.status and job.out in (None, done.out)
 
 
-def files_left(job, folder):
-    """What is under a final name is whole and, but for canonical --to, all is there or nothing; beside that there are only the inputs."""
+def files_left(job, folder, before):
+    """What is under a final name is whole and, but for canonical --to, all is there or nothing; beside that there are only the inputs, and
+    what a killed run had left before."""
     new = {name: held for name, held in job.made.items() if name not in job.files}
     there = {name: held for name, held in new.items() if os.path.lexists(os.path.join(folder, name))}
     holds("only %s of %d files" % (sorted(there), len(new)), job.by_file or len(there) in (0, len(new)))
     folders = {name: None for name in job.folders() if os.path.isdir(os.path.join(folder, name))}
-    same_tree(folder, {**folders, **job.files, **there})
+    parts = {name: held for name, held in tools.tree(folder).items() if name in before and tools.PART.fullmatch(name)}
+    same_tree(folder, {**folders, **job.files, **there, **parts})
+
+
+def left_by_kill(job, folder):
+    """What is there: inputs, whole files under final names, and temporary files that only their owner may read."""
+    temporary = tools.PART if job.command else tools.DOTTED
+    for name, held in tools.tree(folder).items():
+        if temporary.fullmatch(name):
+            same("mode of " + name, oct(tools.mode(folder, name)), oct(0o600))
+            continue
+        holds("%s is left" % name, name in job.after())
+        same("bytes of " + name, held, job.after()[name])
 
 
 def error_lines(job, done):
     """The failures told, by the command: lines on standard error, objects in json on either stream."""
-    lines = done.err.decode().splitlines()
-    if not job.json:
-        holds("standard error: %r" % done.err, all(line.startswith("notebook: ") for line in lines))
-        return lines
-    return [one["error"] for one in tools.objects(done.err + done.out) if "error" in one]
+    if job.json:
+        return [one["error"] for one in tools.objects(done.err + done.out) if "error" in one]
+    lines = done.err.splitlines()
+    holds("standard error: %r" % done.err, all(line.startswith(b"notebook: ") for line in lines))
+    return lines
 
 
-def answers_kept(job, done, name, descriptor):
+def answers_kept(job, done, name):
     """Standard output has only lines of the clean run, in their order; or its beginning, where writing has failed."""
     if job.out is None or job.out.startswith(done.out) and name in WRITES:
         return
@@ -83,41 +100,35 @@ def answers_kept(job, done, name, descriptor):
         holds("standard output has %r" % line, line in left)
 
 
-def command_failed(job, done, name, descriptor):
+def command_failed(job, done, name):
     has_status(done, 2)
-    failures = error_lines(job, done)
-    holds("no failure is told", failures)
-    answers_kept(job, done, name, descriptor)
-    for line in done.err.decode().splitlines():
-        told = re.match(r"notebook: (\S+): ", line)
-        holds("an answer and a failure for %s" % (told and told[1]), not told or ("\n%s: " % told[1]).encode() not in b"\n" + done.out)
+    if name not in MEMORY:  # without memory it is libc or the runtime that tells it, and in words of its own
+        holds("no failure is told", error_lines(job, done))
+    answers_kept(job, done, name)
+    for line in done.err.splitlines(True):
+        told = re.match(rb"notebook: (\S+): ", line)
+        holds("an answer and a failure: %r" % line, not told or b"\n%s: " % told[1] not in b"\n" + done.out)
+        holds("a verdict: %r" % line, not re.search(rb": (no|ok) [0-9]", line) or line in job.err.splitlines(True))
 
 
-def program_failed(job, done, name, descriptor):
+def program_failed(job, done, name):
     has_status(done, 0)
     word = "read" if name in READS and not job.made else "write" if name in WRITES else "(read|write|exists)"
     tools.like("standard error", done.err, "error %s( [1-9][0-9]*)?\n" % word)
-    answers_kept(job, done, name, descriptor)
+    answers_kept(job, done, name)
 
 
-def ended_by_libc(done, name):
-    """libc itself gives up where it has no memory for the end of a thread's variables; no program can mend that."""
-    return name in MEMORY and done.err.startswith(b"Fatal glibc error: failed to register TLS destructor")
-
-
-def judge(job, done, folder, name, descriptor, how):
-    if ended_by_libc(done, name):
-        return
-    clean = is_clean(job, done, name, descriptor)
-    if clean:
+def judge(job, done, folder, before, name, descriptor, how):
+    if is_clean(job, done, name, descriptor):
         same_tree(folder, job.after())
-    elif harmless(job, name, descriptor, how):
+        return
+    if harmless(job, name, descriptor, how):
         raise Wrong("not as a clean run: %s" % tools.shown(done))
-    elif job.command:
-        command_failed(job, done, name, descriptor)
+    (command_failed if job.command else program_failed)(job, done, name)
+    if name in MEMORY:  # without memory nothing can be removed: it is as after a kill
+        left_by_kill(job, folder)
     else:
-        program_failed(job, done, name, descriptor)
-    files_left(job, folder)
+        files_left(job, folder, before)
 
 
 # --- runs ---
@@ -126,8 +137,9 @@ def judge(job, done, folder, name, descriptor, how):
 def one_fault(job, name, number, descriptor, how):
     with tools.fresh_folder() as folder:
         job.prepare(folder)
+        before = tools.tree(folder)
         done = run(job.line, folder, job.given, fault="%s %d %s" % (name, number, how))
-        judge(job, done, folder, name, descriptor, how)
+        judge(job, done, folder, before, name, descriptor, how)
         if job.made:
             retry(job, folder)
 

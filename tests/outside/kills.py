@@ -2,24 +2,9 @@
 
 import functools
 import os
-import re
 
 from outside import faults, jobs, tools
-from outside.tools import Wrong, holds, run, same
-
-PART = re.compile(r"(.*/)?\.notebook-[0-9a-f]{16}\.part")  # the command's temporary files
-DOTTED = re.compile(r"p\.[1-9][0-9]*\.\w{6}")  # notecut's
-
-
-def left_by_kill(job, folder):
-    """What is there: inputs, whole files under final names, and temporary files that only their owner may read."""
-    temporary = PART if job.command else DOTTED
-    for name, held in tools.tree(folder).items():
-        if temporary.fullmatch(name):
-            same("mode of " + name, oct(tools.mode(folder, name)), oct(0o600))
-            continue
-        holds("%s is left" % name, name in job.after())
-        same("bytes of " + name, held, job.after()[name])
+from outside.tools import DOTTED, Wrong, holds, run, same
 
 
 def right_after_retry(job, folder):
@@ -38,7 +23,7 @@ def one_kill(job, fault):
         job.prepare(folder)
         done = run(job.line, folder, job.given, limits="umask 0;", fault=fault)
         same("status", done.status, -9)
-        left_by_kill(job, folder)
+        faults.left_by_kill(job, folder)
         right_after_retry(job, folder)
 
 
@@ -66,7 +51,7 @@ def two_kills(job, both, folder):
     job.prepare(folder)
     for fault in both:
         same("status", run(job.line, folder, job.given, fault=fault).status, -9)
-        left_by_kill(job, folder)
+        faults.left_by_kill(job, folder)
     right_after_retry(job, folder)
 
 

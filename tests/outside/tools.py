@@ -88,6 +88,11 @@ def held(path):
         return file.read()
 
 
+# Temporary files of the command, and of notecut with the prefix p.
+PART = re.compile(r"(.*/)?\.notebook-[0-9a-f]{16}\.part")
+DOTTED = re.compile(r"p\.[1-9][0-9]*\.\w{6}")
+
+
 def tree(folder):
     """What is in a folder and below it, as `write` takes it."""
     found = {}
@@ -224,15 +229,19 @@ def build_shim():
     subprocess.run([os.environ.get("CC", "cc"), *warnings, "-fPIC", "-shared", source, "-ldl", "-o", SHIM], check=True)
 
 
+MEMORY_DISK = "/dev/shm"  # where syncing takes no time
+
+
 @contextlib.contextmanager
 def prepared(notebook, programs):
     """The command is copied, so that another user may run it."""
     build_shim()
-    with tempfile.TemporaryDirectory() as top:
+    room = MEMORY_DISK if os.access(MEMORY_DISK, os.W_OK) else None
+    with tempfile.TemporaryDirectory(dir=room) as top, tempfile.TemporaryDirectory() as command:
         os.chmod(top, 0o755)
-        place.update(top=top, command=os.path.join(top, "bin"), programs=os.path.abspath(programs))
-        os.mkdir(place["command"])
-        shutil.copy(notebook, os.path.join(place["command"], "notebook"))
+        os.chmod(command, 0o755)
+        place.update(top=top, command=command, programs=os.path.abspath(programs))
+        shutil.copy(notebook, os.path.join(command, "notebook"))
         yield
 
 

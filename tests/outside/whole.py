@@ -2,7 +2,6 @@
 
 import functools
 import os
-import re
 import signal
 import subprocess
 
@@ -101,7 +100,6 @@ def obstacle(job, put, folder):
 # --- what lies under a temporary name ---
 
 OUTPUT = jobs.WRITING[2]
-PART = re.compile(r"\.notebook-[0-9a-f]{16}\.part")
 
 
 def longer_part(path):
@@ -135,7 +133,7 @@ def planted(put, works, folder):
     OUTPUT.prepare(folder)
     tools.write(folder, {"victim": b"kept"})
     has_status(run(OUTPUT.line, folder, fault="renameat2 1 before"), -9)
-    part = next((name for name in os.listdir(folder) if PART.fullmatch(name)), None)
+    part = next((name for name in os.listdir(folder) if tools.PART.fullmatch(name)), None)
     holds("no part is left", part)
     os.remove(os.path.join(folder, part))
     put(os.path.join(folder, part))
