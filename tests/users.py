@@ -37,18 +37,17 @@ def words_given():
 
 
 def run_test(part, name, test):
-    """Whether it has passed, with its line told."""
+    """`ok`, `FAIL` or `skip`, with the test's line told."""
+    outcome, why = "ok", ""
     try:
         with tools.fresh_folder() as folder:
             test(folder)
     except tools.Wrong as wrong:
-        print("FAIL %s: %s: %s" % (part, name, wrong), flush=True)
-        return False
-    except tools.Skipped as why:
-        print("skip %s: %s: %s" % (part, name, why), flush=True)
-        return True
-    print("ok   %s: %s" % (part, name), flush=True)
-    return True
+        outcome, why = "FAIL", ": %s" % wrong
+    except tools.Skipped as skipped:
+        outcome, why = "skip", ": %s" % skipped
+    print("%-4s %s: %s%s" % (outcome, part, name, why.replace("\n", " ")), flush=True)
+    return outcome
 
 
 def seconds():
@@ -58,16 +57,17 @@ def seconds():
 
 def main():
     given = words_given()
-    passed = failed = 0
+    outcomes = []
     with tools.prepared(given.notebook, given.programs):
         for part in given.parts or PARTS:
             before, start = seconds(), time.monotonic()
             for name, test in importlib.import_module("outside." + part).tests():
-                good = run_test(part, name, test)
-                passed, failed = passed + good, failed + (not good)
+                outcomes.append(run_test(part, name, test))
             print("     %s: %.1f s of processor time, %.1f s in all" % (part, seconds() - before, time.monotonic() - start))
-    print("%d passed, %d failed" % (passed, failed))
-    return 1 if failed else 0
+    if "skip" in outcomes:
+        print("%d skipped" % outcomes.count("skip"))
+    print("%d passed, %d failed" % (outcomes.count("ok"), outcomes.count("FAIL")))
+    return 1 if "FAIL" in outcomes else 0
 
 
 if __name__ == "__main__":
