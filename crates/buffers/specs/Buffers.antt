@@ -11,7 +11,7 @@ use lib.Seq.{sets}
 abbrev pub Room : List ℕ → ℕ → List ℕ → Type 0
 Room d at w = at + length w ≤ length d
 
--- the buffer d became d′: w stands from index at on, all else is as it was, and r is the index behind w
+-- the buffer d became d′: w stands from index at on, all else is as it was, and r is the index after w
 pub record Wrote (d d′ : List ℕ) (at r : ℕ) (w : List ℕ) : Type 0 where
   pub next : r ≡ at + length w
   pub list : d′ ≡ sets d at w

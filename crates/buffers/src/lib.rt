@@ -1,5 +1,5 @@
 // Writing into a buffer that the caller lends. Every writer has the contract `Wrote` (specs/Buffers.antt): the list that stands from
-// an index on, all else as it was, and the index behind it handed back. proofs/Runs.antt joins one writing to the next (`then`), takes
+// an index on, all else as it was, and the index after it handed back. proofs/Runs.antt joins one writing to the next (`then`), takes
 // a loop's turn (`carry`), and reads a written front back (`front`).
 ghost use mathlib.Core.List.{[], _∷_};
 ghost use Prim.Native.Nat.{_<_};

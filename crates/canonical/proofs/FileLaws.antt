@@ -1,4 +1,4 @@
--- The pass that checks and writes: what is left of the file from a row on, poured behind what is written, gives the whole. One law for
+-- The pass that checks and writes: what is left of the file from a row on, poured after what is written, gives the whole. One law for
 -- each way through the code. Assumes nothing.
 use Prim.Native.Nat.{ℕ, _+_, _-_, _≤_}
 use native.Mathlib.Omega.{arith}
@@ -92,7 +92,7 @@ line-sound st l {m} {after} {rp} {doctor} o u =
     let p : Placed st l after rp doctor = placed st l after rp doctor (sym o ∙ u) in
     record { provider = st .provider; good = p .sound; number = place-number p }
 
--- the line end behind a line
+-- the line end after a line
 line-ended : {s : List ℕ} {at e : ℕ} {good : Bool} → WholeLine s at e good → Ended s at e
 line-ended {s} {at} {e} w =
     let a : drop at s ≡ (part s at e ++ lineEnd) ++ flat (rows (drop (e + 2) s)) = sym (flat-rows (drop at s)) ∙ ap flat (w .cut) in

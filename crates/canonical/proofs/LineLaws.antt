@@ -1,4 +1,4 @@
--- A line in its one spelling: its items one after another, its number before them, its end behind them. Assumes nothing.
+-- A line in its one spelling: its items one after another, its number before them, its end after them. Assumes nothing.
 use Prim.Native.Nat.{ℕ, zero, suc, _+_, _-_, _*_, _/_, _%_, _≤_, _<_}
 use native.Mathlib.Omega.{arith}
 use mathlib.Core.Path.{_≡_, refl, sym, ap, _∙_, subst}

@@ -35,7 +35,7 @@ waits s d run p e w m h q r =
       size = refl;
     }
 
--- a run is copied, and w is written behind it, for the bytes up to e
+-- a run is copied, and w is written after it, for the bytes up to e
 pub copied : (s : List ℕ) {d d₁ d₂ : List ℕ} (run : Run) (p e : ℕ) {a b : ℕ} {w : List ℕ} → run .from ≤ p → p ≤ length s
     → Wrote d d₁ (run .at) a (part s (run .from) p) → Wrote d₁ d₂ a b w → Passed s d d₂ run (record { from = e; at = b }) p e w
 copied s {d} {d₁} {d₂} run p e {a} {b} {w} l h x y =

@@ -29,7 +29,7 @@ use Rattle.canonical.specs.Writing.{Output, poured, Poured, MadeMeans, M
 
 -- ---- the array
 
--- line 1, and the records poured behind it
+-- line 1, and the records poured after it
 made : (s d d₁ d₂ : List ℕ) (from : ℕ) (provider : Bool) (x : Res (List Record)) (c : Answer) → Wrote d d₁ 0 from (headRow provider)
     → readFile s ≡ notebookOf provider x → Poured (length d) (poured d₁ from x) d₂ c → MadeOf (length d) (canonicalFile s) d₂ c
 unfolding poured writeFile canonicalBytes canonicalFile

@@ -60,19 +60,19 @@ pub record OwnUnless (r : Bool) (c : ℕ) (s : List ℕ) : Type 0 where
 
 -- ---- runs
 
--- the output as it will be when the bytes of the file s that wait before p are copied behind what is written, and where they will end
+-- the output as it will be when the bytes of the file s that wait before p are copied after what is written, and where they will end
 abbrev pub ahead : List ℕ → List ℕ → Run → ℕ → List ℕ
 ahead s d run p = sets d (run .at) (part s (run .from) p)
 
 abbrev pub reach : Run → ℕ → ℕ
 reach run p = run .at + (p - run .from)
 
--- there is room for what waits before p, and for w behind it
+-- there is room for what waits before p, and for w after it
 pub record Ready (d : List ℕ) (run : Run) (p : ℕ) (w : List ℕ) : Type 0 where
   pub low : run .from ≤ p
   pub room : reach run p + length w ≤ length d
 
--- what was written or waited before p became what is written or waits before e: w stands behind it
+-- what was written or waited before p became what is written or waits before e: w stands after it
 pub record Passed (s d d′ : List ℕ) (run r : Run) (p e : ℕ) (w : List ℕ) : Type 0 where
   pub wrote : Wrote (ahead s d run p) (ahead s d′ r e) (reach run p) (reach r e) w
   pub low : r .from ≤ e
@@ -83,7 +83,7 @@ pub record Lies (s : List ℕ) (a e : ℕ) : Type 0 where
   pub low : a ≤ e
   pub high : e ≤ length s
 
--- ---- the items of a line behind its number, each with its comma
+-- ---- the items of a line after its number, each with its comma
 
 -- each in its one spelling
 unfoldable pub tailOf : List Item → List (List ℕ) → List ℕ
@@ -129,7 +129,7 @@ ends s at e j = at + commaAt (part s at e) j
 abbrev pub itemAt : List ℕ → ℕ → ℕ → ℕ → List ℕ
 itemAt s at e j = getD (itemsOf (part s at e)) j []
 
--- its items behind the number, each in its one spelling
+-- its items after the number, each in its one spelling
 abbrev pub tailAt : ℕ → List ℕ → ℕ → ℕ → List ℕ
 tailAt place s at e = tailOf (sliceOf place) (drop 1 (itemsOf (part s at e)))
 
@@ -144,7 +144,7 @@ pub record Ended (s : List ℕ) (at e : ℕ) : Type 0 where
   pub high : e + 2 ≤ length s
   pub end : part s e (e + 2) ≡ lineEnd
 
--- ---- the file: what stands in the buffer behind the records that are left, and where it ends
+-- ---- the file: what stands in the buffer after the records that are left, and where it ends
 
 pub record Output : Type 0 where
   pub buffer : List ℕ

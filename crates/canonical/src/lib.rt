@@ -100,7 +100,7 @@ pub struct Run {
     pub at: usize,
 }
 
-// An item from a to e: its spelling behind the run before it; or nothing, where its bytes are its spelling.
+// An item from a to e: its spelling after the run before it; or nothing, where its bytes are its spelling.
 fn respell(c: usize, s: &[u8], a: usize, e: usize, out: &mut [u8], run: Run) -> Run
     requires { ⌜ Lies (now s) a e ⌝ }
     requires { ⌜ Spellable c (part (now s) a e) ⌝ }
@@ -134,7 +134,7 @@ fn stays(c: usize, s: &[u8], a: usize) -> bool
     false
 }
 
-// Item number j of the line from at to end, behind the items before it; c: the item of the table, as one number.
+// Item number j of the line from at to end, after the items before it; c: the item of the table, as one number.
 fn pass_item(
     c: usize,
     stops: &[usize; 16],
@@ -191,7 +191,7 @@ fn spots(number: u32) -> usize
     }
 }
 
-// The items of a line behind its number; number: its record's.
+// The items of a line after its number; number: its record's.
 fn put_items(
     number: u32,
     stops: &[usize; 16],
@@ -269,7 +269,7 @@ fn finish(st: order::State, s: &[u8], at: usize, out: &mut [u8], run: Run) -> An
     close(st, end)
 }
 
-// Line 1, which is kept, and the records from behind it on.
+// Line 1, which is kept, and the records from after it on.
 fn write_records(
     codes: &[usize; 83],
     stops: &mut [usize; 16],

@@ -277,7 +277,7 @@ fn copy_label(label: &mut [u8]) {
     write_byte(b' ');
 }
 
-// The part of a frame behind its label.
+// The part of a frame after its label.
 fn answer_rest(call: u8, id: &mut [u8], input: &mut [u8]) {
     let start = 0;
     let room = read_four();

@@ -1,5 +1,5 @@
 -- Definitions, to be believed.
--- A file cut into rows behind each 0Ah, and the rows that are lines. Document 01, "Lines and characters"; refusal 2; 15-106 3.2.1, 3.2.4.
+-- A file cut into rows after each 0Ah, and the rows that are lines. Document 01, "Lines and characters"; refusal 2; 15-106 3.2.1, 3.2.4.
 -- Every list of bytes is the bytes of its rows; a row that breaks the rule of line ends is a row that is no line.
 use Prim.Native.Nat.{ℕ}
 use mathlib.Core.Bool.{Bool, cond}
@@ -13,7 +13,7 @@ abbrev pub consRow : ℕ → List (List ℕ) → List (List ℕ)
 consRow a [] = (a ∷ []) ∷ []
 consRow a (r ∷ rs) = (a ∷ r) ∷ rs
 
--- cut behind each 0Ah; the last row may lack it
+-- cut after each 0Ah; the last row may lack it
 abbrev pub rows : List ℕ → List (List ℕ)
 rows [] = []
 rows (a ∷ s) = cond (eqb a 0x0a) ((a ∷ []) ∷ rows s) (consRow a (rows s))

@@ -43,7 +43,7 @@ abbrev pub BrokenRow : List (List ℕ) → Type 0
 BrokenRow [] = ⊥
 BrokenRow (r ∷ rs) = (isLine r ≡ false) × (same r endMark ≡ false)
 
--- a line from at to e, and the rows behind its end
+-- a line from at to e, and the rows after its end
 pub record WholeLine (s : List ℕ) (at e : ℕ) (good : Bool) : Type 0 where
   pub low : at ≤ e
   pub high : e + 2 ≤ length s

@@ -14,13 +14,13 @@ use Rattle.notebook.specs.Canonical.{headRow}
 use Rattle.checking.specs.declared.Opening.{Opening}
 use Rattle.checking.specs.declared.Opening.the-variants.{Records, Refused}
 
--- a position behind line 1 of a file within the limit
+-- a position after line 1 of a file within the limit
 pub record Behind (s : List ℕ) (from : ℕ) : Type 0 where
   pub low : 1 ≤ from
   pub high : from ≤ length s
   pub small : length s ≤ 65536
 
--- line 1 of a direction, and what is read behind it
+-- line 1 of a direction, and what is read after it
 pub record OpensAt (s : List ℕ) (provider : Bool) (from : ℕ) : Type 0 where
   pub behind : Behind s from
   pub first : part s 0 from ≡ headRow provider

@@ -91,7 +91,7 @@ pub fn read_record(
     }
 }
 
-// The records of a file from behind line 1 on.
+// The records of a file from after line 1 on.
 fn check_records(
     codes: &[usize; 83],
     stops: &mut [usize; 16],

@@ -112,7 +112,7 @@ never w n h = go (serves w n) refl
 
 -- ---- the widths
 
--- n is the count, where n + 1 is behind the last piece
+-- n is the count, where n + 1 is after the last piece
 module _ (w n : ℕ) (next : Plan (List ℕ)) where
   plan-none : (m : Option (List (List (List ℕ)))) → pastLast 1 m ≡ none → orNext w next m ≡ next
   plan-none none e = refl

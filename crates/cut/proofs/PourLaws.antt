@@ -1,4 +1,4 @@
--- The writing of the pieces: the record 911, one piece, and the loop over the pieces. What is left from a piece on, written behind what is
+-- The writing of the pieces: the record 911, one piece, and the loop over the pieces. What is left from a piece on, written after what is
 -- written, gives all pieces. Assumes nothing.
 use Prim.Native.Nat.{ℕ, _+_, _-_, _≤_, _<_}
 use native.Mathlib.Omega.{arith}

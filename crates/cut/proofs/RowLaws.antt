@@ -32,7 +32,7 @@ flat-total (r ∷ rs) = omega (arith, length-append r (flat rs), flat-total rs)
 pub rows-total : (s : List ℕ) → total length (rows s) ≡ length s
 rows-total s = sym (flat-total (rows s)) ∙ ap length (flat-rows s)
 
--- ---- rows cut behind a 0Ah
+-- ---- rows cut after a 0Ah
 
 cons-append : (a b : ℕ) (t : List ℕ) (ys : List (List ℕ)) → consRow a (rows (b ∷ t) ++ ys) ≡ consRow a (rows (b ∷ t)) ++ ys
 cons-append a b t ys = rw (first-row b t .cut)
@@ -49,7 +49,7 @@ rows-cut (suc n) (a ∷ b ∷ t) h e = go (eqb a 0x0a) (rows-cut n (b ∷ t) (om
     go true i = ap (λ (rs : List (List ℕ)). (a ∷ []) ∷ rs) i
     go false i = ap (consRow a) i ∙ cons-append a b (take n t) (rows (drop n t))
 
--- bytes without a 0Ah lie within the first row, and so does a byte behind them
+-- bytes without a 0Ah lie within the first row, and so does a byte after them
 row-long : (n : ℕ) (l : List ℕ) → n ≤ length (upTo (is 0x0a) l) → n < length l → n < firstLength (rows l)
 row-long n [] h g = absurd (omega arith)
 row-long n (a ∷ t) h g = go n (eqb a 0x0a) h g (λ m. row-long m t)

@@ -43,7 +43,7 @@ pub record RunAt (s : List ℕ) (i u c e : ℕ) : Type 0 where
 unfoldable pub runsAt : List ℕ → ℕ → ℕ → ℕ → ℕ → Option (List (List (List ℕ)))
 runsAt s c w k i = pack length (over w) c k (over w k) (rows (drop i s))
 
--- the number behind the last piece's, where the first is k
+-- the number after the last piece's, where the first is k
 abbrev pub pastLast : ℕ → Option (List (List (List ℕ))) → Option ℕ
 pastLast k none = none
 pastLast k (some xs) = some (k + length xs)

@@ -1,5 +1,5 @@
 // Cutting: the canonical file of a notebook into pieces for a capacity. Definitions: division, specs/Cut.antt; specs/Loops.antt has the forms that
-// the loops follow. The records of a piece are one run of the file's bytes, and the longest run that fits ends behind the last 0Ah within
+// the loops follow. The records of a piece are one run of the file's bytes, and the longest run that fits ends after the last 0Ah within
 // the capacity: `run_end` looks for it from the back, so that a piece costs a row's bytes and not its own. The width of the count is found
 // first, with the count and the total length, so that nothing is written where the answer is a refusal; then the pieces are written.
 // A change of the record 911 moves together: `over` (packing), `markRow` (division), `overhead` and `put_mark`.
@@ -53,7 +53,7 @@ fn serves_width(w: usize, n: u32) -> bool
     (digits_of(n) == w) & (2 <= n)
 }
 
-// Where the longest run of rows from i on ends that fits a capacity beside u bytes: the end if all fit, else behind the last 0Ah that
+// Where the longest run of rows from i on ends that fits a capacity beside u bytes: the end if all fit, else after the last 0Ah that
 // does; i where no row fits.
 fn run_end(s: &[u8], i: usize, u: usize, c: usize) -> usize
     requires { ⌜ i ≤ length (now s) ⌝ }

@@ -13,7 +13,7 @@ use Rattle.lists.proofs.Cuts.{drop-step, drop-end}
 use Rattle.digits.specs.Digits.{isDigit, value, number}
 use Rattle.digits.specs.Short.{orThousand, shortValue, plainNumber}
 
--- digits behind a value, in one walk; 1000 where a byte is no digit
+-- digits after a value, in one walk; 1000 where a byte is no digit
 unfoldable pub numFrom : ℕ → List ℕ → ℕ
 numFrom n [] = n
 numFrom n (b ∷ s) = cond (isDigit b) (numFrom (10 * n + (b - 48)) s) 1000

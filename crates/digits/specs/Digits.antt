@@ -11,7 +11,7 @@ use Rattle.lists.specs.Lists.{within, all}
 abbrev pub isDigit : ℕ → Bool
 isDigit b = within 0x30 0x39 b
 
--- the value of digits behind a value
+-- the value of digits after a value
 unfoldable pub value : ℕ → List ℕ → ℕ
 value a [] = a
 value a (b ∷ s) = value (10 * a + (b - 48)) s

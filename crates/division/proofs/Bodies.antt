@@ -1,4 +1,4 @@
--- A row that is read to a record stands behind line 1, and is no record 911. Assumes nothing.
+-- A row that is read to a record stands after line 1, and is no record 911. Assumes nothing.
 use mathlib.Core.Path.{_≡_, refl, sym, ap, _∙_}
 use mathlib.Core.Bool.{Bool, true, false}
 use mathlib.Core.List.{List}

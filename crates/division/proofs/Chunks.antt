@@ -36,7 +36,7 @@ chunkBytes x = headRow (x .provider) ++ (flat (x .rows) ++ mark (x .ended))
 abbrev pub pieceOf : Chunk → Piece
 pieceOf x = record { provider = x .provider; rows = x .rows }
 
--- a row behind line 1: a line, and no line 1
+-- a row after line 1: a line, and no line 1
 abbrev pub Body : List ℕ → Type 0
 Body r = kindOf r ≡ body
 
@@ -110,7 +110,7 @@ rows-front : (e : Bool) (d : Bool) (s : List ℕ) → rows ((mark e ++ headRow d
 rows-front false d s = row-cut (headRow d) s (head-line d)
 rows-front true d s = ap (consRow 0x1a) (row-cut (headRow d) s (head-line d))
 
--- the bytes of chunks behind a 1Ah or none, line 1 first
+-- the bytes of chunks after a 1Ah or none, line 1 first
 bytes-cons : (e : Bool) (x : Chunk) (xs : List Chunk)
     → mark e ++ flat (map chunkBytes (x ∷ xs)) ≡ (mark e ++ headRow (x .provider)) ++ (flat (x .rows) ++ (mark (x .ended) ++ flat (map chunkBytes xs)))
 unfolding chunkBytes
@@ -225,7 +225,7 @@ rows-are-cut (a ∷ s) = go (eqb a 0x0a) refl (rows-are-cut s)
     go true p i = ((omega arith, λ e. let z : a ≡ 0x1a = head-eq-of-cons-eq e in absurd (omega (arith, eqb-true a 0x0a p))), i)
     go false p i = cut-cons a (rows s) i
 
--- the rows of a body, and of chunks behind it
+-- the rows of a body, and of chunks after it
 record Behind (rs : List (List ℕ)) : Type 0 where
   front : List (List ℕ)
   ended : Bool
@@ -234,7 +234,7 @@ record Behind (rs : List (List ℕ)) : Type 0 where
   bodies : All Body front
   good : All Good chunks
 
--- one row more: a line 1 opens a chunk, behind a 1Ah or none
+-- one row more: a line 1 opens a chunk, after a 1Ah or none
 behind-head : {rs : List (List ℕ)} (e d : Bool) → Behind rs → Behind ((mark e ++ headRow d) ∷ rs)
 unfolding rowsOf
 behind-head {rs} e d b = record {

@@ -79,7 +79,7 @@ module _ (i : List ℕ) (n k : ℕ) (hi : validID i ≡ true) (hn : n ≤ 999) (
   unfolding markLine joined t911
   written-clean = clean-tail
 
-  -- its row is a line behind line 1
+  -- its row is a line after line 1
   pub mark-text : text (markRow i n k) ≡ markLine i n k
   unfolding markRow
   mark-text = line-text (markLine i n k) written-clean

@@ -194,7 +194,7 @@ insert-holds : (P : Part → Type 0) {p : Part} {qs ps : List Part} → Insert p
 insert-holds P here (h, t) = h
 insert-holds P (there i) (h, t) = insert-holds P i t
 
--- the part at k, and the rows behind it
+-- the part at k, and the rows after it
 record Step (ps : List Part) (n k : ℕ) (ls : List (List ℕ)) : Type 0 where
   part : Part
   found : findPart k ps ≡ some part

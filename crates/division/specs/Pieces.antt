@@ -1,5 +1,5 @@
 -- Definitions, to be believed.
--- The input of joining as pieces, row by row (a row is cut behind each 0Ah: characters, specs/Rows.antt). Document 01, "Cutting and
+-- The input of joining as pieces, row by row (a row is cut after each 0Ah: characters, specs/Rows.antt). Document 01, "Cutting and
 -- joining": "pieces in any order, an optional 1Ah after each; a 1Ah elsewhere is number 2. A piece runs from a JAHISTC04,1 or JAHISTC04,2
 -- line to the next such line or the end."
 use Prim.Native.Nat.{ℕ, _+_}
@@ -15,7 +15,7 @@ use Rattle.notebook.specs.Canonical.{headRow}
 pub data RowKind : Type 0 where
   -- a line 1 of a direction
   head : Bool → RowKind
-  -- the 1Ah of the piece before, and a line 1: a 1Ah has no 0Ah behind it, so it stands in front of the next line's row
+  -- the 1Ah of the piece before, and a line 1: a 1Ah has no 0Ah after it, so it stands in front of the next line's row
   endHead : Bool → RowKind
   -- any other line
   body : RowKind
@@ -52,7 +52,7 @@ brokenLine (r ∷ rs) = brokenFrom false 1 (r ∷ rs)
 
 -- ---- the pieces
 
--- a line 1 of a direction, and the rows behind it
+-- a line 1 of a direction, and the rows after it
 pub record Piece : Type 0 where
   pub provider : Bool
   pub rows : List (List ℕ)

@@ -58,7 +58,7 @@ closed-line st n line e = go (eqb (finishOf st) 0) e
     go true e = absurd (no-answer e)
     go false e = cc
 
--- a refusal stands behind the lines that are read
+-- a refusal stands after the lines that are read
 later-line : (rs : List (List ℕ)) (st : State) (n line : ℕ) → recordsFrom st rs ≡ refused n line → st .line < line
 unfolding recordsFrom onward
 later-line [] st n line e = omega (arith, closed-line st n line e)
@@ -155,7 +155,7 @@ abbrev firstOf : List ℕ → ℕ
 firstOf [] = 0
 firstOf (x ∷ xs) = x orElse firstOf xs
 
--- each is 0 or from lo on, and none behind it is lower
+-- each is 0 or from lo on, and none after it is lower
 data Rising : ℕ → List ℕ → Type 0 where
   end : {lo : ℕ} → Rising lo []
   up : {lo hi x : ℕ} {ns : List ℕ} → lo ≤ hi → (0 < x → (lo ≤ x) × (x ≤ hi)) → Rising hi ns → Rising lo (x ∷ ns)

@@ -1,4 +1,4 @@
--- Rows of bytes put one behind the other: rows end with their 0Ah, so what follows has rows of its own. Assumes nothing.
+-- Rows of bytes put one after the other: rows end with their 0Ah, so what follows has rows of its own. Assumes nothing.
 use Prim.Native.Nat.{ℕ}
 use mathlib.Core.Path.{_≡_, refl, sym, ap, _∙_, subst}
 use mathlib.Core.Bool.{Bool, true, false, cond, not, _&&_, _||_, and-false, false≢true}

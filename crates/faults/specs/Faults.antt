@@ -32,7 +32,7 @@ wholeLines (a ∷ []) = eqb a 0x0a
 wholeLines (a ∷ b ∷ s) = wholeLines (b ∷ s)
 
 -- p is the first lines of a file, and the refusal stands at one of them: whatever follows them, the answer is the same. A refusal at the end has
--- the line behind all lines, so it is none of these.
+-- the line after all lines, so it is none of these.
 abbrev pub FirstFault : Type 0
 FirstFault =
     (p q r : List ℕ) (n line : ℕ) → wholeLines p ≡ true → length (p ++ q) ≤ 65536 → length (p ++ r) ≤ 65536

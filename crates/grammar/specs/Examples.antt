@@ -99,7 +99,7 @@ cases =
     ∷ (true, (dispensed (hospital (withoutDoctors (rpWith 1 (usage (used 2)) ∷ []))), false))
     -- 16: the second group is newer
     ∷ (true, (notebook none (hospital noDoctors ∷ group 20160412 (some (with 1)) none noDoctors [] [] ∷ []), false))
-    -- 14 and 13 of direction 1: no group; no 11; an RP without 301; 51 or 55 of a hospital; no 51 of a pharmacy; a 51 and no RP behind it; no
+    -- 14 and 13 of direction 1: no group; no 11; an RP without 301; 51 or 55 of a hospital; no 51 of a pharmacy; a 51 and no RP after it; no
     -- RP and no 411; no RP and a 401
     ∷ (true, (told [], false))
     ∷ (true, (dispensed (group 20160411 none none noDoctors [] []), false))

@@ -72,7 +72,7 @@ pub record Tree : Type 0 where
   pub groups : List Group
   pub r701s : List Details
 
--- ---- the records of each part, written in front of the records behind it
+-- ---- the records of each part, written in front of the records after it
 
 abbrev pub rec : ℕ → Details → Facts
 rec n d = record { number = n; rp = d .rp; day = d .day; schedule = d .schedule; form = d .form; named = d .named }
@@ -113,7 +113,7 @@ abbrev pub prescriptionsRecords : Prescriptions → List Facts → List Facts
 prescriptionsRecords (withoutDoctors ps) rs = plainRecords ps rs
 prescriptionsRecords (withDoctors d p ls) rs = rec 55 d ∷ rpRecords p (laterRecords ls rs)
 
--- the records behind a group's prescriptions
+-- the records after a group's prescriptions
 abbrev pub restRecords : Group → List Facts → List Facts
 restRecords g rs = anyOf 401 (g .r401s) (anyOf 411 (g .r411s) (anyOf 501 (g .r501s) (anyOf 601 (g .r601s) rs)))
 
@@ -244,7 +244,7 @@ no51No55 g = elevenWith 1 g || elevenWith 3 g ⇒ not (stands (g .r51)) && no55 
 abbrev pub has51 : Group → Bool
 has51 g = not (noRp g) && elevenWith 4 g ⇒ stands (g .r51)
 
--- "a 51 is followed by 55 or 201" (note 2: no 51 where nothing is dispensed): behind a 51 stand the prescriptions, which begin with 55 or 201
+-- "a 51 is followed by 55 or 201" (note 2: no 51 where nothing is dispensed): after a 51 stand the prescriptions, which begin with 55 or 201
 abbrev pub rpAfter51 : Group → Bool
 rpAfter51 g = stands (g .r51) ⇒ not (noRp g)
 

@@ -16,7 +16,7 @@ pub record TreeRow : Type 0 where
 abbrev pub treeRow : ℕ → ℕ → ℕ → ℕ → TreeRow
 treeRow n g c d = record { number = n; group = g; doctor = c; drug = d }
 
--- ---- the rows of each part, in front of those behind it; l is the line of the record before, and k gives the rows behind by the line reached
+-- ---- the rows of each part, in front of those after it; l is the line of the record before, and k gives the rows after by the line reached
 
 abbrev pub optRows : TreeRow → ℕ → Option Details → (ℕ → List TreeRow) → List TreeRow
 optRows w l none k = k l
@@ -73,12 +73,12 @@ groupRows g l x k =
     bare g 5 ∷ optRows (bare g 11) (l + 1) (x .r11) (λ l. optRows (bare g 15) l (x .r15) (λ l. optRows (bare g 51) l (x .r51)
     (λ l. prescriptionsRows g l (x .prescriptions) (λ l. restRows g l x k))))
 
--- behind g groups
+-- after g groups
 abbrev pub groupsRows : ℕ → ℕ → List Group → (ℕ → List TreeRow) → List TreeRow
 groupsRows g l [] k = k l
 groupsRows g l (x ∷ xs) k = groupRows (g + 1) l x (λ m. groupsRows (g + 1) m xs k)
 
--- behind line 1; group 0 is no group
+-- after line 1; group 0 is no group
 abbrev pub treeRows : Tree → List TreeRow
 treeRows t =
     optRows (bare 0 1) 1 (t .r1) (λ l. anyRows (bare 0 2) l (t .r2s) (λ l. anyRows (bare 0 3) l (t .r3s) (λ l. anyRows (bare 0 4) l (t .r4s)

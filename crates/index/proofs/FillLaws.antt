@@ -1,4 +1,4 @@
--- The walk that writes the entries: what is left from a line on, written behind what is written, gives the whole index. One law for
+-- The walk that writes the entries: what is left from a line on, written after what is written, gives the whole index. One law for
 -- each way through the code. Assumes nothing.
 use Prim.Native.Nat.{ℕ, _+_, _-_, _≤_}
 use native.Mathlib.Omega.{arith}
@@ -112,7 +112,7 @@ module _ {provider : Bool} {s : List ℕ} {from : ℕ} {d : List ℕ} {st : Stat
     line : WholeLine s at e good
     line = whole-line w refl
 
-    -- the entries of the line here and of those behind it
+    -- the entries of the line here and of those after it
     here : Moved → List Entry
     here = entered at (part s at e) (λ t. entriesFrom t (e + 2) (rows (drop (e + 2) s)))
 
@@ -156,7 +156,7 @@ module _ {provider : Bool} {s : List ℕ} {from : ℕ} {d : List ℕ} {st : Stat
       own : List ℕ
       own = six (after .place) at (e - at) (groupOf after) doctor (drugOf after)
 
-      -- the record's own numbers, and those behind it
+      -- the record's own numbers, and those after it
       written : rest s st at ≡ own ++ rest s after (e + 2)
       unfolding numbers here entered entryOf own
       written = ap numbers (line-entries (found .line) ∙ ap (here (found .line)) (sym (found .step))) ∙ rw (place-number taken-here, whole-length (found .line) refl)

@@ -35,7 +35,7 @@ fn put_entry(
     buffers::put_six(out, next, st.place, offset, bytes, group, doctor, drug)
 }
 
-// The entries of the records from behind line 1 on.
+// The entries of the records from after line 1 on.
 fn fill_records(
     codes: &[usize; 83],
     stops: &mut [usize; 16],

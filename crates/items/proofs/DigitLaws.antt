@@ -71,7 +71,7 @@ module _ (m d : ℕ) {k : ℕ} where
   pub fits-q : k ≡ 9 → DigitFits k m d true
   fits-q e = fits (λ _ w _. kind-q m ((48 + d) ∷ []) e (sym (w .quantity)) refl)
 
-  -- the kinds that are left behind 8 to 10
+  -- the kinds that are left after 8 to 10
   pub fits-set : {x : Bool} → 8 ≤ k → (k ≡ 8 → ⊥) → (k ≡ 9 → ⊥) → (k ≡ 10 → ⊥) → x ≡ member (setOf m) d → DigitFits k m d x
   fits-set {x} h h8 h9 h10 p =
       let h9′ : 9 ≤ k = omega (arith, h8) in

@@ -373,7 +373,7 @@ fn other_item(c: usize, provider: bool, s: &[u8], from: usize) -> usize
     if f == 0 { end } else { 0 }
 }
 
-// The value of a digit with a comma or 0Dh behind it, which is an item of one byte; else 10.
+// The value of a digit with a comma or 0Dh after it, which is an item of one byte; else 10.
 fn digit_at(s: &[u8], from: usize) -> u32
     requires { ⌜ from ≤ length (now s) ⌝ }
     ensures { λ r. ⌜ DigitAt (now (s .entry)) from r ⌝ }

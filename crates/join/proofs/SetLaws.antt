@@ -38,7 +38,7 @@ module _ (a b : List ℕ) (k from to : ℕ) where
 
 pub ruleset store-laws = (store-free, store-taken)
 
--- ---- parts behind others
+-- ---- parts after others
 
 abbrev after : List Part → Option (List Part) → Option (List Part)
 after seen none = none

@@ -38,7 +38,7 @@ isWhole body = true
 isWhole end = true
 isWhole broken = false
 
--- behind a line 1, where a 1Ah is in place
+-- after a line 1, where a 1Ah is in place
 unfoldable pub unbroken : List (List ℕ) → Bool
 unbroken [] = true
 unbroken (r ∷ rs) = isWhole (kindOf r) && unbroken rs
@@ -103,7 +103,7 @@ FirstMeans s Stray = sound (rows s) ≡ false
 pub record FirstIs (s : List ℕ) (r : Next) : Type 0 where
   pub means : FirstMeans s r
 
--- ---- the rows of a piece, from behind its line 1 on
+-- ---- the rows of a piece, from after its line 1 on
 
 -- a row that is a line
 pub record LineAt (s : List ℕ) (at e : ℕ) : Type 0 where
@@ -148,7 +148,7 @@ pub record WrongLines (s : List ℕ) (from : ℕ) : Type 0 where
   pub marked : unmarked (bodyOf (rows (drop from s))) ≡ false
   pub none : (d : Bool) → partOf d (bodyOf (rows (drop from s))) ≡ none
 
--- the record 911 from at to e, and what is behind it
+-- the record 911 from at to e, and what is after it
 pub record LastMark (s : List ℕ) (at e n k : ℕ) : Type 0 where
   pub ident : at + 18 ≤ e
   pub count : n ≤ 999

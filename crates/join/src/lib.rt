@@ -1,5 +1,5 @@
 // Joining: pieces in any order to one file, which is then checked. The call's definition: division, specs/Join.antt. Inside, a piece is carried by
-// positions (specs/Spans.antt): its rows are the bytes from behind its line 1 to its record 911, and the tables `starts` and `ends`
+// positions (specs/Spans.antt): its rows are the bytes from after its line 1 to its record 911, and the tables `starts` and `ends`
 // have them by place, so that each piece is looked at once. Only where the pieces cannot be joined is the input read again for a broken
 // line, whose number 2 goes before 19.
 ghost use mathlib.Core.Path.{_≡_};
@@ -109,7 +109,7 @@ fn first_piece(s: &[u8]) -> Next
     }
 }
 
-// The piece behind another, which ends at a position.
+// The piece after another, which ends at a position.
 fn next_piece(s: &[u8], at: usize) -> Next
     requires { ⌜ at ≤ length (now s) ⌝ }
     ensures { λ r. ⌜ NextIs (now (s .entry)) at r ⌝ }

@@ -86,7 +86,7 @@ part-empty s a e h k = empty-is (part s a e) ∙ go (eqb a e) refl
     go true q = eq-eqb (length (part s a e)) 0 (omega (arith, n, eqb-true a e q))
     go false q = ne-eqb (length (part s a e)) 0 (λ z. eqb-false a e q (omega (arith, n, z)))
 
--- an item behind the number, by its number in the line
+-- an item after the number, by its number in the line
 on-1 : (xs : List (List ℕ)) (k : ℕ) → getD (drop 1 xs) k [] ≡ getD xs (suc k) []
 on-1 [] k = refl
 on-1 (x ∷ xs) k = refl

@@ -1,4 +1,4 @@
--- A line read item by item: its items grow by one behind each comma, and none has a fault. One law for each way through the code.
+-- A line read item by item: its items grow by one after each comma, and none has a fault. One law for each way through the code.
 -- Assumes nothing.
 use Prim.Native.Nat.{ℕ, suc, _+_, _-_, _/_, _%_, _≤_, _<_}
 use mathlib.Core.Path.{_≡_, refl, sym, ap, ap₂, _∙_, subst}

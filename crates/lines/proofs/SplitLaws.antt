@@ -1,4 +1,4 @@
--- A line's items by positions: the item at a position and the items behind it, and how many there are. Assumes nothing.
+-- A line's items by positions: the item at a position and the items after it, and how many there are. Assumes nothing.
 use Prim.Native.Nat.{ℕ, zero, suc, _+_, _-_, _≤_, _<_}
 use native.Mathlib.Nat.{add-sub-cancel-left}
 use mathlib.Core.Path.{_≡_, refl, sym, ap, ap₂, _∙_, subst}
@@ -37,7 +37,7 @@ items-cut (a ∷ l) = go (isComma a) (items-cut l)
     go true ih = refl
     go false ih = ap (consItem a) ih
 
--- the items from a position on: the part up to the item's end, and the items from behind the comma on
+-- the items from a position on: the part up to the item's end, and the items from after the comma on
 pub items-from : (s : List ℕ) (at : ℕ) → at ≤ length s → itemsFrom s at ≡ part s at (itemEnd s at) ∷ itemsFrom s (itemEnd s at + 1)
 unfolding itemsFrom findFrom tailItems
 items-from s at h =
@@ -63,7 +63,7 @@ items-plain (a ∷ t) e = go (isComma a) (items-plain t) e
     go true i e = absurd (omega arith)
     go false i e = ap (consItem a) (i (omega arith))
 
--- an item more behind a comma
+-- an item more after a comma
 pub items-snoc : (x t : List ℕ) → commaCount t ≡ 0 → itemsOf (x ++ 0x2c ∷ t) ≡ itemsOf x ++ t ∷ []
 items-snoc [] t e = ap (λ (y : List (List ℕ)). [] ∷ y) (items-plain t e)
 items-snoc (a ∷ x) t e = go (isComma a) (items-snoc x t e)
@@ -243,7 +243,7 @@ module _ (l : List ℕ) where
   unfolding commaAt startOf
   number-part = item-by l 0 (omega arith)
 
-  -- item number j behind it
+  -- item number j after it
   module _ (j : ℕ) (h : 1 ≤ j) (k : j ≤ commaCount l) where
     pub comma-next : commaAt l (j - 1) < commaAt l j
     comma-next = go (decLt j (commaCount l))

@@ -45,7 +45,7 @@ pub record SpanAt (s : List ℕ) (j : ℕ) (r : Span) : Type 0 where
   pub low : r .from ≤ r .to
   pub high : r .to ≤ length s
 
--- it goes from behind its comma to the next one or the end
+-- it goes from after its comma to the next one or the end
 pub record Between (s : List ℕ) (j : ℕ) (r : Span) : Type 0 where
   pub begins : r .from ≡ commaAt s (j - 1) + 1
   pub ends : r .to ≡ commaAt s j
@@ -56,7 +56,7 @@ pub record LineIn (s : List ℕ) (at e : ℕ) (stops : List ℕ) (n : ℕ) : Typ
   pub low : at ≤ e
   pub high : e ≤ length s
 
--- j is the number of an item behind the record's number
+-- j is the number of an item after the record's number
 pub record ItemOf (j n : ℕ) : Type 0 where
   pub low : 1 ≤ j
   pub high : j ≤ n
@@ -69,7 +69,7 @@ pub record ItemIn (s : List ℕ) (at e j : ℕ) (r : Span) : Type 0 where
   pub low : r .from ≤ r .to
   pub high : r .to ≤ e
 
--- ---- pairs and facts by the bytes of the items behind the number
+-- ---- pairs and facts by the bytes of the items after the number
 
 -- a quantity is an R
 abbrev pub quantity : List ℕ → Value

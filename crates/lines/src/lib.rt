@@ -21,7 +21,7 @@ pub struct Span {
     pub to: usize,
 }
 
-// Item number j of a line, from 1 behind the record's number. n: the line's commas; stops: their places.
+// Item number j of a line, from 1 after the record's number. n: the line's commas; stops: their places.
 fn span_within(stops: &[usize; 16], n: usize, s: &[u8], j: usize) -> Span
     requires { ⌜ Spanned (now s) (now stops) n ⌝ }
     requires { ⌜ 1 ≤ j ⌝ }
@@ -78,7 +78,7 @@ fn number_end(stops: &[usize; 16], n: usize, s: &[u8]) -> usize
 
 // ---- the items
 
-// The first fault of the items behind the number, item by item from the left.
+// The first fault of the items after the number, item by item from the left.
 fn items_fault(
     codes: &[usize; 83],
     place: usize,
@@ -416,8 +416,8 @@ fn ends_line(s: &[u8], e: usize) -> bool
     s[next] == 0x0a
 }
 
-// The items of a line that begins at a position, each behind its comma; from: where its number ends; place: its row's. Where its text ends, if
-// all items are there without a fault, and 0Dh 0Ah behind them; else 0.
+// The items of a line that begins at a position, each after its comma; from: where its number ends; place: its row's. Where its text ends, if
+// all items are there without a fault, and 0Dh 0Ah after them; else 0.
 fn quick_items(
     codes: &[usize; 83],
     place: usize,

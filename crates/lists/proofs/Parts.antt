@@ -1,4 +1,4 @@
--- Parts of a list: one behind another, a part of a part, the first byte of a part. Assumes nothing.
+-- Parts of a list: one after another, a part of a part, the first byte of a part. Assumes nothing.
 use Prim.Native.Nat.{ℕ, zero, suc, _+_, _-_, _≤_, _<_}
 use native.Mathlib.Omega.{arith}
 use mathlib.Core.Path.{_≡_, sym, ap, _∙_}
@@ -25,7 +25,7 @@ part-more s a i h g =
 pub part-at : (s : List ℕ) (a e i : ℕ) → i < e - a → getD (part s a e) i 0 ≡ getD s (a + i) 0
 part-at s a e i h = getD-take (e - a) (drop a s) i 0 h ∙ getD-drop a s i 0
 
--- one part behind another
+-- one part after another
 pub part-join : (s : List ℕ) (a b e : ℕ) → a ≤ b → b ≤ e → part s a b ++ part s b e ≡ part s a e
 part-join s a b e h g =
     let n : e - a ≡ (b - a) + (e - b) = omega arith in

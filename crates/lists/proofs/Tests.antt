@@ -146,7 +146,7 @@ pub both-zero : (a b : ℕ) → a ≡ 0 → b ≡ 0 → a orElse b ≡ 0
 both-zero zero b p q = q
 both-zero (suc a) b p q = absurd (omega arith)
 
--- a fault hides what is behind it
+-- a fault hides what is after it
 pub or-stops : (a c : ℕ) → (a ≡ 0 → ⊥) → a orElse c ≡ a
 or-stops zero c n = absurd (n refl)
 or-stops (suc a) c n = refl

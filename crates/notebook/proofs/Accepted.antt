@@ -101,7 +101,7 @@ pub data Ruled : State → List Record → Type 0 where
 
 -- ---- from the reader to them
 
--- what stands behind the records: nothing, or 1Ah first
+-- what stands after the records: nothing, or 1Ah first
 pub data Ended : List (List ℕ) → Type 0 where
   nothing : Ended []
   mark : {rs : List (List ℕ)} → Ended (endMark ∷ rs)
@@ -249,7 +249,7 @@ accepted f b e = sized (leb (length f) 65536) refl e
     sized true p e = rowed (leb-true _ _ p) (rows f) refl e
     sized false p e = absurd (no-refusal e)
 
--- rows behind a line 1 are read as the reader reads them from the start
+-- rows after a line 1 are read as the reader reads them from the start
 pub rows-read : (d : Bool) (rs : List (List ℕ)) → readRows (headRow d ∷ rs) ≡ notebookOf d (recordsFrom (start d) rs)
 unfolding readRows header bytes
 rows-read true rs = rw (head-line true)

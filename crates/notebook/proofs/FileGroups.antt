@@ -129,7 +129,7 @@ abbrev Stands : Bool → Record → Type 0
 Stands true r = inGroup (r .number) ≡ true
 Stands false r = inFirst (r .number) ≡ true
 
--- g: the records come behind a record of a group
+-- g: the records come after a record of a group
 record Numbers (g : Bool) (p : Parts) : Type 0 where
   front : All (Stands g) (p .front)
   groups : All (All (Stands true)) (p .groups)
@@ -189,7 +189,7 @@ unfolding partsOf
 only-701s [] h = refl
 only-701s (r ∷ rs) (h, t) = parts-701 r rs h
 
--- the count of groups, the ordinal and the day behind a record, by what it is
+-- the count of groups, the ordinal and the day after a record, by what it is
 module _ (st : State) (r : Record) where
   abbrev behind : State
   behind = advance st (factsOf r)
@@ -254,7 +254,7 @@ Grouped st = eqb (st .groups) 0 ≡ false
 grouped-5 : (st : State) (r : Record) → r .number ≡ 5 → Grouped (behind st r)
 grouped-5 st r e = rw (count-5 st r e) (ne-eqb (st .groups + 1) 0 (λ z. omega arith))
 
--- behind a group no 5 is newer
+-- after a group no 5 is newer
 no-newer : (st : State) (r : Record) (rs : List Record) → refusalOf st (factsOf r) ≡ 0 → r .number ≡ 5 → Grouped st → groupDay (r ∷ rs) ≤ st .day
 unfolding newerGroup factsOf
 no-newer st r rs e n z =

@@ -125,7 +125,7 @@ stands-some : {n g x line : ℕ} {es : List Entry} → Stands n g x line es → 
 stands-some (here p q r) = omega arith
 stands-some (there s) = omega arith
 
--- one that does not stand first stands behind
+-- one that does not stand first stands after
 stands-behind : {n g x line : ℕ} {e : Entry} {es : List Entry} → (eqb (e .number) n && eqb (e .group) g) ≡ false → Stands n g x line (e ∷ es) → Stands n g x (line + 1) es
 stands-behind {n} {g} {x} {line} {e} t (here p q r) = absurd (true≢false (sym (rw (eq-eqb (e .number) n p, eq-eqb (e .group) g q) refl) ∙ t))
 stands-behind t (there s) = s

@@ -51,7 +51,7 @@ unfolding recordsFrom entriesFrom onward entered
 walk [] st at recs e = subst (λ (x : List Record). Walk st at [] x []) (closed-none st recs e) over
 walk (r ∷ rs) st at recs e = by (same r endMark) refl (isLine r) refl (λ t u. walk rs t (at + length r) u) e
   where
-    -- a record that was taken, and those behind it
+    -- a record that was taken, and those after it
     on : (t : State) (rp doctor : ℕ) → isLine r ≡ true → stepLine st (text r) ≡ On t rp doctor → (res : Res (List Record)) → recordsFrom t rs ≡ res
         → ((u : List Record) → recordsFrom t rs ≡ ok u → Walk t (at + length r) rs u (entriesFrom t (at + length r) rs))
         → prepend (recordOf (text r)) res ≡ ok recs → Walk st at (r ∷ rs) recs (entryOf at (text r) t doctor ∷ entriesFrom t (at + length r) rs)

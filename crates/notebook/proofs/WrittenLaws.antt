@@ -27,7 +27,7 @@ use Rattle.notebook.proofs.Accepted.{IsLine, head-length, line-bytes, r
 pub row-read : {d : Bool} {r : Record} {l : List ℕ} → Reads d r l → readLine d (text l) ≡ read r
 row-read {d} {r} {l} x = reads d (text l) (x .good) ∙ ap read (x .is)
 
--- what is read and clean is a row with the line end behind it
+-- what is read and clean is a row with the line end after it
 pub row-of : (d : Bool) (r : Record) (t : List ℕ) → readLine d t ≡ read r → Reads d r (t ++ lineEnd)
 row-of d r t e =
     let c : clean t ≡ true = clear d t r e in

@@ -26,7 +26,7 @@ pub record Notebook : Type 0 where
 unfoldable pub stepLine : State → List ℕ → Moved
 stepLine st l = cond (eqb (lineFault (st .provider) l) 0) (stepOf st (factsOf (recordOf l))) (Fault (lineFault (st .provider) l))
 
--- ---- the rows behind line 1
+-- ---- the rows after line 1
 
 -- a record more at the front
 abbrev pub prepend : Record → Res (List Record) → Res (List Record)

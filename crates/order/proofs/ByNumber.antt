@@ -72,7 +72,7 @@ as-number : (s : State) (r : Facts) (n : ℕ) → r .number ≡ n → refusalOf 
 unfolding refusalOf
 as-number s r n e = rw e
 
--- Nothing more, behind a joined test. Not behind every test: `p is one of xs` ends so, and is rewritten as a whole.
+-- Nothing more, after a joined test. Not after every test: `p is one of xs` ends so, and is rewritten as a whole.
 not-or : (a : Bool) → (not a || false) ≡ not a
 not-or a = or-false (not a)
 
@@ -101,7 +101,7 @@ module _ (s : State) (r : Facts) where
   abbrev no301 : Bool
   no301 = s .provider && inRp (s .place) && not (s .had .had301)
 
-  -- What the rules come to where the number settles the rest: 13 for the place, which isn't behind a 51 in direction 1; then 14, then `good`.
+  -- What the rules come to where the number settles the rest: 13 for the place, which isn't after a 51 in direction 1; then 14, then `good`.
   abbrev settled : Bool → Bool → ℕ → ℕ
   settled stray lacks good = cond (stray || s .provider && eqb (s .place) 51) 13 (cond lacks 14 good)
 
@@ -128,7 +128,7 @@ module _ (s : State) (r : Facts) where
   unfolding orderRefusal pairBroken misplaced mayFollow continues closesRp missing valueWrong newerGroup
   of-4 q = rw (as-number s r 4 q) (simp bools (headed inHead no1 refl refl))
 
-  -- a record of the front behind a 5, which may stand where Q holds and it isn't barred
+  -- a record of the front after a 5, which may stand where Q holds and it isn't barred
   fronted : (Q : ℕ → Bool) (barred : Bool) → Q 0 ≡ false → Q 51 ≡ false → holdsAmong Q rp ≡ false
       → settled (not (Q (s .place)) || barred) (no1 || no301) 0 ≡ cond (Q (s .place)) (cond barred 13 0) 13
   fronted Q barred z e n =
@@ -222,9 +222,9 @@ module _ (s : State) (r : Facts) where
   unfolding orderRefusal pairBroken misplaced mayFollow continues closesRp missing valueWrong newerGroup
   of-391 q = rw (as-number s r 391 q) (simp bools (kept inRp refl refl))
 
-  -- ---- behind the prescriptions
+  -- ---- after the prescriptions
 
-  -- a record behind the prescriptions that may stand behind them, or where `behind` holds
+  -- a record after the prescriptions that may stand after them, or where `after` holds
   abbrev pub inTheRest : Bool → ℕ
   inTheRest behind = cond (inRp (s .place)) (cond (s .provider && not (s .had .had301)) 14 0) (cond (inFront (s .place))
       (cond (s .provider && eqb (s .place) 51) 13 0) (cond behind 0 13))

@@ -194,7 +194,7 @@ pub past : {d l : ℕ} {rs : List Facts} → LineOf55 d l rs → l < d
 past (here e f) = omega arith
 past (there h) = omega (arith, past h)
 
--- what holds of 0, of the doctor now and of each 55 to come holds of the doctor behind them
+-- what holds of 0, of the doctor now and of each 55 to come holds of the doctor after them
 pub doctor-after : (P : ℕ → Type 0) (rs : List Facts) (s : State) → P 0 → P (s .had .doctor)
     → ((d : ℕ) → LineOf55 d (s .line) rs → P d) → P (after s rs .had .doctor)
 unfolding after advance hadAfter
@@ -204,7 +204,7 @@ doctor-after P (r ∷ rs) s z p f =
     (cond-case P (eqb (r .number) 5) (λ _. z) (λ _. cond-case P (eqb (r .number) 55) (λ e. f (s .line + 1) (here (eqb-true _ _ e) refl)) (λ _. p)))
     (λ d h. f d (there h))
 
--- a doctor never reaches into the next group: behind a 5, whatever records rs follow, the doctor handed to a record q is none or the line
+-- a doctor never reaches into the next group: after a 5, whatever records rs follow, the doctor handed to a record q is none or the line
 -- of a 55 among rs
 pub never-into-next : (s : State) (r : Facts) (rs : List Facts) (q : Facts) → r .number ≡ 5
     → (doctorOf (after (advance s r) rs) q ≡ 0) ⊎ LineOf55 (doctorOf (after (advance s r) rs) q) (s .line + 1) rs

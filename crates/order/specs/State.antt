@@ -35,7 +35,7 @@ unfoldable pub start : Bool → State
 start provider = record { provider = provider; place = 0; line = 1; groups = 0; drugs = 0; day = 0; had = nothingYet }
 
 -- What the open group has had after a record at this line: a 5 begins a group, so that nothing reaches into it from the group before; a
--- 201 has no 301 behind it yet.
+-- 201 has no 301 after it yet.
 unfoldable pub hadAfter : Had → Facts → ℕ → Had
 hadAfter h r line = record {
   had11 = cond (eqb (r .number) 5) false (cond (eqb (r .number) 11) true (h .had11));

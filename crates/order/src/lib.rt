@@ -346,7 +346,7 @@ impl State {
         kept_rp(in_drugs(p), same)
     }
 
-    // 401 to 601; behind: "then any 401s, 411s, 501s, 601s" up to it. Direction 1: "a 51 is followed by 55 or 201".
+    // 401 to 601; after: "then any 401s, 411s, 501s, 601s" up to it. Direction 1: "a 51 is followed by 55 or 201".
     fn rest_refusal(self, behind: bool) -> u32
         ensures { λ k. ⌜ k ≡ cond (inRp (self .place)) (cond (self .provider && not (self .had .had301)) 14 0)
             (cond (inFront (self .place)) (cond (self .provider && eqb (self .place) 51) 13 0) (cond behind 0 13)) ⌝ }

@@ -184,7 +184,7 @@ pack-more {A} len o c k u (r ∷ rs) =
     go false true m (some xs) = omega arith
     go false false m m′ = tt
 
--- the first run fits behind u bytes of piece k, and the others as pieces k + 1, ..
+-- the first run fits after u bytes of piece k, and the others as pieces k + 1, ..
 unfoldable pub Taken : {A : Type 0} → (A → ℕ) → (ℕ → ℕ) → ℕ → ℕ → ℕ → List (List A) → Type 0
 Taken len o c k u [] = ⊥
 Taken len o c k u (x ∷ xs) = (u + total len x ≤ c) × Fits len o c (suc k) xs

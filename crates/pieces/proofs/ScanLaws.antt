@@ -69,7 +69,7 @@ module _ {s : List ℕ} {at i : ℕ} (v : Skipped s at i) where
 
 pub ruleset skip-laws = (skip-start, skip-go)
 
--- ---- what is looked for stands behind them
+-- ---- what is looked for stands after them
 
 module _ (p : ℕ → Bool) (s : List ℕ) where
   one-on : (i : ℕ) → i < length s → p (getD s i 0) ≡ false → length (upTo p (drop i s)) ≡ 1 + length (upTo p (drop (i + 1) s))

@@ -19,7 +19,7 @@ use Rattle.pieces.specs.declared.Numbers.the-variants.{Read, Unread}
 use Rattle.division.specs.Marks.{Mark, validID, markOf, readMark}
 use Rattle.division.specs.Pieces.{RowKind, head, endHead, body, end, broken, kindOf}
 
--- the row from at to e, and the rows behind it
+-- the row from at to e, and the rows after it
 pub record RowAt (s : List ℕ) (at e : ℕ) : Type 0 where
   pub more : at < e
   pub inside : e ≤ length s

@@ -1,4 +1,4 @@
-// The pieces of a cut notebook: the record 911, and the rows of bytes that are pieces. A row is cut behind each 0Ah, so that a 1Ah
+// The pieces of a cut notebook: the record 911, and the rows of bytes that are pieces. A row is cut after each 0Ah, so that a 1Ah
 // between two pieces stands at the front of the next piece's line 1. Definitions: division, specs/Marks.antt and
 // specs/Pieces.antt; what the code answers, in their words: specs/Answers.antt.
 ghost use mathlib.Core.Path.{_≡_};
@@ -38,7 +38,7 @@ pub enum Numbers {
     Unread,
 }
 
-// n and k, from behind the ID on.
+// n and k, from after the ID on.
 fn read_numbers(line: &[u8], at: usize) -> Numbers
     requires { ⌜ at ≤ length (now line) ⌝ }
     ensures { λ r. ⌜ NumbersIs (now (line .entry)) at r ⌝ }
@@ -118,7 +118,7 @@ fn skip_plain(s: &[u8], at: usize) -> usize
     i
 }
 
-// Where the row that begins at a position ends: behind a 0Ah, or at the end.
+// Where the row that begins at a position ends: after a 0Ah, or at the end.
 pub fn row_end(s: &[u8], at: usize) -> usize
     requires { ⌜ at < length (now s) ⌝ }
     ensures { λ e. ⌜ RowAt (now (s .entry)) at e ⌝ }

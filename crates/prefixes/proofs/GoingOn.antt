@@ -207,7 +207,7 @@ rp-after true b v w = refl
 rp-after false true v w = refl
 rp-after false false v w = refl
 
--- a 701 of direction 1 stands behind a group
+-- a 701 of direction 1 stands after a group
 groups-stand : (b : Before) (a : Asked) → missing b a ≡ false → (b .provider && eqb (a .number) 701 && b .noGroup) ≡ false
 unfolding missing
 groups-stand b a e =

@@ -221,7 +221,7 @@ taken-goes o rs t = (to, from)
     kept : Kept (coreOf (after (start o) rs))
     kept = kept-after rs (start o) t (kept-start o)
 
-    -- the machine behind the records
+    -- the machine after the records
     behind : (more : List Facts) → accepts (start o) (rs ++ more) ≡ runs (coreOf (after (start o) rs)) more
     behind more = accepts-behind rs more (start o) t ∙ machine-core more (after (start o) rs)
 

@@ -65,7 +65,7 @@ plain-digits (b ∷ s) e =
     let d = digit-is b (p .0) in
     (d .0, omega arith, plain-digits s (p .1))
 
--- the items behind the RP value of a 201; of a 301 of form 1, with its unit
+-- the items after the RP value of a 201; of a 301 of form 1, with its unit
 abbrev items201 : List (List ℕ)
 items201 = bytes "A" ∷ bytes "1" ∷ bytes "A" ∷ bytes "1" ∷ [] ∷ bytes "1" ∷ []
 

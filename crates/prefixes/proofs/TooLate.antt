@@ -58,7 +58,7 @@ module _ (rs : List Facts) (ih : Lost rs) (p : ℕ) (m : In p groupPlaces) (d : 
   narrow : (n : ℕ) (ys : List ℕ) → every (λ p. mayFollow p n ⇒ member ys p) groupPlaces ≡ true → mayFollow p n ≡ true → In p ys
   narrow n ys t h = member-in p ys (so (mayFollow p n) (member ys p) (every-at (λ p. mayFollow p n ⇒ member ys p) t m) h)
 
-  -- it stays too late behind a record of number n, which was taken under the condition X
+  -- it stays too late after a record of number n, which was taken under the condition X
   keeps : (n : ℕ) (ys : List ℕ) (X : ℕ → Fn 6) (i2 u2 : Bool → Bool)
       → every (λ x. agree 6 (λ e q f i z u. lostAt x e q f i z u && X x e q f i z u ⇒ lostAt n e q f (i2 i) z (u2 u)) (λ e q f i z u. true)) ys ≡ true
       → In p ys → X p e (eqb k 4) f i (eqb v 0) u ≡ true → lostAt n e (eqb k 4) f (i2 i) (eqb v 0) (u2 u) ≡ true
@@ -101,7 +101,7 @@ module _ (rs : List Facts) (ih : Lost rs) (p : ℕ) (m : In p groupPlaces) (d : 
       let q = narrow 701 toEnd refl (t .follows) in
       clash (t .good) (at-701 true d e k f i v u c b q) (cant-close e k f i v u l q)
 
-  -- behind a 5 nothing is too late
+  -- after a 5 nothing is too late
   lost-11 : Refused 11
   unfolding mayFollow
   lost-11 h =

@@ -1,7 +1,7 @@
 -- A second statement, proved equal.
 -- The lines before a refused one: something can follow them so that the file is accepted, exactly unless a record that direction 1 asks for can
 -- no longer come. Document 01 gives such a fault at the line that closes the part ("a record required in the part that this line or the end
--- closes"), which may stand lines behind the place where it became too late. Names of proofs/PrefixLaws.antt have the types: `goes-on` over
+-- closes"), which may stand lines after the place where it became too late. Names of proofs/PrefixLaws.antt have the types: `goes-on` over
 -- records, `lines-go-on` over bytes.
 use Prim.Native.Nat.{ℕ, _+_, _≤_, _<_}
 use mathlib.Core.Path.{_≡_}
@@ -54,7 +54,7 @@ pub record GoesOn (provider : Bool) (rs : List Facts) : Type 0 where
   pub more : List Facts
   pub has : Grammatical provider (rs ++ more)
 
--- line 1 is read, so the record behind rs stands at the line of their count and 2
+-- line 1 is read, so the record after rs stands at the line of their count and 2
 abbrev pub PrefixGoesOn : Type 0
 PrefixGoesOn =
     (provider : Bool) (rs : List Facts) (r : Facts) (rest : List Facts) (n : ℕ)

@@ -206,7 +206,7 @@ parts-kept (x ∷ xs) ps k e (h, t) = go (partOf (x .provider) (x .rows)) refl (
         subst (λ (z : List Part). All KeptPart z × (length z + rowsFrom k z ≤ suc (length (x .rows)) + linesOf xs)) (some-inj f)
         ((y .0, i .0), omega (arith, i .1, y .1, some-of (leb k (p .mark .place)) (length (p .rows))))
 
--- the part that is found at k has no place behind k
+-- the part that is found at k has no place after k
 fewer : (k : ℕ) (ps : List Part) → rowsFrom (suc k) ps ≤ rowsFrom k ps
 unfolding rowsFrom
 fewer k [] = omega arith

@@ -54,7 +54,7 @@ lined n lo hi = not-true′ (member lineless n) (rw (lt-leb n 1 (omega arith)) a
 pub with-line : {ns s : List ℕ} (n line : ℕ) → 2 ≤ n → n ≤ 16 → member ns n ≡ true → AtLine s line → Given ns s n line
 with-line n line lo hi m l = record { listed = m; positive = omega arith; without = λ e. absurd (true≢false (sym e ∙ lined n lo hi)); at = λ _. l }
 
--- ---- the rows behind line 1
+-- ---- the rows after line 1
 
 -- ends: the line ends of the rows and of what stands before them; clear: no row is a record 911
 pub record RowsRefused (ends : ℕ) (clear : Bool) (n line : ℕ) : Type 0 where

@@ -1,4 +1,4 @@
--- Runs of characters without a comma: one behind another, the ways through `run_end`, and a scan that passes a run whole. Assumes nothing.
+-- Runs of characters without a comma: one after another, the ways through `run_end`, and a scan that passes a run whole. Assumes nothing.
 use Prim.Native.Nat.{ℕ, suc, _+_, _-_, _≤_, _<_}
 use mathlib.Core.Path.{_≡_, refl, sym, ap, _∙_}
 use mathlib.Core.Bool.{Bool, true, false, cond, not, _&&_, false≢true, true≢false}
@@ -21,7 +21,7 @@ use Rattle.scanning.specs.Scans.{ScanOf, RunOf, RunEnds, Finished}
 use Rattle.scanning.proofs.TextLaws.{one-char, no-comma, lead-from-81, trail-from-40, lead-no-one, kept, Scanned, scan-start, scan-comma, scan-more, scan-stop, scan-bad, scan-end}
 use Rattle.characters.proofs.CharLaws.{chars-clean, pair-parts}
 
--- ---- one list behind another
+-- ---- one list after another
 
 chars-on : (x y : List ℕ) → allChars x ≡ true → allChars (x ++ y) ≡ allChars y
 chars-on [] y e = refl
@@ -205,7 +205,7 @@ all-start s = record { left = refl; high = omega arith }
 pub all-over : {s : List ℕ} {i : ℕ} → AllLeft s i → length s ≤ i → true ≡ allChars s
 all-over {s} {i} v h = sym (v .left ∙ ap allChars (drop-end s i h))
 
--- behind a run
+-- after a run
 run-left : {s : List ℕ} {i e : ℕ} → RunOf s i e → allChars (drop i s) ≡ allChars (drop e s)
 run-left {s} {i} {e} w =
     let m : i + (e - i) ≡ e = omega (arith, w .low) in
@@ -255,7 +255,7 @@ pair-told a b p q = rw (p, q) (go (isPair a b) refl (isOne a) refl)
     go true e false f = refl
     go false e false f = refl
 
--- ---- the ways through scan_text, each behind a run
+-- ---- the ways through scan_text, each after a run
 
 module _ {s : List ℕ} {at : ℕ} {a₀ a : List ℕ} {i e : ℕ} {good : Bool} {n : ℕ} (v : Scanned s at a₀ a i good n) (w : RunOf s i e) where
   pub run-comma : e < length s → getD s e 0 ≡ 0x2c → n < 16 → Scanned s at a₀ (set a n (e - at)) (e + 1) good (n + 1)

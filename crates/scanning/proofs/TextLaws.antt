@@ -27,7 +27,7 @@ pub one-char : (a : ℕ) (l : List ℕ) → isOne a ≡ true → allChars (a ∷
 one-char a [] h = h
 one-char a (b ∷ r) h = simp h
 
--- a text by what is left of it behind its first n bytes
+-- a text by what is left of it after its first n bytes
 record Leaves (l r : List ℕ) (n : ℕ) : Type 0 where
   size : length (text l) ≡ n + length (text r)
   chars : allChars (text l) ≡ allChars (text r)
@@ -82,7 +82,7 @@ bad-text a (b ∷ r) s h = go (isOne a) refl (isPair a b) refl (isStop b) refl h
 
 -- ---- the loop of scan_text: the text's end, its goodness and its commas, as told by what is left from i on
 
--- the commas of the whole text from its beginning, and those that are left, into the places behind the n first
+-- the commas of the whole text from its beginning, and those that are left, into the places after the n first
 abbrev pub kept : List ℕ → ℕ → List ℕ → List ℕ
 kept a n w = sets a n (take (16 - n) w)
 
@@ -174,7 +174,7 @@ module _ {s : List ℕ} {at : ℕ} {a₀ a : List ℕ} {i : ℕ} {good : Bool} {
           first = v .first;
         }
 
-    -- the commas that are left, behind a byte of text
+    -- the commas that are left, after a byte of text
     places-on : isStop (getD s i 0) ≡ false
         → commasFrom (i - at) (text (drop i s)) ≡ cond (eqb (getD s i 0) 0x2c) ((i - at) ∷ commasFrom (i + 1 - at) (text (drop (i + 1) s))) (commasFrom (i + 1 - at) (text (drop (i + 1) s)))
     places-on e =

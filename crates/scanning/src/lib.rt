@@ -286,7 +286,7 @@ pub struct Scan {
 
 // Where the first 0Dh, 0Ah or 1Ah from a position stands, or the end; whether all before it is characters; and how many of them are
 // commas, the first sixteen with their places from the position on. None of the three is a character or a trail, so a run never
-// passes one, behind a bad byte too.
+// passes one, after a bad byte too.
 pub fn scan_text(stops: &mut [usize; 16], s: &[u8], at: usize) -> Scan
     requires { ⌜ Sixteen (now stops) ⌝ }
     ensures { λ r. ⌜ ScanOf (now (s .entry)) at (now (stops .exit)) r ⌝ }

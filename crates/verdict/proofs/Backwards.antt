@@ -1,4 +1,4 @@
--- Each step of the small machine read backwards: what is still to come before a record, from what is still to come behind it. By it a list that
+-- Each step of the small machine read backwards: what is still to come before a record, from what is still to come after it. By it a list that
 -- the machine accepts is the records of a tree, which proofs/Groups.antt shows to be good. Assumes nothing.
 use Prim.Native.Nat.{ℕ, _+_}
 use mathlib.Core.Path.{_≡_, refl, ap, sym, _∙_, subst}
@@ -188,7 +188,7 @@ told c r h =
     first-two true false c d e h = (refl, refl)
     first-two false b c d e h = absurd (false≢true (sym h))
 
--- the same, and that the machine runs on behind it
+-- the same, and that the machine runs on after it
 pub record Took (c : Core) (r : Facts) (rs : List Facts) : Type 0 where
   pub good : taken c r ≡ true
   pub follows : mayFollow (c .place) (r .number) ≡ true
@@ -203,7 +203,7 @@ took c r rs h =
     let t = told c r (g .0) in
     record { good = g .0; follows = t .follows; doctor = t .doctor; value = t .value; rest = g .1 }
 
--- in front of the prescriptions there is no RP and no doctor; behind a 55 there is a doctor
+-- in front of the prescriptions there is no RP and no doctor; after a 55 there is a doctor
 abbrev vAt : ℕ → ℕ → ℕ
 vAt p v = cond (inFront p) 0 v
 
@@ -249,11 +249,11 @@ module _ (rs : List Facts) (ih : Shaped rs) (s : Core) (p : ℕ) (m : In p place
   abbrev now : Core
   now = at s p v c
 
-  -- a record of number n is put before what is still to come behind it
+  -- a record of number n is put before what is still to come after it
   abbrev Step : ℕ → Type 0
   Step n = runs now (rec n b ∷ rs) ≡ true → Rest p (vAt p v) (cAt p c) (rec n b ∷ rs)
 
-  -- what is still to come behind it
+  -- what is still to come after it
   then : (n : ℕ) → member places n ≡ true → runs (at (next now (rec n b)) n (vAt p v) (cAt p c)) rs ≡ true → Rest n (vAt n (vAt p v)) (cAt n (cAt p c)) rs
   then n e z = ih (next now (rec n b)) n (member-in n places e) (vAt p v) (cAt p c) z
 

@@ -23,7 +23,7 @@ use Rattle.verdict.proofs.Steps.{at-end, at-5, at-701, at-11, at-15, at
 use Rattle.verdict.proofs.Steps.{head-end, head-1, head-2, head-3, head-4, head-5, head-701}
 use Rattle.verdict.proofs.Prescriptions.{Behind, rp-read, plain-read, later-read, usages}
 
--- ---- behind the prescriptions
+-- ---- after the prescriptions
 
 module _ (o : Bool) (d : ℕ) (K : Bool) where
   -- the group may close, and what follows says K
@@ -168,21 +168,21 @@ module _ (o : Bool) (d : ℕ) (K : Bool) (g : Group) (rs : List Facts) (h : Clos
 abbrev groupGood : Bool → Group → Bool
 groupGood o g = names o g && (o ⇒ providerAsks g)
 
--- a group behind its 5
+-- a group after its 5
 group-read : (o : Bool) (d : ℕ) (K : Bool) (rs : List Facts) → Closes o d K toEnd rs → (g : Group) → values g ≡ true
     → runs (st o 5 d false 0 false false 0 false false)
     (opt 11 (g .r11) (opt 15 (g .r15) (opt 51 (g .r51) (prescriptionsRecords (g .prescriptions) (restRecords g rs)))))
     ≡ (groupGood o g && K)
 group-read o d K rs h g w = rw (member-left (1 ∷ 3 ∷ []) (scheduleOf (g .r11))) (read-11 o d K g rs h (g .prescriptions) w (g .r51) (g .r15) (g .r11))
 
--- the groups behind one of day d
+-- the groups after one of day d
 abbrev groupsGood : Bool → ℕ → List Group → Bool
 groupsGood o d [] = true
 groupsGood o d (g ∷ gs) = leb (g .r5 .day) d && (groupGood o g && groupsGood o (g .r5 .day) gs)
 
 -- ---- 701s and the end
 
--- behind a group any 701s are good, and so is the end
+-- after a group any 701s are good, and so is the end
 more-701 : (o : Bool) (d : ℕ) (e : Bool) (k : ℕ) (f i : Bool) (v : ℕ) (u c : Bool) (bs : List Details) → runs (st o 701 d e k f i v u c) (anyOf 701 bs []) ≡ true
 unfolding orderRefusal pairBroken misplaced missing valueWrong newerGroup mayFollow inGroup continues closesRp lacking unfinished
 more-701 o d e k f i v u c [] =

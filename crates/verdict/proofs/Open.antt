@@ -77,7 +77,7 @@ abbrev pub noLater55 : List Later → Bool
 noLater55 [] = true
 noLater55 (l ∷ ls) = not (stands (l .r55)) && noLater55 ls
 
--- behind an RP of value v; c: a doctor was named
+-- after an RP of value v; c: a doctor was named
 pub record FromLater (v : ℕ) (c : Bool) (rs : List Facts) : Type 0 where
   pub ls : List Later
   pub left : List Facts

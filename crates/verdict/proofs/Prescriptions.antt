@@ -1,5 +1,5 @@
 -- What the small machine says of a prescription and of the prescriptions of a group: one equation for each part. Each has the form "if what
--- follows says W behind this part, then part and rest say the part's conditions and W". RP values are given; they decide the tree. Assumes nothing.
+-- follows says W after this part, then part and rest say the part's conditions and W". RP values are given; they decide the tree. Assumes nothing.
 use Prim.Native.Nat.{ℕ, _+_}
 use native.Mathlib.Omega.{arith}
 use mathlib.Core.Path.{_≡_, refl, ap, _∙_}
@@ -41,7 +41,7 @@ pub above : (v : ℕ) → eqb (v + 1) 0 ≡ false
 above v = ne-eqb _ _ (λ (z : v + 1 ≡ 0). omega arith)
 
 module _ (o : Bool) (d : ℕ) (e : Bool) (k : ℕ) (f i : Bool) where
-  -- behind an RP of value v: direction 1 asks for its 301, and what follows says W
+  -- after an RP of value v: direction 1 asks for its 301, and what follows says W
   abbrev pub Behind : ℕ → Bool → Bool → List Facts → Type 0
   Behind v c W rs = (p : ℕ) → In p rpPlaces → (u : Bool) → runs (st o p d e k f i v u c) rs ≡ ((o ⇒ u) && W)
 
@@ -65,7 +65,7 @@ module _ (o : Bool) (d : ℕ) (e : Bool) (k : ℕ) (f i : Bool) where
       (λ p m. notes v true c W rs h bs g p (among rpPlaces refl m))
       (y .r311s) (w2 .1) 301 (there here))
 
-  -- the 281s and 291s of a drug, behind its 201
+  -- the 281s and 291s of a drug, after its 201
   one-drug : (v : ℕ) (c W : Bool) (rs : List Facts) → ((p : ℕ) → In p drugPlaces → runs (st o p d e k f i v false c) rs ≡ W)
       → (xs bs : List Details) → allOf (valued v) xs ≡ true → allOf (valued v) bs ≡ true
       → runs (st o 201 d e k f i v false c) (anyOf 281 xs (anyOf 291 bs rs)) ≡ W
@@ -111,11 +111,11 @@ module _ (o : Bool) (d : ℕ) (e : Bool) (k : ℕ) (f i : Bool) where
       (more-drugs (v + 1) c _ _ (usage-read (v + 1) c W rs h (x .usage) (g6 .0) (x .r391s) (g6 .1)) (x .drugs) (g5 .0))
       (y .r281s) (y .r291s) (g4 .0) (g4 .1))
 
-  -- what the RPs behind the first ask: usage names, and 301s in direction 1
+  -- what the RPs after the first ask: usage names, and 301s in direction 1
   abbrev pub usages : List Prescription → Bool
   usages ps = allNamed o k ps && (o ⇒ each301 ps)
 
-  -- an RP behind another, with what it asks put to what the RPs behind it ask
+  -- an RP after another, with what it asks put to what the RPs after it ask
   joined : (x : Prescription) (ps : List Prescription) (v : ℕ) (u c W : Bool) (rs : List Facts) → oneValue (v + 1) x ≡ true
       → Behind (v + 1) c (usages ps && W) rs → (p : ℕ) → In p rpPlaces
       → runs (st o p d e k f i v u c) (rpRecords x rs) ≡ ((o ⇒ u) && (usages (x ∷ ps) && W))
@@ -155,7 +155,7 @@ module _ (o : Bool) (d : ℕ) (e : Bool) (k : ℕ) (f i : Bool) where
           (λ u n s m a W. u && (((n && m) && (s && a)) && W)) refl u n s m a W
       so false u t n s m a z = taut 3 (λ n m W. n && ((m && true) && W)) (λ n m W. ((n && m) && true) && W) refl n m W
 
-  -- with doctors, behind the first RP
+  -- with doctors, after the first RP
   pub later-read : (W : Bool) (rs : List Facts) → (o ⇒ not (treats k)) ≡ true → ((v : ℕ) → eqb v 0 ≡ false → Behind v true W rs)
       → (ls : List Later) (v : ℕ) → eqb v 0 ≡ false → valuesFrom (v + 1) (laterOnes ls) ≡ true → Behind v true (usages (laterOnes ls) && W) (laterRecords ls rs)
   later-read W rs t h [] v z g p m u = nothing-more true W rs v (h v z) p m u

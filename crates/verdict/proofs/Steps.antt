@@ -108,7 +108,7 @@ headPlaces = 4 ∷ 3 ∷ 2 ∷ 1 ∷ 0 ∷ []
 
 -- ---- what is asked
 
--- direction 1: behind a 51 stand prescriptions, and an RP has its 301
+-- direction 1: after a 51 stand prescriptions, and an RP has its 301
 abbrev pub rpOver : Bool → ℕ → Bool → Bool
 rpOver o p u = o ⇒ not (eqb p 51 || inRp p && not u)
 
@@ -250,7 +250,7 @@ module _ {p : ℕ} (o : Bool) (d : ℕ) (e : Bool) (k : ℕ) (f i : Bool) (v : �
         at-each 3 (λ p o z u. sound (bf o p e (eqb k 4) (treats k) f i z u c) (asking 401 d v b))
         (λ p o z u. rpOver o p u && (o ⇒ not z)) refl m o (eqb v 0) u
 
-    -- the records behind the 401s ask only that the RP be over
+    -- the records after the 401s ask only that the RP be over
     module _ (n : ℕ) (xs : List ℕ) where
       at-rest : every (λ p. agree 2 (λ o u. sound (bf o p e (eqb k 4) (treats k) f i (eqb v 0) u c) (asking n d v b)) (λ o u. rpOver o p u)) xs ≡ true
           → In p xs → taken (st o p d e k f i v u c) (rec n b) ≡ rpOver o p u
@@ -269,7 +269,7 @@ module _ {p : ℕ} (o : Bool) (d : ℕ) (e : Bool) (k : ℕ) (f i : Bool) (v : �
     unfolding orderRefusal pairBroken misplaced missing valueWrong newerGroup mayFollow inGroup continues closesRp lacking
     at-601 = at-rest 601 toEnd refl
 
--- ---- before the groups, and behind them
+-- ---- before the groups, and after them
 
 -- record 1 has stood, where it is asked for
 abbrev pub oneStood : Bool → ℕ → Bool

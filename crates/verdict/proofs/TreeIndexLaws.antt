@@ -171,7 +171,7 @@ index-is-the-trees s b t e w =
 
 -- ---- no doctor of two groups
 
--- no doctor; or the doctor before, in the group before; or one named behind line l
+-- no doctor; or the doctor before, in the group before; or one named after line l
 abbrev Owned : ℕ → ℕ → ℕ → TreeRow → Type 0
 Owned l g c w = (w .doctor ≡ 0) ⊎ (((w .doctor ≡ c) × (w .group ≡ g)) ⊎ (l < w .doctor))
 
@@ -203,7 +203,7 @@ first-owned r l g c x = by (inRp (r .number)) refl
     by true q = let k = of-rp (r .number) g q in inr (inl (refl, rw (k .grouped, k .no-group)))
     by false q = inl refl
 
--- what is owned behind a record is owned before it
+-- what is owned after a record is owned before it
 before-owned : (n l g c : ℕ) (w : TreeRow)
     → Owned (l + 1) (cond (eqb n 5) (g + 1) g) (cond (eqb n 5) 0 (cond (eqb n 55) (l + 1) c)) w → Owned l g c w
 before-owned n l g c w (inl e) = inl e
@@ -221,7 +221,7 @@ hand-owned (r ∷ rs) l g c a w here =
     first-owned r l g c (cond (member (281 ∷ 291 ∷ []) (r .number)) (cond (eqb (r .number) 5) 0 (cond (eqb (r .number) 201) (l + 1) a)) 0)
 hand-owned (r ∷ rs) l g c a w (there m) = before-owned (r .number) l g c w (hand-owned rs (l + 1) _ _ _ w m)
 
--- the first row's doctor, met again behind it
+-- the first row's doctor, met again after it
 first-shares : (n l g c : ℕ) (y : TreeRow) → c ≤ l → Owned (l + 1) (cond (eqb n 5) (g + 1) g) (cond (eqb n 5) 0 (cond (eqb n 55) (l + 1) c)) y
     → cond (inRp n) c 0 ≡ y .doctor → (cond (inRp n) c 0 ≡ 0 → ⊥) → cond (inGroup n) (cond (eqb n 5) (g + 1) g) 0 ≡ y .group
 first-shares n l g c y h o = by (inRp n) refl o

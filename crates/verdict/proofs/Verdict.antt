@@ -35,7 +35,7 @@ use Rattle.faults.proofs.RowsOf.{rows-line, FirstLine, first-line, mark-last}
 
 -- ---- records
 
--- a record that is taken, and those behind it
+-- a record that is taken, and those after it
 accepts-on : (s : State) (r : Facts) (rs : List Facts) → accepts s (r ∷ rs) ≡ true → (refusalOf s r ≡ 0) × (accepts (advance s r) rs ≡ true)
 unfolding accepts
 accepts-on s r rs h =
@@ -95,7 +95,7 @@ closed-good st recs e = go (eqb (finishOf st) 0) refl e
     go true q e = (eqb-true _ _ q, cc)
     go false q e = absurd (no-refusal e)
 
--- bytes behind line 1
+-- bytes after line 1
 record Parsed (st : State) (l : List ℕ) (recs : List Record) : Type 0 where
   lines : List (List ℕ)
   marked : Bool

@@ -31,7 +31,7 @@ MachineIsGrammar = (provider : Bool) (rs : List Facts) → RunsThrough provider 
 
 -- ---- bytes: a file that carries a notebook, with no reader
 
--- lines, each with its line end, and the bytes behind them
+-- lines, each with its line end, and the bytes after them
 abbrev pub linesThen : List (List ℕ) → List ℕ → List ℕ
 linesThen [] rest = rest
 linesThen (l ∷ ls) rest = l ++ (lineEnd ++ linesThen ls rest)

@@ -68,7 +68,7 @@ impl Row {
         format!("{call:<9}  {bytes:>6}  {code:<11}  {minimum:>10.3}  {median:>10.3}  {:>7.2}", self.per_byte())
     }
 
-    /// The row that a line shows; nothing for the head. What stands behind the median follows from the rest.
+    /// The row that a line shows; nothing for the head. What stands after the median follows from the rest.
     pub fn parse(line: &str) -> Option<Self> {
         let mut words = line.split_whitespace();
         let (call, bytes, code) = (words.next()?, words.next()?.parse().ok()?, words.next()?);

@@ -3,7 +3,7 @@
 use super::check::pass;
 use super::{stack, without_line, Refusal, Watcher, MOST_BYTES, SHORT};
 
-/// Writes the canonical file from the front of `out` on and answers its bytes; behind it and on a refusal `out` keeps its
+/// Writes the canonical file from the front of `out` on and answers its bytes; after it and on a refusal `out` keeps its
 /// contents.
 pub fn canonical(file: &[u8], out: &mut [u8]) -> Result<u64, Refusal> {
     with_canonical(file, |canonical| {

@@ -6,7 +6,7 @@ use super::{without_line, Pieces, Refusal, ID, NO_CUTTING, SHORT, TO_PATIENT};
 /// "A valid ID is 14 digits and nothing else."
 const ID_BYTES: usize = 14;
 
-/// Writes the pieces one after another from the front of `out` on and answers their count and total length; behind them and
+/// Writes the pieces one after another from the front of `out` on and answers their count and total length; after them and
 /// on a refusal `out` keeps its contents.
 pub fn cut(file: &[u8], capacity: u64, id: &[u8], out: &mut [u8]) -> Result<Pieces, Refusal> {
     with_canonical(file, |canonical| {
@@ -59,7 +59,7 @@ fn pack(records: &[u8], capacity: usize, width: usize) -> Option<(usize, usize)>
 }
 
 /// The bytes of as many records from the front of `rest` as fit into piece `k`; `None` if not even one does. Only the last
-/// of them is looked for, from behind.
+/// of them is looked for, from the back.
 #[inline]
 fn first_run(rest: &[u8], capacity: usize, width: usize, k: usize) -> Option<usize> {
     let room = capacity.checked_sub(frame(width, k))?.min(rest.len());

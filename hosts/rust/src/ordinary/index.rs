@@ -9,7 +9,7 @@ const ENTRY: usize = 6;
 /// "4,x,,2" with its line end: no accepted record is shorter.
 const SHORTEST_RECORD: usize = 8;
 
-/// Writes the entries of an accepted file from the front of `out` on and answers the count of records; behind the entries
+/// Writes the entries of an accepted file from the front of `out` on and answers the count of records; after the entries
 /// and on a refusal `out` keeps its contents.
 pub fn index(file: &[u8], out: &mut [u32]) -> Result<u64, Refusal> {
     // A longer file is refused before its first record.

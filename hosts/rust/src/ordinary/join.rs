@@ -11,7 +11,7 @@ const MOST_INPUT: usize = 131_072;
 /// "n (2–999, value)".
 const MOST_PIECES: usize = 999;
 
-/// Writes the joined file from the front of `out` on and answers its bytes; behind it and on a refusal `out` keeps its
+/// Writes the joined file from the front of `out` on and answers its bytes; after it and on a refusal `out` keeps its
 /// contents.
 pub fn join(input: &[u8], out: &mut [u8]) -> Result<u64, Refusal> {
     if input.len() > MOST_INPUT {

@@ -232,7 +232,7 @@ fn reference_join(input: &[u8]) -> Result<Vec<u8>, Refusal> {
     ends_with_check(&file, || file.clone())
 }
 
-/// What a call leaves in a buffer of `length`: the result, and behind it what stood there.
+/// What a call leaves in a buffer of `length`: the result, and after it what stood there.
 fn left<T: Copy>(result: &[T], length: usize, filling: T) -> Vec<T> {
     result.iter().copied().chain(std::iter::repeat_n(filling, length - result.len())).collect()
 }
