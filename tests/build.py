@@ -36,7 +36,7 @@ $ notebook join piece-3 piece-1 piece-2 > joined.csv
 $ cmp joined.csv canonical.csv
 """
 
-# A program of somebody else: the crate, and a call of the library that the crate does not have.
+# A program of somebody else.
 CARGO_TOML = """\
 [workspace]
 
@@ -48,14 +48,10 @@ edition = "2021"
 notebook = { path = "notebook" }
 """
 MAIN_RS = """\
-extern "C" {
-    fn notebook_version() -> u64;
-}
-
 fn main() {
     let file = std::fs::read("visit.csv").expect("the sample");
     let checked = notebook::check(&file).expect("an accepted file");
-    println!("{} {} {} {}", checked.records, checked.groups, checked.drugs, unsafe { notebook_version() });
+    println!("{} {} {} {}", checked.records, checked.groups, checked.drugs, notebook::version());
 }
 """
 

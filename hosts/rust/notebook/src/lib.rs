@@ -223,6 +223,12 @@ pub fn join_into(pieces: &[u8], out: &mut [u8]) -> Result<usize, Refusal> {
     written(raw::join(pieces, out))
 }
 
+/// The version of the library that is linked, as 10,000 times the major, 100 times the minor, and the patch: 200 is 0.2.0.
+#[inline]
+pub fn version() -> u64 {
+    raw::version()
+}
+
 fn written(reply: raw::Reply) -> Result<usize, Refusal> {
     Refusal::of(reply).map_or(Ok(reply.a as usize), Err)
 }
@@ -288,6 +294,12 @@ mod tests {
         assert_eq!(index(&large).unwrap_err().to_string(), "no 1 0: large");
         assert_eq!(cut(&large, 0, "").unwrap_err().to_string(), "no 1 0: large");
         assert_eq!(join(&vec![0; MOST_JOIN_BYTES + 1]).unwrap_err().to_string(), "no 1 0: large");
+    }
+
+    #[test]
+    fn library_and_crate_are_of_one_version() {
+        let parts = env!("CARGO_PKG_VERSION").split('.').map(|part| part.parse::<u64>().expect("a number"));
+        assert_eq!(version(), parts.fold(0, |number, part| number * 100 + part));
     }
 
     #[test]

@@ -31,6 +31,7 @@ extern "C" {
         out_len: usize,
     ) -> Reply;
     fn notebook_join(pieces: *const u8, pieces_len: usize, out: *mut u8, out_len: usize) -> Reply;
+    fn notebook_version() -> u64;
 }
 
 /// `a` records, `b` groups, `c` drugs.
@@ -67,6 +68,13 @@ pub fn cut(file: &[u8], capacity: u64, id: &[u8], out: &mut [u8]) -> Reply {
 pub fn join(pieces: &[u8], out: &mut [u8]) -> Reply {
     // SAFETY: as in `index`.
     unsafe { notebook_join(pieces.as_ptr(), pieces.len(), out.as_mut_ptr(), out.len()) }
+}
+
+/// 10,000 times the major, 100 times the minor, and the patch.
+#[inline]
+pub fn version() -> u64 {
+    // SAFETY: the call takes nothing and answers a number.
+    unsafe { notebook_version() }
 }
 
 /// Entries as the numbers that they consist of.
