@@ -6,6 +6,8 @@
 //! stage answers a refusal number, lowest first. Cutting packs the canonical file; joining puts a file together and checks it.
 
 mod canonical;
+#[cfg(test)]
+mod cases;
 mod characters;
 mod check;
 mod cut;
