@@ -285,13 +285,20 @@ def small_stack(folder):
     same("the joined file", (done.status, done.out), (0, tools.canonical(VISIT)))
 
 
+def little_time(folder):
+    """A limit on processor time, which the system tells by a signal."""
+    write(folder, {"a.csv": notes(8000), "list": b"a.csv\0" * 100000})
+    done = run("notebook check --quiet --files0-from list", folder, limits="ulimit -St 1;")
+    same("standard output", (done.status, done.out), (2, b""))
+
+
 def no_core(folder):
     """The limit is read while the command waits for its input."""
     words = tools.in_shell(tools.program("notebook check -"), limits="ulimit -c unlimited;")
     child = subprocess.Popen(words, stdin=subprocess.PIPE, stdout=subprocess.PIPE, env=tools.environment())
     limit = None
     try:
-        for _ in range(100):
+        for _ in range(2000):
             with open("/proc/%d/limits" % child.pid) as file:
                 limit = next(line.split()[4] for line in file if line.startswith("Max core file size"))
             if limit == "0":
@@ -320,5 +327,5 @@ def tests():
         + named(few_files, (4, 5, 6, 8, 12), lambda most: "%d open files" % most)
         + [("999 pieces with 1024 open files", most_pieces)]
         + named(file_size, FILE_SIZES, lambda row: "%s %s, files of at most %d bytes" % row)
-        + [("a stack of 256 kilobytes", small_stack), ("no core", no_core)]
+        + [("a stack of 256 kilobytes", small_stack), ("a second of processor time", little_time), ("no core", no_core)]
     )

@@ -2,6 +2,7 @@
 
 import functools
 import os
+import re
 import subprocess
 
 from outside import jobs, tools
@@ -10,7 +11,7 @@ from outside.tools import ID, SMALL, SMALL_CANONICAL, has_status, holds, objects
 # name as bytes, as it is shown in text
 SHOWN = {
     "plain": (b"a b.csv", "a b.csv"),
-    "a line end": (b"a\nb.csv: ok 1 0 0", "a\\nb.csv: ok 1 0 0"),
+    "a line end": (b"a\nb.csv: ok 1 0 0", "a\\nb.csv\\x3a ok 1 0 0"),
     "a carriage return": (b"a\rb", "a\\rb"),
     "a tab": (b"a\tb", "a\\tb"),
     "a backslash": (b"a\\nb", "a\\\\nb"),
@@ -175,22 +176,33 @@ def name_escaped(folder):
     holds("standard error: %r" % done.err, done.err.startswith(b"notebook: \\xff: "))
 
 
-FILTER = """answer=$(%s check --name attachment -- "$1")
-case $? in 0) exit 0 ;; 1) echo "notebook refused: $answer" >&2; exit 69 ;; *) exit 75 ;; esac"""
+def shown_filters():
+    """The two filters of docs/OPERATING.md, of the command and of the program."""
+    with open(os.path.join(tools.ROOT, "docs/OPERATING.md"), encoding="utf-8") as opened:
+        blocks = re.findall(r"(?m)^    answer=(?:.*\n    )+esac$", opened.read())
+    same("filters that are shown", [block.split()[0] for block in blocks], ["answer=$(notebook", "answer=$(notecheck"])
+    return blocks
+
+
+# A path, the name that the sender gave, the filter's status, and what the sender is told by the command and by the program.
+FORGED = "x\nnotebook refused: forged"
+FILTERED = (
+    (PATH, "a.csv", 0, b"", b""),
+    ("secret/refused.csv", "a.csv", 69, b"notebook refused: a.csv: no 3 1: version\n", b"notebook refused: no 3 1\n"),
+    ("secret/refused.csv", FORGED, 69, b"notebook refused: x\\nnotebook refused\\x3a forged: no 3 1: version\n", b"notebook refused: no 3 1\n"),
+    ("secret", "a.csv", 75, b"notebook: a.csv: Is a directory (os error 21)\n", b"error read\n"),
+)
 
 
 def filtered(folder):
-    """The filter that docs/OPERATING.md shows, with what a sender is told."""
+    """The filters as they are shown, but for the name: an attachment's own."""
     write(folder, FILES)
-    script = FILTER % os.path.join(tools.place["command"], "notebook")
-    for path, status, err in (
-        (PATH, 0, b""),
-        ("secret/refused.csv", 69, b"notebook refused: attachment: no 3 1: version\n"),
-        ("secret/nofile", 75, None),
-    ):
-        done = subprocess.run(["sh", "-c", script, "sh", path], cwd=folder, capture_output=True, timeout=tools.LIMIT)
-        same("status of the filter for " + path, done.returncode, status)
-        holds("standard error: %r" % done.stderr, err in (None, done.stderr) and b"secret" not in done.stderr)
+    for at, script in enumerate(shown_filters()):
+        script = 'file=$1 sent=$2 PATH=$3:$PATH\n' + script.replace("--name attachment", '--name "$sent"')
+        for path, sent, status, *told in FILTERED:
+            folders = tools.place["command"] + ":" + tools.place["programs"]
+            done = subprocess.run(["sh", "-c", script, "sh", path, sent, folders], cwd=folder, capture_output=True, timeout=tools.LIMIT)
+            same("filter %d for %s" % (at, path), (done.returncode, done.stderr), (status, told[at]))
 
 
 def tests():

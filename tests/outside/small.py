@@ -1,5 +1,6 @@
 """Options and small things: --quiet, --summary, --files0-from, what a folder's run leaves out, errors in json, the bar on narrow terminals."""
 
+import errno
 import fcntl
 import functools
 import os
@@ -38,17 +39,17 @@ OPTIONS = [
      "e.csv: no 3 1: version\n" + REFUSED + "4 files: 1 accepted, 3 refused, 0 failed\nno 3: version: 1\nno 11: form: 2\n", ""),
     ("index --quiet --summary d", 1, REFUSED + SUMMARY, ""),
     ("check --json --quiet --summary d/a.csv", 0,
-     '{"summary":{"files":1,"accepted":1,"refused":0,"failed":0,"refusals":{}}}\n', ""),
+     '{"summary":{"files":1,"accepted":1,"refused":0,"failed":0,"skipped":0,"refusals":{}}}\n', ""),
     ("check --json --quiet --summary d/a.csv e.csv", 1,
      '{"file":"e.csv","ok":false,"number":3,"word":"version","line":1}\n'
-     '{"summary":{"files":2,"accepted":1,"refused":1,"failed":0,"refusals":{"3":1}}}\n', ""),
+     '{"summary":{"files":2,"accepted":1,"refused":1,"failed":0,"skipped":0,"refusals":{"3":1}}}\n', ""),
     ("check --json --summary --quiet nofile", 2,
-     '{"file":"nofile","error":"[^\n]+"}\n{"summary":{"files":1,"accepted":0,"refused":0,"failed":1,"refusals":{}}}\n', ""),
+     '{"file":"nofile","error":"[^\n]+"}\n{"summary":{"files":1,"accepted":0,"refused":0,"failed":1,"skipped":0,"refusals":{}}}\n', ""),
     ("canonical --to out --quiet d/a.csv", 0, "", ""),
     ("canonical --to out --quiet --summary d", 1, SUMMARY, REFUSED),
     ("canonical --to out --summary d/a.csv", 0, "d/a.csv: ok 35\n1 file: 1 accepted, 0 refused, 0 failed\n", ""),
     ("canonical --to out --json --quiet --summary d/a.csv nofile", 2,
-     '{"summary":{"files":2,"accepted":1,"refused":0,"failed":1,"refusals":{}}}\n', '{"file":"nofile","error":"[^\n]+"}\n'),
+     '{"summary":{"files":2,"accepted":1,"refused":0,"failed":1,"skipped":0,"refusals":{}}}\n', '{"file":"nofile","error":"[^\n]+"}\n'),
     ("join --quiet d/a.csv", 2, "", "notebook: .+"),
     ("cut --summary --capacity 9 --id %s d/a.csv" % ID, 2, "", "notebook: .+"),
     ("check d/a.csv", 0, "d/a.csv: ok 1 0 0\n", ""),
@@ -113,9 +114,8 @@ def no_names(row, folder):
 # --- what a folder's run leaves out ---
 
 PART = ".notebook-0123456789abcdef.part"
-LEFT_OUT = {"d/a.csv": SMALL, "d/link": "a.csv", "d/dangling": "nowhere", "d/round": ".", "d/" + PART: SMALL}
-SKIPPED = {"d/link": "a symbolic link", "d/dangling": "a symbolic link", "d/round": "a symbolic link", "d/fifo": "not a regular file",
-           "d/" + PART: "a part that a run has left"}
+LEFT_OUT = {"d/a.csv": SMALL, "d/link": "a.csv", "d/dangling": "nowhere", "d/round": "."}
+SKIPPED = {"d/link": "a symbolic link", "d/dangling": "a symbolic link", "d/round": "a symbolic link", "d/fifo": "not a regular file"}
 
 
 def left_out(folder):
@@ -134,6 +134,13 @@ def left_out_in_json(folder):
         has_status(done, 0)
         found = objects(getattr(done, where))
         same("skipped", {one["file"]: one["skipped"] for one in found if "skipped" in one}, SKIPPED)
+
+
+def like_a_part(folder):
+    """What has the name of a part is no input: it may be the half of a file, and must not pass unseen."""
+    write(folder, {"d/a.csv": SMALL, "d/" + PART: SMALL})
+    done = run("notebook check d", folder)
+    same("check", done, (2, b"d/a.csv: ok 1 0 0\n", b"notebook: d/%s: named like a part that a run has left\n" % PART.encode()))
 
 
 def named_link(folder):
@@ -215,9 +222,10 @@ def terminal_run(columns, folder):
     words = tools.program("notebook check --jobs 1 wait d")
     child = subprocess.Popen(words, cwd=folder, env=tools.environment(), stdin=subprocess.DEVNULL, stdout=subprocess.DEVNULL, stderr=theirs)
     os.close(theirs)
-    time.sleep(1.2)
-    with open(os.path.join(folder, "wait"), "wb") as pipe:
-        pipe.write(SMALL)
+    pipe = opened_by_reader(os.path.join(folder, "wait"))
+    time.sleep(1)  # a bar is drawn after less
+    os.write(pipe, SMALL)
+    os.close(pipe)
     written = read_all(ours)
     status = child.wait(timeout=tools.LIMIT)
     os.close(ours)
@@ -225,9 +233,21 @@ def terminal_run(columns, folder):
     return written
 
 
+def opened_by_reader(path):
+    """A pipe, open for writing, once somebody has opened it for reading."""
+    end = time.monotonic() + tools.LIMIT
+    while time.monotonic() < end:
+        try:
+            return os.open(path, os.O_WRONLY | os.O_NONBLOCK)
+        except OSError as error:
+            same("the error of opening a pipe", error.errno, errno.ENXIO)
+        time.sleep(0.01)
+    raise Wrong("nobody reads %s" % path)
+
+
 def read_all(terminal):
     written, end = b"", time.monotonic() + tools.LIMIT
-    while time.monotonic() < end and select.select([terminal], [], [], 1)[0]:
+    while time.monotonic() < end and select.select([terminal], [], [], tools.LIMIT)[0]:
         try:
             got = os.read(terminal, 4096)
         except OSError:  # the other side is closed
@@ -277,7 +297,7 @@ def tests():
         [(row[0].replace(ID, "ID"), partial(option, row)) for row in OPTIONS]
         + [("names from a list", names_from), ("names from a list for join", names_from_join)]
         + [("no names: %s %s" % (row[0].replace(ID, "ID"), row[1]), partial(no_names, row)) for row in NO_NAMES]
-        + [("left out of a folder", left_out), ("left out of a folder, in json", left_out_in_json)]
+        + [("left out of a folder", left_out), ("left out of a folder, in json", left_out_in_json), ("named like a part", like_a_part)]
         + [("a link that is named", named_link), ("a report in the folder", report_in_folder), ("an earlier report", input_is_no_report)]
         + [("%s %s: an object" % (row[0].replace(ID, "ID"), row[1]), partial(error_in_json, row)) for row in ERRORS]
         + [("options in the help", options_in_help)]

@@ -102,14 +102,22 @@ def obstacle(job, put, folder):
 OUTPUT = jobs.WRITING[2]
 
 
-def longer_part(path):
+def put_file(path, held):
     with open(path, "wb") as file:
-        file.write(b"x" * 10000)
+        file.write(held)
 
 
 def readable_part(path):
-    longer_part(path)
+    put_file(path, OUTPUT.made["c.csv"][:20])
     os.chmod(path, 0o666)
+
+
+def longer_file(path):
+    put_file(path, OUTPUT.made["c.csv"] + b"x")
+
+
+def other_file(path):
+    put_file(path, b"x")
 
 
 def linked_part(path):
@@ -124,12 +132,13 @@ def second_name_as_part(path):
     os.link(os.path.join(os.path.dirname(path), "victim"), path)
 
 
-PLANTED = {longer_part: True, readable_part: True, linked_part: False, dangling_part: False, second_name_as_part: False, os.mkdir: False,
+PLANTED = {readable_part: True, longer_file: False, other_file: False, linked_part: False, dangling_part: False, second_name_as_part: False, os.mkdir: False,
            os.mkfifo: False}
 
 
 def planted(put, works, folder):
-    """Something else is put where a killed run has left its part. Nothing but a part is written to; the result has its bytes and its mode."""
+    """Something else is put where a killed run has left its part. Nothing but a part is written to or removed; the result has its bytes and its
+    mode."""
     OUTPUT.prepare(folder)
     tools.write(folder, {"victim": b"kept"})
     has_status(run(OUTPUT.line, folder, fault="renameat2 1 before"), -9)
@@ -137,9 +146,12 @@ def planted(put, works, folder):
     holds("no part is left", part)
     os.remove(os.path.join(folder, part))
     put(os.path.join(folder, part))
+    before = tools.tree(folder)[part]
     done = run(OUTPUT.line, folder)
     has_status(done, *((0,) if works else (0, 2)))
     found = tools.tree(folder)
+    if put in (longer_file, other_file):
+        same("what was put there", (done.status, found.get(part)), (2, before))
     same("the victim", found["victim"], b"kept")
     same("whether there is something else", found.keys() - {"a.csv", "victim", "c.csv", part}, set())
     same("whether the file is there", "c.csv" in found, done.status == 0)

@@ -19,7 +19,7 @@ fn quiet_and_summary() {
     let folder = place("quiet");
     let refused = "no-day: no 11 2: form\nno-version: no 3 1: version\n";
     let counts = "3 files: 1 accepted, 2 refused, 0 failed\nno 3: version: 1\nno 11: form: 1\n";
-    let object = "{\"summary\":{\"files\":3,\"accepted\":1,\"refused\":2,\"failed\":0,\"refusals\":{\"3\":1,\"11\":1}}}\n";
+    let object = "{\"summary\":{\"files\":3,\"accepted\":1,\"refused\":2,\"failed\":0,\"skipped\":0,\"refusals\":{\"3\":1,\"11\":1}}}\n";
     let all = "good no-day no-version";
     let cases: [(String, i32, String); 7] = [
         (format!("check --quiet {all}"), 1, refused.into()),
@@ -38,10 +38,10 @@ fn quiet_and_summary() {
     let counts = counts.replace("3 files", "4 files").replace("0 failed", "1 failed");
     assert_eq!(to, (2, counts, format!("{refused}{failed}")));
     assert_eq!(names(&folder.join("out")), ["good"]);
-    // What is left out of a folder is no file.
+    // What is left out of a folder is counted apart.
     std::os::unix::fs::symlink("good", folder.join("link")).expect("a link is made");
     let (_, out, _) = shell(&folder, "rm -r out; notebook check --summary --quiet .");
-    assert!(out.contains("3 files: 1 accepted, 2 refused, 0 failed\n"), "{out}");
+    assert!(out.contains("3 files: 1 accepted, 2 refused, 0 failed; 1 skipped\n"), "{out}");
 }
 
 #[test]

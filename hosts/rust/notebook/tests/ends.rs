@@ -146,7 +146,7 @@ fn no_core() {
         let core = limits.lines().find_map(|line| line.strip_prefix("Max core file size"));
         core.is_some_and(|core| core.split_whitespace().eq(["0", "0", "bytes"]))
     };
-    let waited = (0..200).any(|_| {
+    let waited = (0..2000).any(|_| {
         std::thread::sleep(std::time::Duration::from_millis(10));
         is_none(limits())
     });

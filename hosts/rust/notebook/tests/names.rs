@@ -11,7 +11,7 @@ use std::os::unix::net::UnixListener;
 
 /// Names that would forge lines or move the cursor, and how text shows them.
 const FORGING: [(&[u8], &str); 5] = [
-    (b"a: ok 1 0 0\nb", "a: ok 1 0 0\\nb"),
+    (b"a: ok 1 0 0\nb", "a\\x3a ok 1 0 0\\nb"),
     (b"c\x1b[2K\rd\t\x7f", "c\\x1b[2K\\rd\\t\\x7f"),
     (b"e\\n\xff\xe8\x96", "e\\\\n\\xff\\xe8\\x96"),
     ("f\u{9b}2J\u{85}".as_bytes(), "f\\u{009b}2J\\u{0085}"),
@@ -60,16 +60,12 @@ fn names_in_objects() {
 #[test]
 fn what_a_folder_leaves_out_is_told() {
     let folder = folder("skipped");
-    for name in ["a.csv", "z.csv", ".notebook-0123456789abcdef.part"] {
+    for name in ["a.csv", "z.csv"] {
         write(folder.join(name), SMALL);
     }
     symlink(".", folder.join("circle")).expect("a link is made");
     let _socket = UnixListener::bind(folder.join("socket")).expect("a socket is made");
-    let reasons = [
-        (".notebook-0123456789abcdef.part", "a part that a run has left"),
-        ("circle", "a symbolic link"),
-        ("socket", "not a regular file"),
-    ];
+    let reasons = [("circle", "a symbolic link"), ("socket", "not a regular file")];
     let lines: String = reasons.iter().map(|(name, why)| format!("notebook: ./{name}: skipped: {why}\n")).collect();
     let out = "./a.csv: ok 1 0 0\n./z.csv: ok 1 0 0\n";
     assert_eq!(told(run_in(&folder, b"", &["check", "."])), (0, out.into(), lines.clone()));
@@ -88,6 +84,42 @@ fn what_a_folder_leaves_out_is_told() {
     let joined = String::from_utf8_lossy(SMALL_CANONICAL).replace("H010108", "19890108");
     assert_eq!(told(run_in(&folder, b"", &["join", "."])), (0, joined.clone(), lines));
     assert_eq!(told(run_in(&folder, b"", &["join", "--json", "."])).2, objects.concat());
+}
+
+#[test]
+fn a_file_named_like_a_part_is_never_passed_over() {
+    const PART: &str = ".notebook-af63dc4c8601ec8c.part"; // that of `a`
+    let folder = folder("like-a-part");
+    fs::create_dir(folder.join("in")).expect("a folder is made");
+    write(folder.join("in/a"), SMALL);
+    write(folder.join("in").join(PART), SMALL);
+    let line = format!("notebook: in/{PART}: named like a part that a run has left\n");
+    let (status, out, err) = shell(&folder, "notebook check --summary in");
+    assert_eq!((status, err), (2, line.clone()));
+    assert_eq!(out, "in/a: ok 1 0 0\n2 files: 1 accepted, 0 refused, 1 failed\n");
+    assert_eq!(shell(&folder, &format!("notebook canonical --output in/b in/{PART}")), (2, "".into(), line));
+    let call = format!("notebook canonical --output out/{PART} in/a");
+    let line = format!("notebook: out/{PART}: named like a part that a run has left\n");
+    assert_eq!(shell(&folder, &call), (2, "".into(), line));
+    // The part of `a` is in the way, and is kept.
+    fs::remove_file(folder.join("in/a")).expect("it is removed");
+    write(folder.join("b"), SMALL);
+    assert_eq!(shell(&folder, "notebook canonical --output in/a b").0, 2);
+    assert_eq!(fs::read(folder.join("in").join(PART)).expect("it is there"), SMALL);
+}
+
+#[test]
+fn a_run_does_not_read_what_it_has_written() {
+    let folder = folder("again");
+    fs::create_dir(folder.join("d")).expect("a folder is made");
+    write(folder.join("d/a.csv"), SMALL);
+    for _ in 0..2 {
+        assert_eq!(shell(&folder, "notebook canonical --to d/out d").0, 0);
+        assert_eq!(shell(&folder, "notebook join --output d/out/joined d/out").0, 0);
+    }
+    assert!(!folder.join("d/out/out").exists());
+    let told = "notebook: d/out/joined: skipped: the output of this run\n";
+    assert_eq!(shell(&folder, "notebook join --output d/out/joined d/out").2, told);
 }
 
 #[test]

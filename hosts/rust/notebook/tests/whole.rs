@@ -96,9 +96,15 @@ fn what_is_there_is_asked_first() {
         fs::rename(out.join(format!("p-{k}")), out.join(part(&format!("p-{k}")))).expect("it is renamed");
     }
     // A part beside its file: a run that was second, and was killed.
-    write(out.join(part("p-1")), "x");
+    write(out.join(part("p-1")), "J");
     assert_eq!(shell(&out, CUT), (0, expected.into(), "".into()));
     assert!(has_six(&out), "{:?}", names(&out));
+    // A run that has given its name and is not done may still fail, and remove it.
+    let in_use = File::open(out.join("p-4")).expect("it is there");
+    in_use.lock().expect("it is locked");
+    assert_eq!(shell(&out, CUT), (2, "".into(), "notebook: p-4: in use by another run\n".into()));
+    in_use.unlock().expect("it is unlocked");
+    assert_eq!(shell(&out, CUT).0, 0);
 }
 
 #[test]
@@ -128,16 +134,25 @@ fn nothing_is_written_over() {
 #[test]
 fn a_part_is_taken_over_unless_a_run_has_it() {
     let out = place("part");
-    write(out.join(part("p-3")), "left by a run that was killed");
+    // A beginning of each piece.
+    write(out.join(part("p-3")), "JAHISTC04,2\r\n");
     fs::set_permissions(out.join(part("p-3")), fs::Permissions::from_mode(0o644)).expect("the mode is set");
     let in_use = File::create(out.join(part("p-5"))).expect("a file is made");
     in_use.lock().expect("it is locked");
     assert_eq!(shell(&out, CUT), (2, "".into(), "notebook: p-5: in use by another run\n".into()));
     assert_eq!(names(&out), [part("p-5")]);
+    // A child of another test may still hold the descriptor.
+    in_use.unlock().expect("it is unlocked");
     drop(in_use);
     assert_eq!(shell(&out, CUT).0, 0);
     assert!(has_six(&out) && (1..=6).all(|k| mode(&out.join(format!("p-{k}"))) == 0o600));
-    // A link in its place is nobody's part.
+    // What is no beginning of the piece is nobody's part, nor is a link.
+    let out = place("part-other");
+    write(out.join(part("p-3")), "another file");
+    let (status, _, err) = shell(&out, CUT);
+    assert_eq!((status, err), (2, format!("notebook: p-3: ./{}: in the way, and no part of this file\n", part("p-3"))));
+    assert_eq!(names(&out), [part("p-3")]);
+    assert_eq!(fs::read(out.join(part("p-3"))).expect("it is there"), b"another file");
     let out = place("part-link");
     write(out.join("../other"), "another file");
     symlink("../other", out.join(part("p-1"))).expect("a link is made");

@@ -77,11 +77,6 @@ const FOR_ONE: [&str; 2] = ["--name", "--output"];
 
 pub const STDIN_TWICE: &str = "standard input can be read only once";
 
-/// Whether objects are asked for, though the rest may be wrong.
-pub fn asks_for_json(words: &[OsString]) -> bool {
-    words.iter().take_while(|word| *word != "--").any(|word| word == "--json")
-}
-
 pub fn parse(words: Vec<OsString>) -> Result<Parsed, String> {
     let mut words = words.into_iter();
     let word = words.next().ok_or("a subcommand is missing")?;

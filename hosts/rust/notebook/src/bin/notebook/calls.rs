@@ -114,7 +114,7 @@ fn counted(name: &OsStr, cut: &Cut) -> Object {
 /// The files' bytes, one after another, are the pieces.
 pub fn join(teller: Teller, paths: &[OsString], to: Option<&Path>) -> Told {
     let mut skipped = Vec::new();
-    let mut told = match pieces(teller, paths, &mut skipped) {
+    let mut told = match pieces(teller, paths, to, &mut skipped) {
         Ok(pieces) => joined(teller, &pieces, to),
         Err(failure) => failure,
     };
@@ -131,9 +131,9 @@ fn joined(teller: Teller, pieces: &[u8], to: Option<&Path>) -> Told {
 }
 
 /// The bytes, no more than one above what the call takes: it refuses them as it would with the rest.
-fn pieces(teller: Teller, paths: &[OsString], skipped: &mut Vec<u8>) -> Result<Vec<u8>, Told> {
+fn pieces(teller: Teller, paths: &[OsString], to: Option<&Path>, skipped: &mut Vec<u8>) -> Result<Vec<u8>, Told> {
     let mut pieces = Vec::new();
-    for found in inputs::expand(paths, None) {
+    for found in inputs::expand(paths, None, to) {
         let room = (MOST_JOIN_BYTES + 1).saturating_sub(pieces.len());
         match found {
             Found::Input(_) if room == 0 => break,

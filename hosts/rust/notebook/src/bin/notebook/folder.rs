@@ -5,7 +5,7 @@ use crate::system::Standard;
 use crate::whole;
 use std::ffi::OsStr;
 use std::fs::{self, DirEntry};
-use std::io;
+use std::io::{self, ErrorKind};
 use std::os::unix::fs::DirEntryExt;
 use std::path::{Path, PathBuf};
 
@@ -14,8 +14,8 @@ enum Waiting {
     Found(Found),
 }
 
-pub fn list(folder: &OsStr, found: &mut Vec<Found>) {
-    let outputs = match outputs() {
+pub fn list(folder: &OsStr, output: Option<&Path>, found: &mut Vec<Found>) {
+    let outputs = match outputs(output) {
         Ok(outputs) => outputs,
         Err(error) => return found.push(Found::Failed(folder.into(), error)),
     };
@@ -55,17 +55,15 @@ enum Kind {
 
 fn kind(entry: &DirEntry, outputs: &[(u64, u64)]) -> io::Result<Kind> {
     let kind = entry.file_type()?;
-    Ok(if kind.is_dir() {
-        Kind::Folder
-    } else if kind.is_symlink() {
+    Ok(if kind.is_symlink() {
         // It may lead in circles.
         Kind::Skipped("a symbolic link")
-    } else if !kind.is_file() {
+    } else if !kind.is_file() && !kind.is_dir() {
         Kind::Skipped("not a regular file")
     } else if is_output(entry, outputs)? {
         Kind::Skipped("the output of this run")
-    } else if whole::is_part(&entry.file_name()) {
-        Kind::Skipped("a part that a run has left")
+    } else if kind.is_dir() {
+        Kind::Folder
     } else {
         Kind::File
     })
@@ -78,9 +76,15 @@ fn is_output(entry: &DirEntry, outputs: &[(u64, u64)]) -> io::Result<bool> {
     Ok(outputs.contains(&whole::identity(&entry.metadata()?)))
 }
 
-/// The files that standard output and standard error go to.
-fn outputs() -> io::Result<Vec<(u64, u64)>> {
+/// The files that standard output and standard error go to, and the file or folder that the run writes, if it is there: a run
+/// that is made again must not read what the first has written.
+fn outputs(output: Option<&Path>) -> io::Result<Vec<(u64, u64)>> {
     let mut outputs = Vec::new();
+    match output.map(fs::metadata) {
+        Some(Ok(found)) => outputs.push(whole::identity(&found)),
+        Some(Err(error)) if error.kind() != ErrorKind::NotFound => return Err(error),
+        _ => {}
+    }
     for stream in [Standard::Output, Standard::Error] {
         let Ok(file) = stream.file() else { continue };
         let file = file.metadata()?;

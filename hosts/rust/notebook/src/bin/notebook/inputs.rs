@@ -3,6 +3,7 @@
 use crate::arguments::{Paths, STDIN_TWICE};
 use crate::folder;
 use crate::system::{self, Standard};
+use crate::whole;
 use std::borrow::Cow;
 use std::ffi::{OsStr, OsString};
 use std::fs::File;
@@ -43,6 +44,7 @@ impl Input {
         if self.path.as_os_str() == "-" {
             return read_most(&*Standard::Input.file()?, most);
         }
+        whole::no_part(&self.path)?;
         read_most(&File::open(&self.path)?, most)
     }
 }
@@ -59,8 +61,8 @@ pub fn read_most(source: impl Read, most: usize) -> io::Result<Vec<u8>> {
     Ok(bytes)
 }
 
-/// The inputs that the arguments name, in their order.
-pub fn expand(paths: &[OsString], name: Option<&OsStr>) -> Vec<Found> {
+/// The inputs that the arguments name, in their order; `output` is the file or the folder that this run writes.
+pub fn expand(paths: &[OsString], name: Option<&OsStr>, output: Option<&Path>) -> Vec<Found> {
     let mut found = Vec::new();
     for path in paths {
         // A name of its own is for one file: a folder is then one that can't be read.
@@ -69,7 +71,7 @@ pub fn expand(paths: &[OsString], name: Option<&OsStr>) -> Vec<Found> {
             continue;
         }
         let before = found.len();
-        folder::list(path, &mut found);
+        folder::list(path, output, &mut found);
         if found.iter().skip(before).all(|found| matches!(found, Found::Skipped(..))) {
             let error = io::Error::new(ErrorKind::NotFound, "no regular file in this folder");
             found.push(Found::Failed(path.clone(), error));

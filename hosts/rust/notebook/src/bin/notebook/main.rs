@@ -53,8 +53,7 @@ fn main() -> ExitCode {
     // Nothing should panic; what does ends with a status all the same.
     std::panic::set_hook(Box::new(|_| system::end(system::MISTAKE)));
     let words: Vec<OsString> = std::env::args_os().skip(1).collect();
-    let json = arguments::asks_for_json(&words);
-    system::JSON.store(json, Ordering::Relaxed);
+    let json = system::JSON.load(Ordering::Relaxed);
     let status = match arguments::parse(words) {
         Ok(Parsed::Run(arguments)) => run(&arguments),
         Ok(Parsed::Say(text)) => tell::write_out(text.as_bytes()).map(|()| tell::ACCEPTED),

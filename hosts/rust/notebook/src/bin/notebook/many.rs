@@ -15,8 +15,9 @@ use std::io;
 use std::path::Path;
 
 pub fn run(arguments: &Arguments, teller: Teller, call: &Many, paths: &[OsString]) -> io::Result<u8> {
-    let mut found = inputs::expand(paths, arguments.name.as_deref());
-    if let Many::CanonicalTo(folder) = call {
+    let to = if let Many::CanonicalTo(folder) = call { Some(&**folder) } else { None };
+    let mut found = inputs::expand(paths, arguments.name.as_deref(), to);
+    if let Some(folder) = to {
         targets::claim(folder, &mut found);
     }
     let folders = Folders::default();

@@ -5,15 +5,20 @@ use std::fmt::Write;
 use std::os::unix::ffi::OsStrExt;
 
 /// Characters of Unicode that a terminal obeys, or that hide or turn around what is near them.
-const UNSEEN: [(char, char); 5] = [
+const UNSEEN: [(char, char); 10] = [
     ('\u{80}', '\u{9f}'),
+    ('\u{ad}', '\u{ad}'),
+    ('\u{61c}', '\u{61c}'),
+    ('\u{180e}', '\u{180e}'),
     ('\u{200b}', '\u{200f}'),
     ('\u{2028}', '\u{202e}'),
     ('\u{2060}', '\u{206f}'),
     ('\u{feff}', '\u{feff}'),
+    ('\u{fff9}', '\u{fffb}'),
+    ('\u{e0000}', '\u{e007f}'),
 ];
 
-/// A name, or a word of the command line, as text shows it.
+/// A name, or a word of the command line, as text shows it. It has no colon before a blank: the first of these ends the name.
 pub fn shown(name: &OsStr) -> String {
     let mut text = String::new();
     for chunk in name.as_bytes().utf8_chunks() {
@@ -22,7 +27,7 @@ pub fn shown(name: &OsStr) -> String {
             let _ = write!(text, "\\x{byte:02x}");
         }
     }
-    text
+    text.replace(": ", "\\x3a ")
 }
 
 fn show(text: &mut String, character: char) {
@@ -44,7 +49,9 @@ mod tests {
 
     #[test]
     fn names_are_one_line_of_visible_characters() {
-        let cases: [(&[u8], &str); 8] = [
+        let cases: [(&[u8], &str); 10] = [
+            (b"a: ok 1 0 0: b:c", "a\\x3a ok 1 0 0\\x3a b:c"),
+            ("\u{61c}\u{ad}\u{180e}\u{fffb}\u{e0041}".as_bytes(), "\\u{061c}\\u{00ad}\\u{180e}\\u{fffb}\\u{e0041}"),
             (b"a b-\xc3\xa9\xe8\x96\xac.csv", "a b-\u{e9}\u{85ac}.csv"),
             (b"a\\n", "a\\\\n"),
             (b"\n\r\t\x00\x1b[2J\x7f", "\\n\\r\\t\\x00\\x1b[2J\\x7f"),

@@ -10,6 +10,7 @@ use std::fmt::Write;
 pub struct Summary {
     accepted: u64,
     failed: u64,
+    skipped: u64,
     refusals: BTreeMap<Reason, u64>,
 }
 
@@ -19,7 +20,7 @@ impl Summary {
             Outcome::Accepted => self.accepted += 1,
             Outcome::Refused(reason) => *self.refusals.entry(reason).or_default() += 1,
             Outcome::Failed => self.failed += 1,
-            Outcome::Skipped => {}
+            Outcome::Skipped => self.skipped += 1,
         }
     }
 
@@ -32,11 +33,15 @@ impl Summary {
                 .iter()
                 .fold(Object::new(), |object, (reason, &count)| object.number(&reason.number().to_string(), count));
             let counts = Object::new().number("files", files).number("accepted", self.accepted).number("refused", refused);
-            let counts = counts.number("failed", self.failed).object("refusals", refusals);
+            let counts = counts.number("failed", self.failed).number("skipped", self.skipped).object("refusals", refusals);
             return Object::new().object("summary", counts).line();
         }
         let noun = if files == 1 { "file" } else { "files" };
-        let mut text = format!("{files} {noun}: {} accepted, {refused} refused, {} failed\n", self.accepted, self.failed);
+        let mut text = format!("{files} {noun}: {} accepted, {refused} refused, {} failed", self.accepted, self.failed);
+        if self.skipped > 0 {
+            let _ = write!(text, "; {} skipped", self.skipped);
+        }
+        text.push('\n');
         for (reason, count) in &self.refusals {
             let _ = writeln!(text, "no {}: {}: {count}", reason.number(), reason.word());
         }

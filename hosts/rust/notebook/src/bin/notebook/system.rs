@@ -2,7 +2,7 @@
 
 use std::alloc::{GlobalAlloc, Layout, System};
 use std::cell::Cell;
-use std::ffi::{c_char, c_int, c_uint, c_ulong, c_void, CString};
+use std::ffi::{c_char, c_int, c_uint, c_ulong, c_void, CStr, CString};
 use std::fs::File;
 use std::io;
 use std::mem::ManuallyDrop;
@@ -20,6 +20,7 @@ const SIGILL: c_int = 4;
 const SIGABRT: c_int = 6;
 const SIGBUS: c_int = 7;
 const SIGSEGV: c_int = 11;
+const SIGXCPU: c_int = 24;
 const SIGXFSZ: c_int = 25;
 const IGNORED: usize = 1;
 const SA_ONSTACK: c_int = 0x0800_0000;
@@ -95,12 +96,28 @@ const FAULT_STACK_BYTES: usize = 16 << 10;
 /// Rust's runtime opens /dev/null for closed descriptors, and aborts if it can't: what was closed is only known before it.
 #[used]
 #[link_section = ".init_array"]
-static BEFORE_THE_RUNTIME: extern "C" fn() = before_the_runtime;
+static BEFORE_THE_RUNTIME: extern "C" fn(c_int, *const *const c_char) = before_the_runtime;
 
-extern "C" fn before_the_runtime() {
+/// glibc hands the words of the command line to it, as to `main`.
+extern "C" fn before_the_runtime(count: c_int, words: *const *const c_char) {
     set_limits();
     set_signals();
     note_closed();
+    note_json(usize::try_from(count).unwrap_or_default(), words);
+}
+
+/// Whether lines are to be objects: also the last one, where there is no memory to look at the command line.
+fn note_json(count: usize, words: *const *const c_char) {
+    for at in 1..count {
+        // SAFETY: there are so many words, each ended by a zero, and they stay.
+        let word = unsafe { CStr::from_ptr(*words.add(at)) }.to_bytes();
+        if word == b"--" {
+            return;
+        }
+        if word == b"--json" {
+            JSON.store(true, Ordering::Relaxed);
+        }
+    }
 }
 
 fn set_limits() {
@@ -130,7 +147,7 @@ fn set_signals() {
         sigaltstack(&stack, ptr::null_mut());
         // Of some memory the standard library has its own, and aborts where there is none. For two of these signals the
         // runtime would set up a stack in every thread, and panic where it can't.
-        for number in [SIGABRT, SIGBUS, SIGILL, SIGSEGV] {
+        for number in [SIGABRT, SIGBUS, SIGILL, SIGSEGV, SIGXCPU] {
             sigaction(number, &action, ptr::null_mut());
         }
     }
@@ -243,7 +260,7 @@ unsafe impl GlobalAlloc for Memory {
 
 // ---- The last resort
 
-/// Whether the last line is to be an object.
+/// Whether the command line asks for objects.
 pub static JSON: AtomicBool = AtomicBool::new(false);
 
 /// A last line, as text and as an object: nothing can be made when it is needed.
@@ -256,7 +273,7 @@ macro_rules! last_line {
 }
 
 const NO_MEMORY: LastLine = last_line!("memory cannot be had");
-const FAULT: LastLine = last_line!("the system has ended the run: no stack, or no memory");
+const FAULT: LastLine = last_line!("the system has ended the run: a limit on memory, stack or time");
 pub const MISTAKE: LastLine = last_line!("a mistake in this program has ended the run");
 
 /// Ends the process at once with a line on standard error.

@@ -1,6 +1,7 @@
 //! Files that are written whole or not at all.
 
 use crate::inputs;
+use crate::names;
 use crate::system::{self, EINVAL, ENOSYS, O_DIRECTORY, O_NOFOLLOW, O_NONBLOCK};
 use std::collections::BTreeSet;
 use std::ffi::OsStr;
@@ -37,11 +38,11 @@ enum State {
 }
 
 /// Writes new files, all or none. A name that has exactly its bytes already counts as written; any other name that is there
-/// is refused before anything is made.
+/// is refused before anything is made, and so is the name of a part.
 pub fn write<'a>(files: &[(&'a Path, &'a [u8])]) -> Result<(), Failure<'a>> {
     let (mut there, mut missing) = (Vec::new(), Vec::new());
     for &(path, bytes) in files {
-        let there_already = is_there(path, bytes).map_err(|error| (path, error))?;
+        let there_already = no_part(path).and_then(|()| is_there(path, bytes)).map_err(|error| (path, error))?;
         if there_already { &mut there } else { &mut missing }.push((path, bytes));
     }
     let mut parts = Vec::new();
@@ -50,9 +51,9 @@ pub fn write<'a>(files: &[(&'a Path, &'a [u8])]) -> Result<(), Failure<'a>> {
         parts.iter().for_each(remove);
         return written;
     }
-    for (path, _) in there {
+    for (path, bytes) in there {
         // A killed run may have left a part beside it.
-        let _ = part_name(path).and_then(|part| remove_left(&part));
+        let _ = part_name(path).and_then(|part| remove_left(&part, bytes));
     }
     Ok(())
 }
@@ -66,6 +67,10 @@ fn is_there(path: &Path, bytes: &[u8]) -> io::Result<bool> {
     };
     if found.is_file() && found.len() == bytes.len() as u64 {
         let file = OpenOptions::new().read(true).custom_flags(O_NOFOLLOW | O_NONBLOCK).open(path)?;
+        // A run that is not done with it may still remove it.
+        if let Err(TryLockError::WouldBlock) = file.try_lock_shared() {
+            return Err(in_use());
+        }
         if inputs::read_most(&file, bytes.len() + 1)? == bytes {
             return Ok(true);
         }
@@ -75,7 +80,7 @@ fn is_there(path: &Path, bytes: &[u8]) -> io::Result<bool> {
 
 fn make_parts<'a>(files: &[(&'a Path, &'a [u8])], parts: &mut Vec<Part<'a>>) -> Result<(), Failure<'a>> {
     for &(path, bytes) in files {
-        let made = part_name(path).and_then(|part| Ok((new_part(&part)?, part)));
+        let made = part_name(path).and_then(|part| Ok((new_part(&part, bytes)?, part)));
         let (file, part) = made.map_err(|error| (path, error))?;
         parts.push(Part { path, bytes, part, file, state: State::Part });
     }
@@ -109,8 +114,15 @@ fn name_part(part: &Part) -> io::Result<State> {
     if !unknown {
         return Err(error);
     }
-    // The file system does not know renaming without replacing, and nothing is there.
-    fs::rename(&part.part, part.path)?;
+    // The file system does not know renaming without replacing, and nothing is there. A second name never replaces either.
+    match fs::hard_link(&part.part, part.path) {
+        Ok(()) => {
+            let _ = fs::remove_file(&part.part);
+        }
+        Err(error) if error.kind() == ErrorKind::AlreadyExists => return Err(error),
+        // It does not know second names.
+        Err(_) => fs::rename(&part.part, part.path)?,
+    }
     Ok(State::Named)
 }
 
@@ -153,13 +165,13 @@ fn remove_ours(file: &File, name: &Path) {
 
 // ---- Parts
 
-/// Makes a part that no other run has, open for writing and locked.
-fn new_part(part: &Path) -> io::Result<File> {
+/// Makes a part of a file with these bytes that no other run has, open for writing and locked.
+fn new_part(part: &Path, bytes: &[u8]) -> io::Result<File> {
     for _ in 0..TRIES {
         let file = match OpenOptions::new().read(true).write(true).create_new(true).mode(0o600).open(part) {
             Ok(file) => file,
             Err(error) if error.kind() == ErrorKind::AlreadyExists => {
-                remove_left(part)?;
+                remove_left(part, bytes)?;
                 continue;
             }
             Err(error) => return Err(error),
@@ -179,26 +191,34 @@ fn new_part(part: &Path) -> io::Result<File> {
 /// Locks a part. False if another run has taken it, before it was locked, for one that was left.
 fn hold(file: &File, part: &Path) -> io::Result<bool> {
     match file.try_lock() {
-        Ok(()) => is_named(file, part),
+        // A file system without locks: nobody takes this part for one that was left, as that needs a lock.
+        Ok(()) | Err(TryLockError::Error(_)) => is_named(file, part),
         Err(TryLockError::WouldBlock) => Ok(false),
-        Err(TryLockError::Error(error)) => Err(error),
     }
 }
 
-/// Removes a part that a run has left; one that a run has locked is an error.
-fn remove_left(part: &Path) -> io::Result<()> {
+/// Removes a part of a file with these bytes that a run has left. One that a run has locked is an error, and so is anything
+/// else in its place: a killed run leaves a beginning of the bytes, and nothing but that is removed.
+fn remove_left(part: &Path, bytes: &[u8]) -> io::Result<()> {
+    let in_the_way =
+        |error: io::Error| io::Error::new(error.kind(), format!("{}: {error}", names::shown(part.as_os_str())));
     let file = match OpenOptions::new().read(true).custom_flags(O_NOFOLLOW | O_NONBLOCK).open(part) {
         Ok(file) => file,
         Err(error) if error.kind() == ErrorKind::NotFound => return Ok(()),
-        Err(error) => return Err(error),
+        Err(error) => return Err(in_the_way(error)),
     };
     match file.try_lock() {
         // Another run may have removed or renamed it meanwhile.
-        Ok(()) if is_named(&file, part)? => fs::remove_file(part),
-        Ok(()) => Ok(()),
+        Ok(()) if !is_named(&file, part)? => Ok(()),
+        Ok(()) if is_beginning(&file, bytes).map_err(in_the_way)? => fs::remove_file(part),
+        Ok(()) => Err(in_the_way(io::Error::new(ErrorKind::AlreadyExists, "in the way, and no part of this file"))),
         Err(TryLockError::WouldBlock) => Err(in_use()),
-        Err(TryLockError::Error(error)) => Err(error),
+        Err(TryLockError::Error(error)) => Err(in_the_way(error)),
     }
+}
+
+fn is_beginning(file: &File, bytes: &[u8]) -> io::Result<bool> {
+    Ok(file.metadata()?.is_file() && bytes.starts_with(&inputs::read_most(file, bytes.len() + 1)?))
 }
 
 fn in_use() -> io::Error {
@@ -228,9 +248,15 @@ fn part_name(path: &Path) -> io::Result<PathBuf> {
     Ok(folder.join(format!(".notebook-{hash:016x}.part")))
 }
 
-/// Whether a file's name is that of a part.
-pub fn is_part(name: &OsStr) -> bool {
-    name.as_bytes().starts_with(b".notebook-") && name.as_bytes().ends_with(b".part")
+/// A file that is named like a part is no input and no output: what a killed run has left must not be taken for a file, nor a
+/// file for what it has left.
+pub fn no_part(path: &Path) -> io::Result<()> {
+    let name = path.file_name().unwrap_or_default().as_bytes();
+    let hash = name.strip_prefix(b".notebook-").and_then(|name| name.strip_suffix(b".part")).unwrap_or_default();
+    if hash.len() == 16 && hash.iter().all(|byte| matches!(byte, b'0'..=b'9' | b'a'..=b'f')) {
+        return Err(io::Error::new(ErrorKind::InvalidInput, "named like a part that a run has left"));
+    }
+    Ok(())
 }
 
 fn folder_and_name(path: &Path) -> io::Result<(&Path, &OsStr)> {
@@ -290,6 +316,9 @@ mod tests {
         for path in ["", "x/", "x/.", "..", "/"] {
             assert_eq!(name(path), None, "{path}");
         }
-        assert!(is_part(OsStr::new(".notebook-1.part")) && !is_part(OsStr::new("notebook-1.part")));
+        assert!(no_part(Path::new("x/.notebook-af63dc4c8601ec8c.part")).is_err());
+        for path in [".notebook-1.part", "notebook-af63dc4c8601ec8c.part", ".notebook-AF63DC4C8601EC8C.part", "x/"] {
+            assert!(no_part(Path::new(path)).is_ok(), "{path}");
+        }
     }
 }
