@@ -111,21 +111,28 @@ module _ {d d₁ d₂ : List ℕ} {at i j : ℕ} {word : List ℕ} (ns : List �
 
 -- ---- a record of the index
 
--- where a number ends
-pub decimal-end : {d d₁ : List ℕ} {at r : ℕ} (n : ℕ) → n ≤ 18446744073709551615 → Wrote d d₁ at r (decimal n) → r ≤ at + 20
-decimal-end n h w = omega (arith, decimal-twenty n h, w .next)
-
-pub number-end : {d d₁ : List ℕ} {at r : ℕ} (n : ℕ) → n ≤ 18446744073709551615 → Wrote d d₁ at r (0x20 ∷ decimal n) → r ≤ at + 21
-number-end n h w = omega (arith, decimal-twenty n h, w .next)
-
 spaced-append : (ms ns : List ℕ) → spaced ms ++ spaced ns ≡ spaced (ms ++ ns)
 unfolding spaced
 spaced-append [] ns = refl
 spaced-append (m ∷ ms) ns = rw (append-assoc, spaced-append ms ns)
 
-pub three-end : {d d₁ : List ℕ} {at r : ℕ} (a b c : ℕ) → a ≤ 18446744073709551615 → b ≤ 18446744073709551615 → c ≤ 18446744073709551615
-    → Wrote d d₁ at r (spaced (a ∷ b ∷ c ∷ [])) → r ≤ at + 63
-three-end a b c f g h w = omega (arith, numbers-short a b c f g h 3, w .next)
+-- where its numbers end, written as one, three, one and one, in a buffer that stays as long as it was
+module _ {s₀ s₁ : List ℕ} {at i : ℕ} (a : ℕ) (p : a ≤ 18446744073709551615) (u : Wrote s₀ s₁ at i (decimal a)) where
+  pub one-end : (i ≤ at + 20) × (length s₁ ≡ length s₀)
+  one-end = (omega (arith, decimal-twenty a p, u .next), u .size)
+
+  module _ {s₂ : List ℕ} {j : ℕ} (b c d : ℕ) (q : b ≤ 18446744073709551615) (r : c ≤ 18446744073709551615) (t : d ≤ 18446744073709551615)
+      (v : Wrote s₁ s₂ i j (spaced (b ∷ c ∷ d ∷ []))) where
+    pub four-end : (j ≤ at + 83) × (length s₂ ≡ length s₀)
+    four-end = (omega (arith, one-end .0, numbers-short b c d q r t 3, v .next), v .size ∙ u .size)
+
+    module _ {s₃ : List ℕ} {k : ℕ} (e : ℕ) (y : e ≤ 18446744073709551615) (w : Wrote s₂ s₃ j k (0x20 ∷ decimal e)) where
+      pub five-end : (k ≤ at + 104) × (length s₃ ≡ length s₀)
+      five-end = (omega (arith, four-end .0, decimal-twenty e y, w .next), w .size ∙ four-end .1)
+
+      module _ {s₄ : List ℕ} {l : ℕ} (f : ℕ) (z : f ≤ 18446744073709551615) (x : Wrote s₃ s₄ k l (0x20 ∷ decimal f)) where
+        pub six-end : (l ≤ at + 125) × (length s₄ ≡ length s₀)
+        six-end = (omega (arith, five-end .0, decimal-twenty f z, x .next), x .size ∙ five-end .1)
 
 -- six numbers, written as one, three, one and one
 module _ {s₁ s₂ s₃ s₄ : List ℕ} {i j k l : ℕ} (b c d e f : ℕ) (v : Wrote s₁ s₂ i j (spaced (b ∷ c ∷ d ∷ [])))

@@ -2,7 +2,7 @@
 // failure is an answer of its own, so that no program takes a part of a file for the file.
 ghost use Prim.Native.Nat.{_≤_};
 ghost use lib.ListN.{length};
-ghost use Rattle.inputs.specs.Within.{Within};
+ghost use Rattle.inputs.specs.AtFront.{AtFront};
 use libc::EINTR;
 
 // Where the bytes end that are in the buffer, or that a read failed.
@@ -13,7 +13,7 @@ pub enum Input {
 
 // One read, tried again where a signal interrupted it; 0 bytes are the end. The count of tries has no end in practice; a loop has to have one.
 fn read_once(fd: i32, buf: &mut [u8]) -> Input
-    ensures { λ r. ⌜ Within r (now (buf .exit)) ⌝ }
+    ensures { λ r. ⌜ AtFront r (now (buf .exit)) ⌝ }
 {
     let mut tries: u64 = u64::MAX;
     while 0 < tries {
@@ -32,7 +32,7 @@ fn read_once(fd: i32, buf: &mut [u8]) -> Input
 // Reads to the end of the input or of the buffer, from an index of the buffer on.
 pub fn read_from(fd: i32, buf: &mut [u8], at: usize) -> Input
     requires { ⌜ at ≤ length (now buf) ⌝ }
-    ensures { λ r. ⌜ Within r (now (buf .exit)) ⌝ }
+    ensures { λ r. ⌜ AtFront r (now (buf .exit)) ⌝ }
 {
     let size = buf.len();
     let mut end = at;
@@ -53,7 +53,7 @@ pub fn read_from(fd: i32, buf: &mut [u8], at: usize) -> Input
 
 // The same from the buffer's front.
 pub fn read_all(fd: i32, buf: &mut [u8]) -> Input
-    ensures { λ r. ⌜ Within r (now (buf .exit)) ⌝ }
+    ensures { λ r. ⌜ AtFront r (now (buf .exit)) ⌝ }
 {
     read_from(fd, buf, 0)
 }

@@ -4,7 +4,7 @@
 // which goes to standard error, and `error read K` of the Kth file named.
 ghost use Prim.Native.Nat.{_≤_};
 ghost use lib.ListN.{length};
-ghost use Rattle.inputs.specs.Within.{Within};
+ghost use Rattle.inputs.specs.AtFront.{AtFront};
 use inputs::Input;
 use libc::STDERR_FILENO;
 use libc::STDIN_FILENO;
@@ -36,7 +36,7 @@ fn join(pieces: &[u8]) {
 // Each reads a file after the bytes that are there. The file is closed before a failure is told, since it may have standard error's number.
 fn read_file(name: &[u8], pieces: &mut [u8], at: usize) -> Input
     requires { ⌜ at ≤ length (now pieces) ⌝ }
-    ensures { λ r. ⌜ Within r (now (pieces .exit)) ⌝ }
+    ensures { λ r. ⌜ AtFront r (now (pieces .exit)) ⌝ }
 {
     let fd = os::open_read(name);
     if fd < 0 {
@@ -50,7 +50,7 @@ fn read_file(name: &[u8], pieces: &mut [u8], at: usize) -> Input
 // A word that is longer than the buffer is longer than any path.
 fn read_word(word: usize, pieces: &mut [u8], at: usize) -> Input
     requires { ⌜ at ≤ length (now pieces) ⌝ }
-    ensures { λ r. ⌜ Within r (now (pieces .exit)) ⌝ }
+    ensures { λ r. ⌜ AtFront r (now (pieces .exit)) ⌝ }
 {
     let mut name = io::buffer();
     let n = os::arg(word, &mut name);
@@ -62,7 +62,7 @@ fn read_word(word: usize, pieces: &mut [u8], at: usize) -> Input
 
 // Reads until the buffer is full, and tells which file cannot be read.
 fn read_files(words: usize, pieces: &mut [u8]) -> Input
-    ensures { λ r. ⌜ Within r (now (pieces .exit)) ⌝ }
+    ensures { λ r. ⌜ AtFront r (now (pieces .exit)) ⌝ }
 {
     let mut at: usize = 0;
     let mut word: usize = 1;

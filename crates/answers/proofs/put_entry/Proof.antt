@@ -1,6 +1,6 @@
 use borrow.Author.Needs.{needs}
 use native.Mathlib.Omega.{arith}
-use Rattle.answers.proofs.Lines.{decimal-end, number-end, three-end, entry-wrote}
+use Rattle.answers.proofs.Lines.{one-end, four-end, five-end, six-end, entry-wrote}
 use Rattle.answers.proofs.put_entry.Statement.{statement}
 use Rattle.answers.proofs.put_entry.Tie as tie
 use Rattle.answers.proofs.put_entry.Reads as reads
@@ -17,11 +17,7 @@ put-numbers-requires : tie.Need-put-numbers-requires
 put-numbers-requires c κs =
     let w₁ = c .before .before .before in
     let s = w₁ .before .before .before .args in
-    omega (
-      arith,
-      decimal-end (s .a) (omega arith) (w₁ .put-decimal .ensures),
-      w₁ .put-decimal .ensures .size,
-    )
+    omega (arith, one-end (s .a) (omega arith) (w₁ .put-decimal .ensures))
 
 put-number-requires : tie.Need-put-number-requires
 put-number-requires c κs =
@@ -30,10 +26,8 @@ put-number-requires c κs =
     let s = w₁ .before .before .before .args in
     omega (
       arith,
-      decimal-end (s .a) (omega arith) (w₁ .put-decimal .ensures),
-      w₁ .put-decimal .ensures .size,
-      three-end (s .b) (s .c) (s .d) (omega arith) (omega arith) (omega arith) (w₂ .put-numbers .ensures),
-      w₂ .put-numbers .ensures .size,
+      four-end (s .a) (omega arith) (w₁ .put-decimal .ensures) (s .b) (s .c) (s .d) (omega arith) (omega arith) (omega arith)
+          (w₂ .put-numbers .ensures),
     )
 
 put-number-requires-2 : tie.Need-put-number-requires-2
@@ -44,12 +38,8 @@ put-number-requires-2 c κs =
     let s = w₁ .before .before .before .args in
     omega (
       arith,
-      decimal-end (s .a) (omega arith) (w₁ .put-decimal .ensures),
-      w₁ .put-decimal .ensures .size,
-      three-end (s .b) (s .c) (s .d) (omega arith) (omega arith) (omega arith) (w₂ .put-numbers .ensures),
-      w₂ .put-numbers .ensures .size,
-      number-end (s .e) (omega arith) (w₃ .put-number .ensures),
-      w₃ .put-number .ensures .size,
+      five-end (s .a) (omega arith) (w₁ .put-decimal .ensures) (s .b) (s .c) (s .d) (omega arith) (omega arith) (omega arith)
+          (w₂ .put-numbers .ensures) (s .e) (omega arith) (w₃ .put-number .ensures),
     )
 
 put-byte-requires : tie.Need-put-byte-requires
@@ -61,14 +51,8 @@ put-byte-requires c κs =
     let s = w₁ .before .before .before .args in
     omega (
       arith,
-      decimal-end (s .a) (omega arith) (w₁ .put-decimal .ensures),
-      w₁ .put-decimal .ensures .size,
-      three-end (s .b) (s .c) (s .d) (omega arith) (omega arith) (omega arith) (w₂ .put-numbers .ensures),
-      w₂ .put-numbers .ensures .size,
-      number-end (s .e) (omega arith) (w₃ .put-number .ensures),
-      w₃ .put-number .ensures .size,
-      number-end (s .f) (omega arith) (w₄ .put-number2 .ensures),
-      w₄ .put-number2 .ensures .size,
+      six-end (s .a) (omega arith) (w₁ .put-decimal .ensures) (s .b) (s .c) (s .d) (omega arith) (omega arith) (omega arith)
+          (w₂ .put-numbers .ensures) (s .e) (omega arith) (w₃ .put-number .ensures) (s .f) (omega arith) (w₄ .put-number2 .ensures),
     )
 
 same-length : tie.Need-same-length
@@ -86,14 +70,8 @@ returns c =
           (w₁ .put-decimal .ensures) (w₅ .put-byte .ensures),
       omega (
         arith,
-        decimal-end (s .a) (omega arith) (w₁ .put-decimal .ensures),
-        w₁ .put-decimal .ensures .size,
-        three-end (s .b) (s .c) (s .d) (omega arith) (omega arith) (omega arith) (w₂ .put-numbers .ensures),
-        w₂ .put-numbers .ensures .size,
-        number-end (s .e) (omega arith) (w₃ .put-number .ensures),
-        w₃ .put-number .ensures .size,
-        number-end (s .f) (omega arith) (w₄ .put-number2 .ensures),
-        w₄ .put-number2 .ensures .size,
+        six-end (s .a) (omega arith) (w₁ .put-decimal .ensures) (s .b) (s .c) (s .d) (omega arith) (omega arith) (omega arith)
+            (w₂ .put-numbers .ensures) (s .e) (omega arith) (w₃ .put-number .ensures) (s .f) (omega arith) (w₄ .put-number2 .ensures),
         w₅ .put-byte .ensures .next,
       ),
     )

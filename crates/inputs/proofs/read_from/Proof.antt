@@ -5,7 +5,7 @@ use mathlib.Core.Path.{_≡_}
 use Prim.Native.Nat.{_≤_}
 use native.Mathlib.Omega.{arith}
 use Rattle.io.proofs.Counting.{counts}
-use Rattle.inputs.proofs.Counted.{bytes-within}
+use Rattle.inputs.proofs.Bytes.{bytes-at-front}
 use Rattle.inputs.proofs.read_from.Statement.{statement}
 use Rattle.inputs.proofs.read_from.Tie as tie
 use Rattle.inputs.proofs.read_from.Reads as reads
@@ -43,13 +43,13 @@ returns : tie.Need-returns Inv-loop μ-loop
 returns c = counts _ _ (omega arith)
 
 add-end : tie.Need-add-end Inv-loop μ-loop
-add-end c = omega (arith, bytes-within _ (c .before .before .read .given .1) (c .before .before .before .before .before .before .read-once .ensures) .0)
+add-end c = omega (arith, bytes-at-front _ (c .before .before .read .given .1) (c .before .before .before .before .before .before .read-once .ensures) .0)
 
 loop-less : tie.Need-loop-less Inv-loop μ-loop
 loop-less c = search needs
 
 loop-again : tie.Need-loop-again Inv-loop μ-loop
-loop-again c = (search needs, search needs, omega (arith, bytes-within _ (c .before .before .read .given .1) (c .before .before .before .before .before .before .read-once .ensures) .0))
+loop-again c = (search needs, search needs, omega (arith, bytes-at-front _ (c .before .before .read .given .1) (c .before .before .before .before .before .before .read-once .ensures) .0))
 
 enum-told : tie.Need-enum-told Inv-loop μ-loop
 enum-told c = search needs

@@ -1,5 +1,5 @@
 use borrow.Author.Needs.{needs}
-use Rattle.inputs.proofs.Counted.{bytes-within}
+use Rattle.inputs.proofs.Bytes.{bytes-at-front}
 use Rattle.notecut.proofs.cut_input.Statement.{statement}
 use Rattle.notecut.proofs.cut_input.Tie as tie
 use Rattle.notecut.proofs.cut_input.Reads as reads
@@ -18,10 +18,10 @@ enum-known-read : tie.Need-enum-known-read
 enum-known-read c = search needs
 
 array-share-prefix-file : tie.Need-array-share-prefix-file
-array-share-prefix-file c = bytes-within _ (c .before .read .given .1) (c .before .before .before .before .read-all .ensures) .0
+array-share-prefix-file c = bytes-at-front _ (c .before .read .given .1) (c .before .before .before .before .read-all .ensures) .0
 
 slice-aggregate-cut : tie.Need-slice-aggregate-cut
-slice-aggregate-cut c = bytes-within _ (c .before .before .read .given .1) (c .before .before .before .before .before .read-all .ensures) .1
+slice-aggregate-cut c = bytes-at-front _ (c .before .before .read .given .1) (c .before .before .before .before .before .read-all .ensures) .1
 
 cut-requires : tie.Need-cut-requires
 cut-requires c κs = search needs

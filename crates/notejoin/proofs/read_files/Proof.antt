@@ -1,7 +1,7 @@
 use borrow.Author.Needs.{needs}
 use native.Mathlib.Omega.{arith}
 use Rattle.io.proofs.Counting.{counts}
-use Rattle.inputs.proofs.Counted.{bytes-within}
+use Rattle.inputs.proofs.Bytes.{bytes-at-front}
 use Prim.Native.Nat.{_-_}
 use lib.ListN.{length}
 use Prim.Native.Nat.{_≤_}
@@ -56,7 +56,7 @@ loop-less : tie.Need-loop-less Inv-loop μ-loop
 loop-less c = search needs
 
 loop-again : tie.Need-loop-again Inv-loop μ-loop
-loop-again c = (search needs, bytes-within _ (c .before .read .given .1) (c .before .before .before .before .before .read-word .ensures) .0)
+loop-again c = (search needs, bytes-at-front _ (c .before .read .given .1) (c .before .before .before .before .before .read-word .ensures) .0)
 
 same-length-3 : tie.Need-same-length-3 Inv-loop μ-loop
 same-length-3 c = search needs

@@ -1,5 +1,5 @@
 use borrow.Author.Needs.{needs}
-use Rattle.inputs.proofs.Counted.{bytes-within}
+use Rattle.inputs.proofs.Bytes.{bytes-at-front}
 use Rattle.files.proofs.asking.compare_opened.Statement.{statement}
 use Rattle.files.proofs.asking.compare_opened.Tie as tie
 use Rattle.files.proofs.asking.compare_opened.Reads as reads
@@ -25,10 +25,10 @@ enum-known-read : tie.Need-enum-known-read
 enum-known-read c = search needs
 
 array-share-prefix-bytes : tie.Need-array-share-prefix-bytes
-array-share-prefix-bytes c = bytes-within _ (c .before .read .given .1) (c .before .before .before .before .read-all .ensures) .0
+array-share-prefix-bytes c = bytes-at-front _ (c .before .read .given .1) (c .before .before .before .before .read-all .ensures) .0
 
 slice-aggregate-same-bytes : tie.Need-slice-aggregate-same-bytes
-slice-aggregate-same-bytes c = bytes-within _ (c .before .before .read .given .1) (c .before .before .before .before .before .read-all .ensures) .1
+slice-aggregate-same-bytes c = bytes-at-front _ (c .before .before .read .given .1) (c .before .before .before .before .before .read-all .ensures) .1
 
 same-bytes-requires : tie.Need-same-bytes-requires
 same-bytes-requires c κs = search needs

@@ -6,6 +6,6 @@ use Rattle.inputs.specs.declared.Input.{Input}
 use Rattle.inputs.specs.declared.Input.the-variants.{Bytes, Failed}
 
 -- the bytes that were read are at the buffer's front; of a failure nothing is said
-abbrev pub Within : Input → List ℕ → Type 0
-Within (Bytes n) buffer = Counts n buffer
-Within Failed buffer = Unit {0}
+abbrev pub AtFront : Input → List ℕ → Type 0
+AtFront (Bytes n) buffer = Counts n buffer
+AtFront Failed buffer = Unit {0}
