@@ -1,27 +1,35 @@
--- A date of seven bytes is the era form of its day. Assumes nothing.
-use Prim.Native.Nat.{ℕ, _+_, _-_, _*_, _/_, _%_, _≤_}
+-- A date that begins with the letter that its day is written under is what is written for its day, and no other is. Assumes nothing.
+use Prim.Native.Nat.{ℕ, _+_, _-_, _*_, _/_, _%_, _≤_, _<_}
 use native.Mathlib.Nat.{div-one, div-div-eq-div-mul}
 use native.Mathlib.Omega.{arith}
-use mathlib.Core.Path.{_≡_, refl, sym, ap, _∙_}
-use mathlib.Core.Bool.{Bool, true, false, cond, _&&_}
+use mathlib.Core.Path.{_≡_, refl, sym, ap, subst, _∙_}
+use mathlib.Core.Bool.{Bool, true, false, cond, _&&_, false≢true}
 use mathlib.Core.List.{List, [], _∷_}
-use borrow.Author.Tests.{le-leb, lt-leb, leb-true, eqb-true, ne-eqb}
+use borrow.Author.Tests.{leb-true, eqb-true, eqb-false, eq-eqb}
 use lib.Dec.{leb, eqb}
-use lib.ListN.{length, getD, drop}
+use lib.ListN.{length, getD, take, drop}
 use Rattle.lists.specs.Lists.{all}
 use Rattle.lists.proofs.Tests.{both}
+use Rattle.lists.proofs.Cuts.{rest-all}
 use Rattle.digits.specs.Digits.{isDigit, value}
 use Rattle.digits.proofs.Numbers.{digit-is}
 use Rattle.eras.specs.declared.Era.{Era}
 use Rattle.calendar.specs.declared.Day.{Day}
+use Rattle.calendar.specs.declared.Number.{Number}
+use Rattle.calendar.specs.declared.Number.the-variants.{Is, NoNumber}
+use Rattle.calendar.specs.Digits.{numberFrom}
 use Rattle.calendar.specs.declared.DateRead.{DateRead}
 use Rattle.calendar.specs.declared.DateRead.the-variants.{Date, NotADate}
-use Rattle.eras.specs.Era.{sixDigits, era, noEra, eraOf, eraOn, writeDay}
+use Rattle.eras.specs.Era.{sixDigits, eraOf, eraOn, writeDay}
 use Rattle.eras.specs.Day.{isDay}
 use Rattle.calendar.specs.Day.{gregorian}
 use Rattle.calendar.specs.Era.{inEra, fromEra, readDay}
+use Rattle.calendar.specs.Form.{under, isForm, IsForm}
+use Rattle.eras.proofs.Eras.{day-named, letter-names, letter-small, letter-kept}
+use Rattle.calendar.proofs.Laws.{read-is-day}
+use Rattle.calendar.proofs.Steps.{some-digits, no-digits}
 
-not-date : {d : Day} → _≡_ {A = DateRead} NotADate (Date d) → ⊥
+pub not-date : {d : Day} → _≡_ {A = DateRead} NotADate (Date d) → ⊥
 not-date e = let z : _≡_ {A = ℕ} 0 1 = cc in omega arith
 
 -- ---- the digits
@@ -56,89 +64,163 @@ six a b c d e f h =
 
 -- ---- the era
 
-record Within (e : Era) (k n : ℕ) : Type 0 where
-  first : e .first ≤ n
-  last : n ≤ e .last
-  is : n ≡ e .before + k
+pub record Within (e : Era) (k n : ℕ) : Type 0 where
+  pub first : e .first ≤ n
+  pub last : n ≤ e .last
+  pub is : n ≡ e .before + k
+  pub short : k ≤ 999999
 
-in-era : (e : Era) (k n : ℕ) → inEra e (e .before + k) ≡ Date (record { ymd = n }) → Within e k n
+in-era : (e : Era) (k n : ℕ) → k ≤ 999999 → inEra e (e .before + k) ≡ Date (record { ymd = n }) → Within e k n
 unfolding inEra gregorian
-in-era e k n h = go (leb (e .first) (e .before + k)) refl (leb (e .before + k) (e .last)) refl (isDay (e .before + k)) h
+in-era e k n b h = go (leb (e .first) (e .before + k)) refl (leb (e .before + k) (e .last)) refl (isDay (e .before + k)) h
   where
     go : (x : Bool) → leb (e .first) (e .before + k) ≡ x → (y : Bool) → leb (e .before + k) (e .last) ≡ y → (z : Bool)
         → cond (x && y) (cond z (Date (record { ymd = e .before + k })) NotADate) NotADate ≡ Date (record { ymd = n }) → Within e k n
     go true p true q true f =
         let d : _≡_ {A = Day} (record { ymd = e .before + k }) (record { ymd = n }) = cc in
         let m : e .before + k ≡ n = ap (λ (t : Day). t .ymd) d in
-        record { first = omega (arith, leb-true (e .first) (e .before + k) p, m); last = omega (arith, leb-true (e .before + k) (e .last) q, m); is = sym m }
+        record { first = omega (arith, leb-true (e .first) (e .before + k) p, m); last = omega (arith, leb-true (e .before + k) (e .last) q, m); is = sym m; short = b }
     go true p true q false f = absurd (not-date f)
     go true p false q z f = absurd (not-date f)
     go false p y q z f = absurd (not-date f)
 
--- the letter's era is the newest that has begun
-record Named (c k n : ℕ) : Type 0 where
-  letter : (eraOn n) .letter ≡ c
-  number : n - (eraOn n) .before ≡ k
-
-named : (c k n : ℕ) → inEra (eraOf c) ((eraOf c) .before + k) ≡ Date (record { ymd = n }) → Named c k n
-unfolding eraOf eraOn
-named c k n h = go (eqb 72 c) refl (eqb 83 c) refl (eqb 84 c) refl (eqb 77 c) refl (in-era (eraOf c) k n h)
-  where
-    by : (e : Era) → eraOn n ≡ e → e .letter ≡ c → n ≡ e .before + k → Named c k n
-    by e q a b = record { letter = ap (λ (x : Era). x .letter) q ∙ a; number = ap (λ (x : Era). n - x .before) q ∙ omega (arith, b) }
-
-    go : (x : Bool) → eqb 72 c ≡ x → (y : Bool) → eqb 83 c ≡ y → (z : Bool) → eqb 84 c ≡ z → (u : Bool) → eqb 77 c ≡ u
-        → Within (cond x (era 72 19880000 19890108 20871231) (cond y (era 83 19250000 19261225 19890107) (cond z (era 84 19110000 19120730 19261224) (cond u (era 77 18670000 18730101 19120729) noEra)))) k n
-        → Named c k n
-    go true p y q z r u t w = by (era 72 19880000 19890108 20871231) (rw (le-leb 19890108 n (w .first))) (eqb-true 72 c p) (w .is)
-    go false p true q z r u t w =
-        by (era 83 19250000 19261225 19890107) (rw (lt-leb 19890108 n (omega (arith, w .last)), le-leb 19261225 n (w .first))) (eqb-true 83 c q) (w .is)
-    go false p false q true r u t w =
-        by (era 84 19110000 19120730 19261224) (rw (lt-leb 19890108 n (omega (arith, w .last)), lt-leb 19261225 n (omega (arith, w .last)), le-leb 19120730 n (w .first)))
-        (eqb-true 84 c r) (w .is)
-    go false p false q false r true t w =
-        by (era 77 18670000 18730101 19120729)
-        (rw (lt-leb 19890108 n (omega (arith, w .last)), lt-leb 19261225 n (omega (arith, w .last)), lt-leb 19120730 n (omega (arith, w .last)), le-leb 18730101 n (w .first)))
-        (eqb-true 77 c t) (w .is)
-    go false p false q false r false t w = absurd (omega (arith, w .first, w .last))
-
-from-era : (c k n : ℕ) → fromEra c k ≡ Date (record { ymd = n }) → Named c k n
+from-era : (c k n : ℕ) → fromEra c k ≡ Date (record { ymd = n }) → Within (eraOf c) k n
 unfolding fromEra
-from-era c k n h = go (leb k 999999) h
+from-era c k n h = go (leb k 999999) refl h
   where
-    go : (x : Bool) → cond x (inEra (eraOf c) ((eraOf c) .before + k)) NotADate ≡ Date (record { ymd = n }) → Named c k n
-    go true f = named c k n f
-    go false f = absurd (not-date f)
+    go : (x : Bool) → leb k 999999 ≡ x → cond x (inEra (eraOf c) ((eraOf c) .before + k)) NotADate ≡ Date (record { ymd = n }) → Within (eraOf c) k n
+    go true b f = in-era (eraOf c) k n (leb-true k 999999 b) f
+    go false b f = absurd (not-date f)
 
-era-own : (a : ℕ) (l : List ℕ) (n : ℕ) → length l ≡ 6 → all isDigit l ≡ true → fromEra a (value 0 l) ≡ Date (record { ymd = n }) → writeDay n ≡ a ∷ l
-unfolding writeDay
-era-own a l n z h e =
-    let w : Named a (value 0 l) n = from-era a (value 0 l) n e in
-    let b : (eraOn n) .letter ≡ a = w .letter in
-    let c : sixDigits (n - (eraOn n) .before) ≡ l = ap sixDigits (w .number) ∙ digits l z h in
-    cc
-  where
-    digits : (l : List ℕ) → length l ≡ 6 → all isDigit l ≡ true → sixDigits (value 0 l) ≡ l
-    digits [] z h = absurd (omega arith)
-    digits (a ∷ []) z h = absurd (omega arith)
-    digits (a ∷ b ∷ []) z h = absurd (omega arith)
-    digits (a ∷ b ∷ c ∷ []) z h = absurd (omega arith)
-    digits (a ∷ b ∷ c ∷ d ∷ []) z h = absurd (omega arith)
-    digits (a ∷ b ∷ c ∷ d ∷ f ∷ []) z h = absurd (omega arith)
-    digits (a ∷ b ∷ c ∷ d ∷ f ∷ g ∷ []) z h = six a b c d f g h
-    digits (a ∷ b ∷ c ∷ d ∷ f ∷ g ∷ x ∷ l) z h = absurd (omega arith)
+-- a spelling under an era's letter
+pub record EraSpelled (s : List ℕ) (n : ℕ) : Type 0 where
+  pub letter : ℕ
+  pub rest : List ℕ
+  pub is : s ≡ letter ∷ rest
+  pub six : length rest ≡ 6
+  pub numeric : all isDigit rest ≡ true
+  pub within : Within (eraOf letter) (value 0 rest) n
 
--- a date that is not eight bytes long is what is written for its day
-pub own-day : (s : List ℕ) (n : ℕ) → (length s ≡ 8 → ⊥) → readDay s ≡ Date (record { ymd = n }) → writeDay n ≡ s
-unfolding readDay
-own-day s n h e = go (eqb (length s) 7) refl (all isDigit (drop 1 s)) refl (rw (ne-eqb (length s) 8 h) at e)
-  where
-    by : (s : List ℕ) → length s ≡ 7 → all isDigit (drop 1 s) ≡ true → fromEra (getD s 0 0) (value 0 (drop 1 s)) ≡ Date (record { ymd = n }) → writeDay n ≡ s
-    by [] z d f = absurd (omega arith)
-    by (a ∷ l) z d f = era-own a l n (omega arith) d f
+module _ (s : List ℕ) (n : ℕ) (e : readDay s ≡ Date (record { ymd = n })) where
+  -- what is read and is not eight digits is one
+  pub era-spelled : (length s ≡ 8 → 57 < getD s 0 0) → EraSpelled s n
+  unfolding readDay
+  era-spelled o = go (eqb (length s) 8) refl (all isDigit s) refl (eqb (length s) 7) refl (all isDigit (drop 1 s)) refl e
+    where
+      first-digit : (s : List ℕ) → length s ≡ 8 → all isDigit s ≡ true → getD s 0 0 ≤ 57
+      first-digit [] z h = absurd (omega arith)
+      first-digit (b ∷ l) z h = digit-is b (both (isDigit b) _ h .0) .1
 
-    go : (x : Bool) → eqb (length s) 7 ≡ x → (y : Bool) → all isDigit (drop 1 s) ≡ y
-        → cond (x && y) (fromEra (getD s 0 0) (value 0 (drop 1 s))) NotADate ≡ Date (record { ymd = n }) → writeDay n ≡ s
-    go true q true d f = by s (eqb-true (length s) 7 q) d f
-    go true q false d f = absurd (not-date f)
-    go false q y d f = absurd (not-date f)
+      by : (s : List ℕ) → length s ≡ 7 → all isDigit (drop 1 s) ≡ true → fromEra (getD s 0 0) (value 0 (drop 1 s)) ≡ Date (record { ymd = n }) → EraSpelled s n
+      by [] z h f = absurd (omega arith)
+      by (a ∷ l) z h f = record { letter = a; rest = l; is = refl; six = omega arith; numeric = h; within = from-era a (value 0 l) n f }
+
+      seven : (x : Bool) → eqb (length s) 7 ≡ x → (y : Bool) → all isDigit (drop 1 s) ≡ y
+          → cond (x && y) (fromEra (getD s 0 0) (value 0 (drop 1 s))) NotADate ≡ Date (record { ymd = n }) → EraSpelled s n
+      seven true p true h f = by s (eqb-true (length s) 7 p) h f
+      seven true p false h f = absurd (not-date f)
+      seven false p y h f = absurd (not-date f)
+
+      go : (v : Bool) → eqb (length s) 8 ≡ v → (w : Bool) → all isDigit s ≡ w → (x : Bool) → eqb (length s) 7 ≡ x → (y : Bool) → all isDigit (drop 1 s) ≡ y
+          → cond (v && w) (gregorian (value 0 s)) (cond (x && y) (fromEra (getD s 0 0) (value 0 (drop 1 s))) NotADate) ≡ Date (record { ymd = n }) → EraSpelled s n
+      go true p true h x q y r f = absurd (omega (arith, first-digit s (eqb-true (length s) 8 p) h, o (eqb-true (length s) 8 p)))
+      go true p false h x q y r f = seven x q y r f
+      go false p w h x q y r f = seven x q y r f
+
+-- ---- the one that is written
+
+digits : (l : List ℕ) → length l ≡ 6 → all isDigit l ≡ true → sixDigits (value 0 l) ≡ l
+digits [] z h = absurd (omega arith)
+digits (a ∷ []) z h = absurd (omega arith)
+digits (a ∷ b ∷ []) z h = absurd (omega arith)
+digits (a ∷ b ∷ c ∷ []) z h = absurd (omega arith)
+digits (a ∷ b ∷ c ∷ d ∷ []) z h = absurd (omega arith)
+digits (a ∷ b ∷ c ∷ d ∷ f ∷ []) z h = absurd (omega arith)
+digits (a ∷ b ∷ c ∷ d ∷ f ∷ g ∷ []) z h = six a b c d f g h
+digits (a ∷ b ∷ c ∷ d ∷ f ∷ g ∷ x ∷ l) z h = absurd (omega arith)
+
+module _ (s : List ℕ) (n : ℕ) (e : readDay s ≡ Date (record { ymd = n })) where
+  -- IT IS WHAT IS WRITTEN: where the letter is that of the day's era, they are one era
+  pub form-is : isForm s ≡ true → writeDay n ≡ s
+  unfolding isForm writeDay
+  form-is o =
+      let d : isDay n ≡ true = read-is-day s n e in
+      let a : (eraOn n) .letter ≡ getD s 0 0 = eqb-true _ _ (sym (ap (under (getD s 0 0)) e) ∙ o) in
+      let w : EraSpelled s n = era-spelled s n e (λ _. omega (arith, a, day-named n d .row .from-A)) in
+      let b : (eraOn n) .letter ≡ w .letter = a ∙ ap (λ (t : List ℕ). getD t 0 0) (w .is) in
+      let q : eraOf (w .letter) ≡ eraOn n = ap eraOf (sym b) ∙ letter-names n d in
+      let k : n ≡ (eraOn n) .before + value 0 (w .rest) = w .within .is ∙ ap (λ (x : Era). x .before + value 0 (w .rest)) q in
+      let c : sixDigits (n - (eraOn n) .before) ≡ w .rest = ap sixDigits (omega (arith, k)) ∙ digits (w .rest) (w .six) (w .numeric) in
+      let i : s ≡ w .letter ∷ w .rest = w .is in
+      cc
+
+  -- AND NOTHING ELSE IS
+  pub form-only : writeDay n ≡ s → isForm s ≡ true
+  unfolding isForm writeDay
+  form-only w = ap (under (getD s 0 0)) e ∙ eq-eqb _ _ (ap (λ (t : List ℕ). getD t 0 0) w)
+
+-- the era of a letter is of years that fit 32 bits
+pub small-of : (b : ℕ) {e : Era} → e ≡ eraOf b → e .before ≤ 40000000
+small-of b {e} v = omega (arith, letter-small b, ap (λ (y : Era). y .before) v)
+
+-- 0 is no letter
+none-0 : (k n : ℕ) → Within (eraOf 0) k n → ⊥
+unfolding eraOf
+none-0 k n w = omega (arith, w .first, w .last)
+
+-- ---- the ways through `Day::is_written_form`: b is the first byte, e the era that it names, k what `digits_value` answered
+
+module _ (s : List ℕ) (z : length s ≡ 7) {b : ℕ} (i : b ≡ getD s 0 0) {e : Era} (v : e ≡ eraOf b) where
+  spelled : {n : ℕ} → readDay s ≡ Date (record { ymd = n }) → EraSpelled s n
+  spelled {n} h = era-spelled s n h (λ q. absurd (omega (arith, q)))
+
+  letter-is : {n : ℕ} (w : EraSpelled s n) → w .letter ≡ b
+  letter-is w = ap (λ (t : List ℕ). getD t 0 0) (sym (w .is)) ∙ sym i
+
+  era-is : {n : ℕ} (w : EraSpelled s n) → eraOf (w .letter) ≡ e
+  era-is w = ap eraOf (letter-is w) ∙ sym v
+
+  is-under : {n : ℕ} → readDay s ≡ Date (record { ymd = n }) → eqb ((eraOn n) .letter) b ≡ isForm s
+  unfolding isForm
+  is-under h = ap (eqb _) i ∙ sym (ap (under (getD s 0 0)) h)
+
+  pub form-always : {x : Era} → x ≡ eraOn (e .last) → x .letter ≡ b → IsForm true s
+  form-always {x} q l = record { is = λ n h. sym (eq-eqb _ _ (kept n (spelled h))) ∙ is-under h }
+    where
+      kept : (n : ℕ) → EraSpelled s n → (eraOn n) .letter ≡ b
+      kept n w =
+          letter-kept b n (some (eqb b 0) refl w)
+          (ap (λ (y : Era). (eraOn (y .last)) .letter) (sym v) ∙ ap (λ (y : Era). y .letter) (sym q) ∙ l)
+          (omega (arith, w .within .first, ap (λ (y : Era). y .first) (era-is w), ap (λ (y : Era). y .first) v))
+          (omega (arith, w .within .last, ap (λ (y : Era). y .last) (era-is w), ap (λ (y : Era). y .last) v))
+        where
+          some : (t : Bool) → eqb b 0 ≡ t → EraSpelled s n → 1 ≤ b
+          some true q w = absurd (none-0 (value 0 (w .rest)) n (subst (λ (c : ℕ). Within (eraOf c) (value 0 (w .rest)) n) (letter-is w ∙ eqb-true b 0 q) (w .within)))
+          some false q w = omega (arith, eqb-false b 0 q)
+
+  module _ {k : Number} (p : k ≡ numberFrom 0 (take (length s - 1) (drop 1 s))) where
+    rest : k ≡ numberFrom 0 (drop 1 s)
+    rest = p ∙ ap (numberFrom 0) (rest-all 1 s)
+
+    value-is : {m n : ℕ} → k ≡ Is m → (w : EraSpelled s n) → value 0 (w .rest) ≡ m
+    value-is q w = ap (λ (t : List ℕ). value 0 (drop 1 t)) (sym (w .is)) ∙ some-digits (drop 1 s) rest q .1
+
+    pub form-long : {m : ℕ} → k ≡ Is m → 999999 < m → IsForm false s
+    form-long {m} q l = record { is = λ n h. absurd (too-long (spelled h)) }
+      where
+        too-long : {n : ℕ} → EraSpelled s n → ⊥
+        too-long w = omega (arith, w .within .short, value-is q w)
+
+    pub form-on : {m : ℕ} {x : Era} → k ≡ Is m → x ≡ eraOn (e .before + m) → IsForm (eqb (x .letter) b) s
+    form-on {m} {x} q r = record { is = λ n h. ap (λ (y : Era). eqb (y .letter) b) (r ∙ ap eraOn (day n (spelled h))) ∙ is-under h }
+      where
+        day : (n : ℕ) → EraSpelled s n → e .before + m ≡ n
+        day n w = omega (arith, w .within .is, ap (λ (y : Era). y .before) (era-is w), value-is q w)
+
+    pub form-none : k ≡ NoNumber → IsForm false s
+    form-none q = record { is = λ n h. absurd (digits-there (spelled h)) }
+      where
+        digits-there : {n : ℕ} → EraSpelled s n → ⊥
+        digits-there w = false≢true (sym (no-digits (drop 1 s) rest q) ∙ ap (λ (t : List ℕ). all isDigit (drop 1 t)) (w .is) ∙ w .numeric)
+
+pub ruleset form-laws = (form-always, form-long, form-on, form-none)

@@ -5,8 +5,8 @@ use mathlib.Core.Bool.{true, _&&_}
 use mathlib.Core.List.{List, [], _∷_}
 use native.Mathlib.Nat.{div-div-eq-div-mul}
 use native.Mathlib.Omega.{arith}
-use borrow.Author.Tests.{le-leb, eqb-true}
-use lib.Dec.{T, leb, leb→le, eqb}
+use borrow.Author.Tests.{le-leb, leb-true, eqb-true}
+use lib.Dec.{leb, eqb}
 use lib.ListN.{length, getD, drop}
 use Rattle.lists.specs.Lists.{all}
 use Rattle.lists.proofs.Tests.{cond-case, both}
@@ -15,11 +15,11 @@ use Rattle.eras.specs.declared.Era.{Era}
 use Rattle.calendar.specs.declared.Day.{Day}
 use Rattle.calendar.specs.declared.DateRead.{DateRead}
 use Rattle.calendar.specs.declared.DateRead.the-variants.{Date, NotADate}
-use Rattle.eras.specs.Era.{sixDigits, eraOn, writeDay}
+use Rattle.eras.specs.Era.{sixDigits, eraOf, eraOn, writeDay}
 use Rattle.eras.specs.Day.{firstDay, lastDay, isDay}
 use Rattle.calendar.specs.Day.{gregorian}
 use Rattle.calendar.specs.Era.{inEra, fromEra, readDay}
-use Rattle.eras.proofs.Eras.{good-day, before-le, day-named, and-l, and-r}
+use Rattle.eras.proofs.Eras.{WellMade, day-named, letter-names}
 
 digit-step : (n x : ℕ) (s : List ℕ) → value n ((x % 10 + 48) ∷ s) ≡ value (10 * n + x % 10) s
 unfolding value
@@ -55,21 +55,22 @@ pub record InRange (n : ℕ) : Type 0 where
 pub in-range : (n : ℕ) → isDay n ≡ true → InRange n
 unfolding isDay
 in-range n d =
-    let t : T (isDay n) = subst T (sym d) tt in
-    let r : T (leb firstDay n && leb n lastDay) = and-l (leb firstDay n && leb n lastDay) _ t in
-    record { low = leb→le _ _ (and-l (leb firstDay n) _ r); high = leb→le _ _ (and-r (leb firstDay n) _ r) }
+    let r = both (leb firstDay n) (leb n lastDay) (both (leb firstDay n && leb n lastDay) _ d .0) in
+    record { low = leb-true _ _ (r .0); high = leb-true _ _ (r .1) }
+
+-- a day that lies in an era is read under its letter
+pub read-under : (e : Era) (n : ℕ) → eraOf (e .letter) ≡ e → WellMade e → e .first ≤ n → n ≤ e .last → isDay n ≡ true
+    → readDay (e .letter ∷ sixDigits (n - e .before)) ≡ Date (record { ymd = n })
+unfolding readDay fromEra inEra gregorian
+read-under e n l w lo hi d =
+    let k : n - e .before ≤ 999999 = omega (arith, w .last-year) in
+    let s : e .before + (n - e .before) ≡ n = omega (arith, w .first-year) in
+    simp (six-value _ k, six-digits (n - e .before), le-leb _ _ k, l, s, le-leb _ _ lo, le-leb _ _ hi, d)
 
 -- reading what was written gives the day back
 pub read-write : (n : ℕ) → isDay n ≡ true → readDay (writeDay n) ≡ Date (record { ymd = n })
-unfolding readDay writeDay fromEra inEra gregorian
-read-write n d =
-    let r = in-range n d in
-    let e = eraOn n in
-    let g = good-day n in
-    let w = day-named n (r .low) (r .high) in
-    let k : n - e .before ≤ 999999 = omega arith in
-    let s : e .before + (n - e .before) ≡ n = omega (arith, before-le n) in
-    simp (six-value _ k, six-digits (n - e .before), le-leb _ _ k, w .letter, s, le-leb _ _ (w .low), le-leb _ _ (w .high), d)
+unfolding writeDay
+read-write n d = let w = day-named n d in read-under (eraOn n) n (letter-names n d) (w .row) (w .newest .begun) (w .high) d
 
 date-injective : (m n : ℕ) → Date (record { ymd = m }) ≡ Date (record { ymd = n }) → m ≡ n
 date-injective m n e = let d : _≡_ {A = Day} (record { ymd = m }) (record { ymd = n }) = cc in ap (λ (x : Day). x .ymd) d
@@ -124,9 +125,10 @@ abbrev pub Plain : List ℕ → Type 0
 Plain [] = Unit {0}
 Plain (b ∷ s) = (48 ≤ b) × (b ≤ 90) × Plain s
 
+-- what an era's letter and six digits are
+pub under-plain : (e : Era) (k : ℕ) → WellMade e → Plain (e .letter ∷ sixDigits k)
+under-plain e k w = (omega (arith, w .from-A), w .to-Z, omega arith)
+
 pub write-plain : (n : ℕ) → isDay n ≡ true → Plain (writeDay n)
 unfolding writeDay
-write-plain n d =
-    let r = in-range n d in
-    let w = day-named n (r .low) (r .high) in
-    (omega arith, omega arith, omega arith)
+write-plain n d = under-plain (eraOn n) (n - (eraOn n) .before) (day-named n d .row)

@@ -69,14 +69,14 @@ number-is n (b ∷ s) = go (isDigit b) (number-is (10 * n + (b - 48)) s)
     go false i = refl
 
 -- where a number was read, the run is digits of that value; where none was, it isn't
-some-digits : (s : List ℕ) {x : Number} {n : ℕ} → x ≡ numberFrom 0 s → x ≡ Is n → (all isDigit s ≡ true) × (value 0 s ≡ n)
+pub some-digits : (s : List ℕ) {x : Number} {n : ℕ} → x ≡ numberFrom 0 s → x ≡ Is n → (all isDigit s ≡ true) × (value 0 s ≡ n)
 some-digits s {x} {n} p q = go (all isDigit s) refl (sym (number-is 0 s) ∙ sym p ∙ q)
   where
     go : (b : Bool) → all isDigit s ≡ b → cond b (Is (value 0 s)) NoNumber ≡ Is n → (all isDigit s ≡ true) × (value 0 s ≡ n)
     go true e f = (e, cc)
     go false e f = let z : _≡_ {A = ℕ} 0 1 = cc in absurd (omega arith)
 
-no-digits : (s : List ℕ) {x : Number} → x ≡ numberFrom 0 s → x ≡ NoNumber → all isDigit s ≡ false
+pub no-digits : (s : List ℕ) {x : Number} → x ≡ numberFrom 0 s → x ≡ NoNumber → all isDigit s ≡ false
 no-digits s p q = go (all isDigit s) refl (sym (number-is 0 s) ∙ sym p ∙ q)
   where
     go : (b : Bool) → all isDigit s ≡ b → cond b (Is (value 0 s)) NoNumber ≡ NoNumber → all isDigit s ≡ false

@@ -1,5 +1,5 @@
 -- Definitions, to be believed.
--- The item of kind D read: its two spellings. Document 01, kind D; 15-106 3.2.9, dates. The eras: eras, specs/Era.antt.
+-- The item of kind D read: eight digits, or an era's letter and six. Document 01, kind D; 15-106 3.2.9, dates. The eras: eras, specs/Era.antt.
 use Prim.Native.Nat.{ℕ, _+_}
 use mathlib.Core.List.{List}
 use mathlib.Core.Bool.{cond, _&&_}

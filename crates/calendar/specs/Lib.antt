@@ -1,3 +1,4 @@
 pub mod Day
 pub mod Era
+pub mod Form
 pub mod Digits

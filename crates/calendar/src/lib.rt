@@ -1,4 +1,4 @@
-// The days of the medication notebook: read from either spelling, written in the era form. Definitions: specs/Day.antt and
+// The days of the medication notebook: read from every spelling, written in the era form. Definitions: specs/Day.antt and
 // specs/Era.antt, and crate eras. A new era moves `eras` there and ERAS here, by one row each.
 ghost use mathlib.Core.Path.{_≡_};
 ghost use Prim.Native.Nat.{_≤_};
@@ -9,6 +9,7 @@ ghost use Rattle.eras.specs.Day.{leap, monthLength};
 ghost use Rattle.calendar.specs.Day.{gregorian};
 ghost use Rattle.eras.specs.Era.{eraOf, eraOn, writeDay};
 ghost use Rattle.calendar.specs.Era.{fromEra, readDay};
+ghost use Rattle.calendar.specs.Form.{IsForm};
 use eras::Era;
 
 // What a run of digits reads to.
@@ -37,7 +38,13 @@ const NO_ERA: Era = Era {
 };
 
 // The eras, the newest first.
-const ERAS: [Era; 4] = [
+const ERAS: [Era; 5] = [
+    Era {
+        letter: b'R',
+        before: 20180000,
+        first: 20190501,
+        last: 20871231,
+    },
     Era {
         letter: b'H',
         before: 19880000,
@@ -198,6 +205,30 @@ impl Day {
             }
         } else {
             DateRead::NotADate
+        }
+    }
+
+    // Whether a date of seven bytes is what is written for its day: its letter is that of the newest era that has begun. Where that is so on the last
+    // day that is read under the letter, it is so on every day; else the day is asked for.
+    pub fn is_written_form(s: &[u8]) -> bool
+        requires { ⌜ length (now s) ≡ 7 ⌝ }
+        ensures { λ r. ⌜ IsForm r (now (s .entry)) ⌝ }
+    {
+        let letter = s[0];
+        let e = era_by_letter(letter);
+        let at_last = era_of_day(e.last);
+        if at_last.letter == letter {
+            return true;
+        }
+        match digits_value(&s[1..]) {
+            Number::Is(k) => {
+                if 999999 < k {
+                    return false;
+                }
+                let own = era_of_day(e.before + k);
+                own.letter == letter
+            }
+            Number::NoNumber => false,
         }
     }
 

@@ -10,7 +10,7 @@ use lib.Dec.{leb, eqb}
 use lib.ListN.{length, getD, take, drop, length-append, length-take, length-drop}
 use lib.Seq.{take-all}
 use Rattle.lists.specs.Lists.{empty, all}
-use Rattle.lists.proofs.Tests.{both, unless-zero, same-true}
+use Rattle.lists.proofs.Tests.{both, not-false′, unless-zero, same-true}
 use Rattle.digits.specs.Digits.{isDigit, number, spell}
 use Rattle.digits.specs.Short.{orThousand, shortValue, plainNumber}
 use Rattle.digits.proofs.Numbers.{number-length}
@@ -19,6 +19,7 @@ use Rattle.calendar.specs.declared.DateRead.{DateRead}
 use Rattle.calendar.specs.declared.DateRead.the-variants.{Date, NotADate}
 use Rattle.calendar.specs.declared.Day.{Day}
 use Rattle.calendar.specs.Era.{readDay}
+use Rattle.calendar.specs.Form.{IsForm}
 use Rattle.eras.specs.Era.{writeDay}
 use Rattle.records.specs.Table.{Kind, N, U, X, A, F, C, P, R, W, Q, D, among}
 use Rattle.records.specs.Items.{raw, writeValue, numberFault, numberValue, dayFault, dayValue, unhyphened, seven, postal, fault, valueOf}
@@ -27,7 +28,8 @@ use Rattle.items.specs.Codes.{setOf, kindOf}
 use Rattle.buffers.specs.Buffers.{Room, Wrote}
 use Rattle.buffers.proofs.Runs.{then}
 use Rattle.canonical.specs.Writing.{postalBytes, numberBytes, dayBytes, itemBytes, Spellable, oneSpelling, OwnUnless, Stays}
-use Rattle.calendar.proofs.EraForm.{own-day}
+use Rattle.calendar.proofs.EraForm.{not-date, form-is}
+use Rattle.calendar.proofs.Steps.{none-else}
 
 -- nothing is written
 pub wrote-none : (d : List ℕ) (at : ℕ) (w : List ℕ) → Room d at w → w ≡ [] → Wrote d d at at w
@@ -254,15 +256,15 @@ number-own (x ∷ s) g h = go (number (x ∷ s)) refl (g refl)
         let l : 1 ≤ n = leb-true 1 n (unless-zero (leb 1 n) 10 f) in
         sym (same-true (x ∷ s) (spell n) (same-spell (x ∷ s) n l b ∙ eq-eqb (plainNumber (x ∷ s)) n (plain-is (x ∷ s) n h q b)))
 
--- a date with its era
-day-own : (s : List ℕ) → (empty s ≡ false → fault D s ≡ 0) → (length s ≡ 8 → ⊥) → dayBytes s ≡ s
+-- a date that is what is written for its day
+day-own : (s : List ℕ) → (empty s ≡ false → fault D s ≡ 0) → ((n : ℕ) → readDay s ≡ Date (record { ymd = n }) → writeDay n ≡ s) → dayBytes s ≡ s
 unfolding dayBytes fault
 day-own [] g h = day-blank [] refl
 day-own (x ∷ s) g h = go (readDay (x ∷ s)) refl (g refl)
   where
     go : (o : DateRead) → readDay (x ∷ s) ≡ o → dayFault o ≡ 0 → writeValue (dayValue o) ≡ x ∷ s
     go NotADate q f = absurd (omega arith)
-    go (Date d) q f = own-day (x ∷ s) (d .ymd) h q
+    go (Date d) q f = h (d .ymd) q
 
 -- an item of any other kind
 pub own-kind : (c : ℕ) (s : List ℕ) → oneSpelling c ≡ true → itemBytes c s ≡ s
@@ -278,17 +280,29 @@ module _ (c : ℕ) (s : List ℕ) (g : Spellable c s) where
   pub own-number : {b : ℕ} → c / 4 % 16 ≡ 7 → b ≡ getD s 0 0 → OwnUnless (eqb b 48) c s
   own-number e q = record { own = λ f. item-number c s e ∙ number-own s (λ h. (rw (kind-number (c / 4 % 16) (c / 64) e) at (g .good h))) (λ z. eqb-false _ _ f (q ∙ z)) }
 
-  pub own-other : (c / 4 % 16 ≡ 7 → ⊥) → OwnUnless (eqb (length s) 8) c s
-  own-other n = record { own = λ f. go (eqb (c / 4 % 16) 6) refl (eqb (c / 4 % 16) 10) refl (eqb-false _ _ f) }
-    where
-      go : (x : Bool) → eqb (c / 4 % 16) 6 ≡ x → (y : Bool) → eqb (c / 4 % 16) 10 ≡ y → (length s ≡ 8 → ⊥) → itemBytes c s ≡ s
-      go true p y q h = item-postal c s g (eqb-true _ _ p) ∙ without-hyphen s h
-      go false p true q h =
-          let e : c / 4 % 16 ≡ 10 = eqb-true _ _ q in
-          item-day c s e ∙ day-own s (λ i. (rw (kind-day (c / 4 % 16) (c / 64) e) at (g .good i))) h
-      go false p false q h = item-kept c s (eqb-false _ _ p) n (eqb-false _ _ q)
+  -- eight bytes may have another spelling
+  pub own-eight : OwnUnless true c s
+  own-eight = record { own = λ f. absurd (false≢true (sym f)) }
 
-pub ruleset own-laws = (own-number, own-other)
+  module _ (e : c / 4 % 16 ≡ 10) where
+    date-own : ((n : ℕ) → readDay s ≡ Date (record { ymd = n }) → writeDay n ≡ s) → itemBytes c s ≡ s
+    date-own o = item-day c s e ∙ day-own s (λ h. (rw (kind-day (c / 4 % 16) (c / 64) e) at (g .good h))) o
+
+    pub own-date : {b : Bool} → IsForm b s → OwnUnless (not b) c s
+    own-date {b} o = record { own = λ f. date-own (λ n q. form-is s n q (sym (o .is n q) ∙ not-false′ b f)) }
+
+    -- a date of another length is none
+    pub own-blank : (length s ≡ 8 → ⊥) → (length s ≡ 7 → ⊥) → OwnUnless false c s
+    own-blank p q = record { own = λ f. date-own (λ n d. absurd (not-date (none-else s p q ∙ d))) }
+
+  pub own-other : (c / 4 % 16 ≡ 7 → ⊥) → (length s ≡ 8 → ⊥) → (c / 4 % 16 ≡ 10 → ⊥) → OwnUnless false c s
+  own-other n h d = record { own = λ f. go (eqb (c / 4 % 16) 6) refl }
+    where
+      go : (x : Bool) → eqb (c / 4 % 16) 6 ≡ x → itemBytes c s ≡ s
+      go true p = item-postal c s g (eqb-true _ _ p) ∙ without-hyphen s h
+      go false p = item-kept c s (eqb-false _ _ p) n d
+
+pub ruleset own-laws = (own-number, own-eight, own-date, own-blank, own-other)
 
 -- a number that begins with no zero
 pub own-plain : (c : ℕ) (s : List ℕ) → Spellable c s → c / 4 % 16 ≡ 7 → (getD s 0 0 ≡ 48 → ⊥) → itemBytes c s ≡ s

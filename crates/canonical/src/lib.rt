@@ -78,17 +78,26 @@ fn put_item(out: &mut [u8], at: usize, c: usize, s: &[u8]) -> usize
     }
 }
 
-// Whether an item without a fault may have another spelling than its own bytes: a number with a leading zero, or eight bytes, as a postal code
-// with its hyphen and a date without an era have.
+// Whether an item without a fault may have another spelling than its own bytes: a number with a leading zero, a date that is not what is written for its
+// day, or eight bytes, as a postal code with its hyphen has.
 fn respelled(c: usize, s: &[u8]) -> bool
     requires { ⌜ Spellable c (now s) ⌝ }
     ensures { λ r. ⌜ OwnUnless r c (now (s .entry)) ⌝ }
 {
-    if c / 4 % 16 == 7 {
+    let kind = c / 4 % 16;
+    if kind == 7 {
         let first = lists::byte_at(s, 0);
         return first == 0x30;
     }
-    s.len() == 8
+    if s.len() == 8 {
+        return true;
+    }
+    if kind == 10 {
+        if s.len() == 7 {
+            return !calendar::Day::is_written_form(s);
+        }
+    }
+    false
 }
 
 // ---- runs

@@ -77,8 +77,14 @@ cases =
     item D "S640107" is fault 0 ∷ date "S640107" is day 19890107 (bytes "S640107") ∷ item D "S640108" is fault 11 ∷
     -- "20160411 is H280411; H290229 is 11."
     date "20160411" is day 20160411 (bytes "H280411") ∷ date "H280411" is day 20160411 (bytes "H280411") ∷ item D "H290229" is fault 11 ∷
-    -- "20871231 is H991231; 20880101 is 11."
-    date "20871231" is day 20871231 (bytes "H991231") ∷ date "H991231" is day 20871231 (bytes "H991231") ∷ item D "20880101" is fault 11 ∷
+    -- "20871231 is H991231; 20880101 is 11.": document 02 (i), "20871231 becomes R691231 in 01's cases"
+    date "20871231" is day 20871231 (bytes "R691231") ∷ date "H991231" is day 20871231 (bytes "R691231") ∷ date "R691231" is day 20871231 (bytes "R691231") ∷
+    item D "20880101" is fault 11 ∷
+    -- document 02 (i), "R runs from 1 May 2019. Heisei ends for writing on 30 April 2019": and R year 0, R year 70 and a small letter are none
+    date "20190430" is day 20190430 (bytes "H310430") ∷ date "H310430" is day 20190430 (bytes "H310430") ∷ item D "R010430" is fault 11 ∷
+    item D "R000501" is fault 11 ∷ item D "R700101" is fault 11 ∷ item D "r010501" is fault 11 ∷
+    -- "H310501 and R010501 are one day and get one spelling."
+    date "20190501" is day 20190501 (bytes "R010501") ∷ date "H310501" is day 20190501 (bytes "R010501") ∷ date "R010501" is day 20190501 (bytes "R010501") ∷
     -- "Dose 0.25 good, 1.50 and .5 are 11."
     item Q "0.25" is fault 0 ∷ item Q "1.50" is fault 11 ∷ item Q ".5" is fault 11 ∷
     -- "JAHISTC04,2 and 1,A,1,19890108,,,,,,, and 1Ah: 37 bytes, canonical 35. The program `notecheck` .. prints `ok 1 0 0` (records, groups,

@@ -1,3 +1,5 @@
 pub mod Day
 pub mod Era
+pub mod Newest
+pub mod Orderly
 pub mod Examples

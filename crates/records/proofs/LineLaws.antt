@@ -3,7 +3,7 @@
 use Prim.Native.Nat.{ℕ, _≤_}
 use mathlib.Core.Path.{_≡_, refl, sym, ap, _∙_, subst}
 use mathlib.Core.Bool.{Bool, true, false, cond, not, _||_}
-use mathlib.Core.List.{List, [], _∷_}
+use mathlib.Core.List.{List, [], _∷_, map}
 use native.Mathlib.Omega.{arith}
 use borrow.Author.Tests.{leb-true, eqb-true, eq-eqb}
 use lib.Dec.{leb, eqb}
@@ -16,7 +16,7 @@ use Rattle.characters.specs.Scanning.{clean}
 use Rattle.characters.proofs.CharLaws.{chars-clean}
 use Rattle.records.specs.Split.{itemsOf, joined}
 use Rattle.records.specs.Table.{Item, Row, table}
-use Rattle.records.specs.Items.{Value}
+use Rattle.records.specs.Items.{Value, writeValue}
 use Rattle.records.specs.Records.{Record, rowIn, tableRow, pairs, itemsFault, recordFrom, faultFrom, lineFault, recordOf, t911, write}
 use Rattle.records.specs.Reading.{ok, faulty, readLine}
 use Rattle.records.proofs.Splits.{NoComma, AllChars, Split, split, items-joined, joined-length, chars-parts, chars-joined}
@@ -73,6 +73,8 @@ pub record Good (d : Bool) (l : List ℕ) (r : Record) : Type 0 where
   pub same : recordOf (write r) ≡ r
   pub short : length (write r) ≤ length l
   pub clean : clean l ≡ true
+  -- the items of what is written, one for each value
+  pub items : itemsOf (write r) ≡ spell (r .number) ∷ map writeValue (r .values)
   pub head : List ℕ
   pub rest : List (List ℕ)
   pub cut : itemsOf l ≡ head ∷ rest
@@ -107,6 +109,7 @@ line-good d l e =
       same = ap recordOf is ∙ ap recordFrom back ∙ rec;
       short = omega (arith, ap length is, n);
       clean = chars-clean l chars;
+      items = ap itemsOf is ∙ back ∙ ap (λ (x : List ℕ). x ∷ ws) sp;
       head = h;
       rest = ss;
       cut = p .cut;
