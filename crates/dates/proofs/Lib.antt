@@ -1,0 +1,4 @@
+pub mod AllExamples
+pub mod Written
+pub mod Births
+pub mod Promises
