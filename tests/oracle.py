@@ -1,4 +1,5 @@
-"""A plain reading of document 01, for comparing with the gateway.
+"""A plain reading of document 01 with the requests of document 02 that have
+landed ((i), Reiwa), for comparing with the gateway.
 
 check(data) answers ("ok", records, groups, drugs) or ("no", number, line).
 Whatever a record's standing depends on is found by looking back over the list
@@ -77,24 +78,28 @@ def characters(raw):
 FIRST_DAY = datetime.date(1873, 1, 1)
 LAST_DAY = datetime.date(2087, 12, 31)
 
-# letter: year before year 1, first day, last day
+# letter: year before year 1, first day, last day that is read. An era is a row
+# here and nothing else: letters and spellings are taken from the rows.
 ERAS = {
     b"M": (1867, FIRST_DAY, datetime.date(1912, 7, 29)),
     b"T": (1911, datetime.date(1912, 7, 30), datetime.date(1926, 12, 24)),
     b"S": (1925, datetime.date(1926, 12, 25), datetime.date(1989, 1, 7)),
+    # 02 (i): "Heisei ends for writing on 30 April 2019. A later day under H, from
+    # older phones, is still read and is written under R."
     b"H": (1988, datetime.date(1989, 1, 8), LAST_DAY),
+    b"R": (2018, datetime.date(2019, 5, 1), LAST_DAY),
 }
 
 
 def day(raw):
     """The day that a D item names, or None."""
     western = re.fullmatch(rb"([0-9]{4})([0-9]{2})([0-9]{2})", raw)
-    era = re.fullmatch(rb"([MTSH])([0-9]{2})([0-9]{2})([0-9]{2})", raw)
+    era = re.fullmatch(rb"(.)([0-9]{2})([0-9]{2})([0-9]{2})", raw)
     try:
         if western:
             found = datetime.date(*(int(part) for part in western.groups()))
             first, last = FIRST_DAY, LAST_DAY
-        elif era:
+        elif era and era[1] in ERAS:
             before, first, last = ERAS[era[1]]
             found = datetime.date(before + int(era[2]), int(era[3]), int(era[4]))
         else:
@@ -466,10 +471,11 @@ def index(data, out):
 
 
 def era_form(found):
-    for letter, (before, first, last) in ERAS.items():
-        if first <= found <= last:
-            year = found.year - before
-            return letter + b"%02d%02d%02d" % (year, found.month, found.day)
+    """The day under the newest era that has begun, whichever others read it."""
+    begun = [(first, letter) for letter, (_, first, _) in ERAS.items() if first <= found]
+    _, letter = max(begun)
+    year = found.year - ERAS[letter][0]
+    return letter + b"%02d%02d%02d" % (year, found.month, found.day)
 
 
 def canonical_item(item, rule):
