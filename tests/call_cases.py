@@ -8,6 +8,7 @@ have the oracle's own answer.
 """
 
 import collections
+import datetime
 import itertools
 import struct
 import sys
@@ -16,8 +17,8 @@ import zlib
 import make_cases
 import oracle
 from make_cases import (
-    ADVICE, DATE, DOCTOR, GOOD, HOSPITAL, KEEPER, NUMBERS, PATIENT, PHARMACY, PRESCRIBER,
-    drug, file, note, raw, to_patient, to_provider, usage)
+    ADVICE, CHANGE, DATE, DOCTOR, GOOD, HOSPITAL, ITEMS, KEEPER, NUMBERS, PATIENT, PHARMACY,
+    PRESCRIBER, alone, changed, drug, file, note, raw, to_patient, to_provider, under, usage)
 
 # The calls that the program answers. A call that the gateway does not export
 # yet is left out here; its families then make no frames.
@@ -145,16 +146,37 @@ EXAMPLES = [
      [(15, 15, 14), (24, 24, 23)]),
 ]
 
-# One day in both calendars: the ends of the day type and of every era.
+# One day in each entry, in every spelling that is read; first the one that is
+# written. The ends of the day type and of every era.
 DAYS = """
-18730101 M060101   18730102 M060102   19120728 M450728   19120729 M450729
-19120730 T010730   19121231 T011231   19130101 T020101   19261224 T151224
-19261225 S011225   19261231 S011231   19270101 S020101   19881231 S631231
-19890101 S640101   19890107 S640107   19890108 H010108   19891231 H011231
-19900101 H020101   20000229 H120229   20160411 H280411   20190430 H310430
-20190501 H310501   20871230 H991230   20871231 H991231   18991231 M321231
-""".split()
-DAYS = list(zip(DAYS[::2], DAYS[1::2]))
+M060101 18730101, M060102 18730102, M450728 19120728, M450729 19120729,
+T010730 19120730, T011231 19121231, T020101 19130101, T151224 19261224,
+S011225 19261225, S011231 19261231, S020101 19270101, S631231 19881231,
+S640101 19890101, S640107 19890107, H010108 19890108, H011231 19891231,
+H020101 19900101, H120229 20000229, H280411 20160411, H310430 20190430,
+R010501 20190501 H310501, R010502 20190502 H310502, R011231 20191231 H311231,
+R020101 20200101 H320101, R020229 20200229 H320229, R691231 20871231 H991231,
+M321231 18991231
+"""
+DAYS = [one.split() for one in DAYS.split(",")]
+
+
+def days_at_ends():
+    """The first day of each era and the last day of all, each with the day before it,
+    as entries of DAYS: from the rows of the oracle's table, so that a further row has
+    its cases. The newest era that has begun is the one that is written."""
+    newest = sorted(oracle.ERAS.items(), key=lambda row: row[1][1], reverse=True)
+    ends = [first for _, (_, first, _) in newest] + [oracle.LAST_DAY]
+    for day in [end - datetime.timedelta(back) for end in ends for back in (0, 1)]:
+        spelled = [under(letter, before, day)
+                   for letter, (before, first, last) in newest if first <= day <= last]
+        if spelled:  # the day before the first of all has none
+            yield [spelled[0], day.strftime("%Y%m%d"), *spelled[1:]]
+
+
+# A further era changes how 20871231 is written, which is a case of the paper: the
+# oracle then agrees with the new entry and not with the one above.
+DAYS += [entry for entry in days_at_ends() if entry not in DAYS]
 
 
 def every_day(one):
@@ -186,6 +208,30 @@ ALIKE = to_provider(
     "55,01,02,1", "201,1,001,0.25,01,2,007,1", "281,1,01,1", "291,1,002,1",
     "301,1,001,10,002,,2,0003,1", "311,1,01,1", "391,1,01,1", "401,01,1", "411,02,30,1",
     "501,19890108,1", "601,105-0004,", "701,001,02,105-0004,,,1")
+
+# A day that is written otherwise, in every item that is text or a code.
+TEXTS = to_provider(
+    "1,H310501,1,H010108,,H310501,H310501,H310501,H310501,,H310501", "2,1,H310501,2",
+    "3,H310501,,,2", "4,H310501,,2", "5,H310430,1", "11,H310501,,,,,H310501,H310501,1",
+    "15,H310501,H310501,1", "51,H310501,,,,1", "55,H310501,H310501,1",
+    "201,1,H310501,1,H310501,2,H310501,1", "281,1,H310501,1", "291,1,H310501,1",
+    "301,1,H310501,,H310501,,2,H310501,1", "311,1,H310501,1", "391,1,H310501,1",
+    "401,H310501,1", "411,H310501,30,1", "501,H310501,1", "601,H310501,",
+    "701,H310501,H310501,H310501,,,1")
+
+# 02 (i): one notebook as an older phone has it, with days of R under H; with
+# western days; and canonical.
+OLDER_PHONE = [
+    "1,A,1,H010108,,,,,,,", "3,x,H310501,H310510,2", "4,x,H310430,2", "5,H310508,1", drug(),
+    "601,x,H310509", "5,H310501,1", "5,H310430,1", "701,x,x,x,H310401,H311231,1"]
+WESTERN = [
+    "1,A,1,19890108,,,,,,,", "3,x,20190501,20190510,2", "4,x,20190430,2", "5,20190508,1", drug(),
+    "601,x,20190509", "5,20190501,1", "5,20190430,1", "701,x,x,x,20190401,20191231,1"]
+REIWA = [
+    "1,A,1,H010108,,,,,,,", "3,x,R010501,R010510,2", "4,x,H310430,2", "5,R010508,1", drug(),
+    "601,x,R010509", "5,R010501,1", "5,H310430,1", "701,x,x,x,H310401,R011231,1"]
+SPELLINGS = [("an older phone's file", OLDER_PHONE), ("western days of 2019", WESTERN),
+             ("a file in R", REIWA)]
 
 
 # =============================================================================
@@ -265,9 +311,10 @@ def index():
           [(2, 7, 1), (8, 12, 2)], [(6, 7, 5)])
 
     # Spellings: offsets and lengths are the file's own.
-    for western, era in DAYS:
-        for one in (western, era):
-            given("every day is %s" % one, every_day(one), [(9, 11, 1)], each=accepted)
+    for one in itertools.chain(*DAYS):
+        given("every day is %s" % one, every_day(one), [(9, 11, 1)], each=accepted)
+    for label, lines in SPELLINGS:
+        given(label, to_provider(*lines), [(5, 7, 1), (8, 8, 2), (9, 9, 3)])
     for content, label in [(every_postal_code("105-0004"), "hyphen"),
                            (every_postal_code("1050004"), "no hyphen")]:
         given("postal codes with " + label, content, [(3, 4, 1)], each=accepted)
@@ -304,6 +351,53 @@ def index():
 # =============================================================================
 
 
+def days_of_2019(given):
+    """02 (i): "H310501 and R010501 are one day and get one spelling"."""
+    # Each item of kind D by itself; the days around it are western.
+    for number in NUMBERS:
+        for at in [at for at, (kind, _) in enumerate(ITEMS[number]) if kind == "D"]:
+            def around(item):
+                return alone(number, changed(number, at, item))
+
+            where = "%d item %d is " % (number, at + 1)
+            for written, *others in CHANGE[:2]:
+                result = around(written)[0]
+                result = result.replace(b"19890108", b"H010108").replace(b"20160411", b"H280411")
+                for one in [*others, written]:
+                    given(where + one, around(one)[0], result)
+            content, line, _ = around("R010430")
+            refused("canonical", where + "R010430", content, "no 11 %d" % line, room=200)
+
+    for label, lines in SPELLINGS:
+        given(label, to_provider(*lines), to_provider(*REIWA), in_buffers)
+        given(label + ", 1A", to_provider(*lines) + b"\x1a", to_provider(*REIWA))
+    # One line alone is not canonical yet.
+    for at, (old, new) in enumerate(zip(OLDER_PHONE, REIWA)):
+        if old != new:
+            given("line %d as an older phone has it" % (at + 2),
+                  to_provider(*REIWA[:at], old, *REIWA[at + 1 :]), to_provider(*REIWA))
+
+    # All spellings of one file, whose groups fall from R to H.
+    def groups(days):
+        return to_provider("1,A,1,H010108,,,,,,,", *("5,%s,1" % day for day in days))
+
+    falling = groups(["R010502", "R010501", "H310430"])
+    for days in itertools.product(*CHANGE[::-1]):
+        given("groups of " + " ".join(days), groups(days), falling)
+    given("groups of one day", groups(["H310501", "R010501", "20190501", "R010501", "H310501"]),
+          groups(["R010501"] * 5), in_buffers)
+
+    visit = [HOSPITAL, ADVICE]
+    given("direction 1, days of 2019",
+          to_patient("5,H310501,1", *visit, "5,R010501,1", *visit, "5,20190430,1", *visit),
+          to_patient("5,R010501,1", *visit, "5,R010501,1", *visit, "5,H310430,1", *visit),
+          in_buffers)
+    given("texts that look like days under H", TEXTS, TEXTS)
+    memos = ["4,x,H310501,2"] * 4366
+    given("4366 days of an older phone", to_provider(ONE, *memos),
+          to_provider(ONE, *(memo.replace("H31", "R01") for memo in memos)))
+
+
 def canonical():
     def given(label, content, result, each=accepted):
         each("canonical", label, content, "%d" % len(result), result)
@@ -324,9 +418,10 @@ def canonical():
         given(label, content, result, in_buffers)
         given(label + ", 1A", content + b"\x1a", result)
 
-    for western, era in DAYS:
-        given("every day is %s" % western, every_day(western), every_day(era))
-        given("every day is %s" % era, every_day(era), every_day(era))
+    for written, *others in DAYS:
+        for one in [*others, written]:
+            given("every day is %s" % one, every_day(one), every_day(written))
+    days_of_2019(given)
     given("postal codes with hyphen", every_postal_code("105-0004"),
           every_postal_code("1050004"), in_buffers)
     given("postal codes of zeros", every_postal_code("000-0000"),
@@ -392,6 +487,12 @@ def one_piece(direction, lines, n, k, ident=ID, end=b""):
 
 def list_of(direction, runs, ident=ID):
     return [one_piece(direction, run, len(runs), k, ident) for k, run in enumerate(runs, 1)]
+
+
+def pieces_ending(lines, ends):
+    """These lines in pieces that end after so many of them."""
+    bounds = [0, *ends, len(lines)]
+    return list_of(2, [lines[a:b] for a, b in zip(bounds, bounds[1:])])
 
 
 def memo_runs(memos, size, capacity):
@@ -474,6 +575,20 @@ def cut():
     dated = to_provider(PATIENT, *["4,x,19890108,2"] * 5) + b"\x1a"
     for capacity in range(0, 114):
         memo_cut("5 memos with dates, %d" % capacity, 5, "4,x,H010108,2", capacity, dated)
+    # 02 (i): what is cut is the canonical file, in R.
+    for spelled in ("H310501", "20190501", "R010501"):
+        dated = to_provider(PATIENT, *["4,x,%s,2" % spelled] * 5)
+        for capacity in (58, 59, 66, 67, 81, 82, 109, 110):
+            memo_cut("5 memos of %s, %d" % (spelled, capacity), 5, "4,x,R010501,2", capacity, dated)
+    # Records of 22, 23, 15, 13, 18, 15, 13, 13 and 29 bytes; 37 are left for the rest.
+    assert len(to_provider(*REIWA)) == 174
+    for label, lines in SPELLINGS:
+        content, each = to_provider(*lines), in_buffers if lines == OLDER_PHONE else accepted
+        given(label + ", whole", content, 174, [to_provider(*REIWA)], each=each)
+        for capacity, ends in [(173, [8]), (100, [3, 7]), (66, [1, 2, 4, 5, 7, 8])]:
+            given("%s, %d" % (label, capacity), content, capacity, pieces_ending(REIWA, ends),
+                  each=each)
+        no("%s, 65" % label, content, 65, "no 18 0", room=600)
     for memos in range(1, 8):
         total = 13 + 22 + 8 * memos
         for capacity in (total - 1, total):
@@ -611,8 +726,8 @@ def join():
     given("37 bytes", SMALL, SMALL[:-1], in_buffers)
     given("36 bytes", SMALL[:-1], SMALL[:-1], in_buffers)
     given("items that look like days", ALIKE, ALIKE, in_buffers)
-    for western, _ in DAYS[::4]:
-        given("every day is %s" % western, every_day(western), every_day(western))
+    for one in itertools.chain(*DAYS[::4]):
+        given("every day is %s" % one, every_day(one), every_day(one))
     given("postal codes with hyphen", every_postal_code("105-0004"),
           every_postal_code("105-0004"))
     given("every RP is 001", every_value("001", "005"), every_value("001", "005"))
@@ -863,6 +978,34 @@ def join():
         for capacity in (len(whole) - 1, 180):
             cutting = oracle.pieces_of(content, capacity, ID)
             given("%s, cut for %d" % (label, capacity), b"".join(cutting[::-1]), whole)
+
+    # 02 (i): the pieces that cutting makes of the notebook of 2019, in any order, are
+    # its canonical file.
+    for order in itertools.permutations(range(3)):
+        content = [pieces_ending(REIWA, [3, 7])[k] for k in order]
+        given("a file in R, order %d%d%d" % order, b"".join(content), to_provider(*REIWA))
+    given("a file in R, seven pieces",
+          b"".join(pieces_ending(REIWA, [1, 2, 4, 5, 7, 8])[::-1]), to_provider(*REIWA))
+    # Pieces that someone else cut keep their bytes, whatever the spelling.
+    for label, lines in SPELLINGS[:2]:
+        given(label + ", whole", to_provider(*lines), to_provider(*lines))
+        for ends in ([8], [3, 7], [2, 5, 6]):
+            given("%s, %d pieces" % (label, len(ends) + 1),
+                  b"".join(pieces_ending(lines, ends)[::-1]), to_provider(*lines), in_buffers)
+    mixed = OLDER_PHONE[:3] + WESTERN[3:6] + REIWA[6:]
+    given("pieces in three spellings", b"".join(pieces_ending(mixed, [3, 6])[::-1]),
+          to_provider(*mixed))
+    # Days across pieces.
+    for days, answer in [("R010501 H310501", None), ("H310501 R010501", None),
+                         ("R010501 20190430", None), ("20190430 R010501", "no 16 4"),
+                         ("H310430 H310501", "no 16 4"), ("R010501 20190502", "no 16 4"),
+                         ("R010430 H310430", "no 11 3"), ("R010501 R010430", "no 11 4")]:
+        groups = ["5,%s,1" % one for one in days.split()]
+        content = b"".join(list_of(2, [[PATIENT, groups[0]], [groups[1]]])[::-1])
+        if answer:
+            no("groups of %s in pieces" % days, content, answer, room=100)
+        else:
+            given("groups of %s in pieces" % days, content, to_provider(PATIENT, *groups))
 
     # 999 pieces; each but one without a record.
     def many(n, count):

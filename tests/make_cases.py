@@ -13,6 +13,8 @@ as bytes.
 """
 
 import collections
+import datetime
+import itertools
 import os
 import re
 import sys
@@ -178,25 +180,62 @@ M060101 18730101 19120729 M450729 19120730 T010730 19261224 T151224 19261225
 S011225 S640107 19890107 19890108 H010108 20160411 H280411 20871231 H991231
 20160229 H280229 20000229 H120229 M450430 T051130 S330303 S391231 18731231
 19001231 20161231 H281231 20160131 20160630 M060131 T010731 S020101 20840229
+20190430 H310430 20190501 H310501 R010501 H310502 R010502 R010531 H311231 R011231
+H320101 R020101 20200229 H320229 R020229 H360229 R060229 H960229 R660229 H991230
+R691130 R691230 R691231
 """.split()
 
 DAYS_BAD = """
 M051231 18721231 M450730 T010729 T151225 S011224 S640108 H010107 20880101
 H290229 20170229 19000229 18990229 20160431 20161301 20160001 20160100 20160132
 H281301 H280001 H280100 H280132 H280431 M000101 T000101 S000101 H000101 M010101
-M990101 T160101 S650101 S990101 00000000 99999999 h280411 R010501 A280411
+M990101 T160101 S650101 S990101 00000000 99999999 h280411 Q010501 A280411
 2016041 201604111 H28041 H2804110 2016/4/1 2016-4-1 H28.4.1 20160a11 Hx80411
 160411 H 20160411H
+R010430 R010429 R010331 R010101 R000501 R001231 R000101 R700101 R700501 R990501
+R691232 H991232 H000501 S940430 S940501 T990501 M990501 S991231 T991231 M991231
+R010229 R030229 R040229 R050229 H330229 H310229 R680229 R690229 20190229 20210229
+R010500 R010532 R010631 R010001 R011301 R020230 R691131 r010501 r691231 Q691231
+R01051 R0105010 R1050101 R10501 R R01.5.1 R01/5/1 R010a01 Rx10501 R+10501 RR10501
+20190501R R20190501 R2019051 HR10501 RH10501
 """.split()
+
+# 02 (i): the day before R, its first day and the next one, in every spelling that
+# is read; first the one that is written.
+CHANGE = [
+    ["H310430", "20190430"],
+    ["R010501", "20190501", "H310501"],
+    ["R010502", "20190502", "H310502"],
+]
+
+
+def under(letter, before, day):
+    """A day in the form of an era, whether or not it is one of its days."""
+    return "%s%02d%02d%02d" % (letter.decode(), day.year - before, day.month, day.day)
+
+
+def ends_of_eras():
+    """Good and bad days from the rows of the oracle's table, so that a further
+    row has its cases: the first and the last day that are read under each letter,
+    and the days beside them, the year 0 and the small letter."""
+    one, good, bad = datetime.timedelta(1), [], []
+    for letter, (before, first, last) in oracle.ERAS.items():
+        good += [under(letter, before, first), under(letter, before, last)]
+        bad += [under(letter, before, first - one), under(letter, before, last + one),
+                under(letter, first.year, first), under(letter, before, first).lower()]
+    return good, bad
 
 
 def dates():
-    for item in DAYS_GOOD:
+    good, bad = ends_of_eras()
+    for item in dict.fromkeys(DAYS_GOOD + good):
         case("birth " + item, to_provider("1,A,1,%s,,,,,,," % item), "ok 1 0 0")
-    for item in DAYS_BAD:
+    for item in dict.fromkeys(DAYS_BAD + bad):
         case("birth " + item, to_provider("1,A,1,%s,,,,,,," % item), "no 11 2")
     case("birth in wide digits", to_provider("1,A,1,２０１６０４１１,,,,,,,"), "no 11 2")
     case("birth with a wide H", to_provider("1,A,1,Ｈ280411,,,,,,,"), "no 11 2")
+    case("birth with a wide R", to_provider("1,A,1,Ｒ010501,,,,,,,"), "no 11 2")
+    case("birth with R and wide digits", to_provider("1,A,1,R０１０５０１,,,,,,,"), "no 11 2")
 
     # Order of groups, each a list of days. The first group stands in line 3.
     orders = [
@@ -233,10 +272,40 @@ def dates():
         ("western is H, 2087", "20871231 H991231", "ok 3 2 0"),
         ("M is western, 1873", "M060101 18730101", "ok 3 2 0"),
         ("western is M, 1873", "18730101 M060101", "ok 3 2 0"),
+        # H is read on after R has begun: letters and years do not tell which is newer.
+        ("R falls to H and to S", "R010501 H310430 S640107", "ok 4 3 0"),
+        ("S rises to R", "S640107 R010501", "no 16 4"),
+        ("first to R", "M060101 R691231", "no 16 4"),
+        ("R to first", "R691231 M060101", "ok 3 2 0"),
+        ("one day in three spellings", "H310501 20190501 R010501 H310501", "ok 5 4 0"),
+        ("down through the change", "R010502 H310502 H310501 R010501 20190430 H310430", "ok 7 6 0"),
+        ("third rises to R", "R010502 H310430 R010501", "no 16 5"),
+        ("third rises under H", "R010502 20190430 H310501", "no 16 5"),
+        ("a later H after R", "R010501 H320101", "no 16 4"),
+        ("a later H before R", "H320101 R010501", "ok 3 2 0"),
+        ("H of 2087 after R", "R010501 H990101", "no 16 4"),
+        ("H of 2087 before R", "H990101 R010501", "ok 3 2 0"),
+        ("year's end in H, then R", "H311231 R020101", "no 16 4"),
+        ("R, then year's end in H", "R020101 H311231", "ok 3 2 0"),
+        ("R is H, 2020", "R020101 H320101", "ok 3 2 0"),
+        ("H is R, 2087", "H991231 R691231", "ok 3 2 0"),
+        ("R is H is western, 2087", "R691231 H991231 20871231", "ok 4 3 0"),
+        ("R, newer H in 2087", "R691230 H991231", "no 16 4"),
+        ("H, newer R in 2087", "H991230 R691231", "no 16 4"),
     ]
     for label, days, answer in orders:
         lines = ["5,%s,1" % one for one in days.split()]
         case("groups: " + label, to_provider(PATIENT, *lines), answer)
+    # Around the change of 2019: every spelling after every other. Only the days tell.
+    for earlier, later in itertools.product(range(len(CHANGE)), repeat=2):
+        for one, next_one in itertools.product(CHANGE[earlier], CHANGE[later]):
+            case("groups: %s then %s" % (one, next_one),
+                 to_provider(PATIENT, "5,%s,1" % one, "5,%s,1" % next_one),
+                 "no 16 4" if later > earlier else "ok 3 2 0")
+    case("groups: H and R, newer, direction 1",
+         to_patient("5,H310430,1", HOSPITAL, ADVICE, "5,R010501,1", HOSPITAL, ADVICE), "no 16 5")
+    case("groups: H and R, equal, direction 1",
+         to_patient("5,H310501,1", HOSPITAL, ADVICE, "5,R010501,1", HOSPITAL, ADVICE), "ok 6 2 0")
     case("groups: newer, direction 1",
          to_patient("5,20160410,1", HOSPITAL, ADVICE,
                     "5,20160411,1", HOSPITAL, ADVICE), "no 16 5")
@@ -568,7 +637,8 @@ def kinds():
         "Q": ("0 1 0.25 1.5 100 999999 123456.78901 0.00001 1500 100000 0.1 60",
               "1.50 .5 1000000 0.123456 00 01.5 01 1. 5.0 100.00000 0.0 0.250 1234567.1 "
               "-1 +1 1e2 a 1..5 1.5.5 . １ 1.5g 1/2 000001 0.000001"),
-        "D": ("20160411 H280411 S640107 M060101", "20160431 S640108 20880101 M051231 h280411"),
+        "D": ("20160411 H280411 S640107 M060101 20190430 H310430 20190501 H310501 R010501 R691231",
+              "20160431 S640108 20880101 M051231 h280411 R010430 R700101 r010501"),
     }
     for number in NUMBERS:
         for at, (kind, _) in enumerate(ITEMS[number]):
