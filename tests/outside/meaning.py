@@ -1,4 +1,4 @@
-"""The command and the programs give one answer on the same bytes. Each answer here is written from document 01."""
+"""The command and the programs give one answer on the same bytes. Each answer here is written from documents 01 and 02."""
 
 import functools
 import random
@@ -79,9 +79,11 @@ DAMAGED = {
     "an item too long": (SMALL + b"4,%s,,2\r\n" % (b"x" * 401), (9, 3)),
     "a space at the end": (SMALL + b"4,x ,,2\r\n", (10, 3)),
     "a date that is none": (SMALL + b"4,x,H290229,2\r\n", (11, 3)),
+    "a day under R before its first": (SMALL + b"4,x,R010430,2\r\n", (11, 3)),
     "a record out of place": (SMALL + NOTE + b"2,1,x,2\r\n", (13, 4)),
     "no record 1": (FIRST + NOTE, (14, 2)),
     "a newer group": (SMALL + GROUP + b"5,H280412,1\r\n", (16, 4)),
+    "a newer group under R": (SMALL + b"5,20190430,1\r\n5,R010501,1\r\n", (16, 4)),
     "65,537 bytes": (notes(8187)[:-2] + b"xxxx\r\n\x1a", (1, 0)),
 }
 
@@ -99,6 +101,40 @@ def samples_checked(folder):
         write(folder, {name: data})
         answers(run("notebook check " + name, folder), status, "%s: %s(: form)?\n" % (name, answer.decode()), "")
         same("notecheck", run("notecheck", folder, data), (0, answer + b"\n", b""))
+
+
+# --- days ---
+
+# 02 (i): one day in each entry, as it is written and in every spelling that is read.
+DAYS = {
+    "H310430": ("20190430", "H310430"),
+    "R010501": ("20190501", "H310501", "R010501"),
+    "R691231": ("20871231", "H991231", "R691231"),
+}
+
+
+def dated(day):
+    return SMALL_CANONICAL + b"4,x,%s,2\r\n" % day.encode()
+
+
+def spelled(written, given, folder):
+    """Canonical and cut write the day in its one spelling; join keeps the bytes."""
+    write(folder, {"a.csv": dated(given)})
+    same("notebook canonical", run("notebook canonical a.csv", folder), (0, dated(written), b""))
+    same("notecanon", run("notecanon", folder, dated(given)), (0, dated(written), b""))
+    same("notebook cut", run("notebook cut --capacity 69 --id %s a.csv" % ID, folder), (0, dated(written), b""))
+    same("notecut", run("notecut 69 " + ID, folder, dated(given)), (0, dated(written), b"ok 1 %d\n" % len(dated(written))))
+    same("notebook join", run("notebook join a.csv", folder), (0, dated(given), b""))
+    same("notejoin", run("notejoin a.csv", folder), (0, dated(given), b""))
+
+
+def sample_written(folder):
+    """The sample has a day of R under H, and postal codes with a hyphen."""
+    data = tools.sample("visit.csv")
+    wanted = data.replace(b"H310508", b"R010508").replace(b"105-0004", b"1050004")
+    write(folder, {"visit.csv": data})
+    same("notebook canonical", run("notebook canonical visit.csv", folder), (0, wanted, b""))
+    same("notecanon", run("notecanon", folder, data), (0, wanted, b""))
 
 
 # --- refusals that are the operator's ---
@@ -146,6 +182,8 @@ def tests():
         + [("join from standard input", joined_from_input)]
         + [("check, " + name, partial(checked, *row)) for name, row in DAMAGED.items()]
         + [("check of the samples", samples_checked)]
+        + [("canonical, cut and join of " + one, partial(spelled, written, one)) for written, ones in DAYS.items() for one in ones]
+        + [("canonical of the sample", sample_written)]
         + [("cut %s: %d" % (row[0].replace(ID, "ID"), row[3]), partial(refused_cut, row)) for row in REFUSED_CUTS]
         + [("cut, the cases of document 01", cuts)]
     )
