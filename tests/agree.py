@@ -3,7 +3,7 @@
     refusals    the table of docs/OPERATING.md; the numbers of each call: refusals/specs/Refusals.antt
     calls       the exports of gateway/src/lib.rt, with the definitions that their contracts cite
     records     records/specs/Paper.antt, document 01's own text
-    eras        eras/specs/Era.antt
+    eras        eras/specs/Era.antt; the oracle is also held to these rows day by day
 
 Prints each difference with its file and what is expected there; exit status 1 if there is one, or if a place cannot be read: a form that finds
 nothing is a fault, so that no place is left out in silence. Run it from anywhere: python3 tests/agree.py
@@ -17,6 +17,7 @@ import collections
 import datetime
 import os
 import re
+import string
 import sys
 import traceback
 
@@ -466,7 +467,7 @@ def short_records(text):
     """The records that damage.rs writes; the last arm has no number before it."""
     arms = block("let text = match number {\n", "    };", text)
     numbers = {number for arm in every(r"^        ([\d |]+?)(?: if .+)? => ", arms) for number in arm.split(" | ")}
-    return names(int(number) for number in [*numbers, one(r'^        _ => "(\d+),', arms)])
+    return names(int(number) for number in [*numbers, one(r'^        _ => (?:format!\()?"(\d+),', arms)])
 
 
 def compare_records(records):
@@ -503,7 +504,7 @@ def eras_of(text):
 
 
 def number_of(day):
-    return int(day.strftime("%Y%m%d"))
+    return day.year * 10000 + day.month * 100 + day.day
 
 
 def day_before(number):
@@ -511,13 +512,9 @@ def day_before(number):
 
 
 def written(eras):
-    """The days that are written in each era: from its first to the newer era's. Nothing is said before the oldest and after the newest."""
+    """The last day that is written in each era: the one before the newer era's first. Nothing is said of the newest."""
     newer = dict(zip(list(eras)[1:], eras.values()))
-    oldest = list(eras)[-1]
-    return {
-        letter: (own.before, "" if letter == oldest else str(own.first), str(day_before(newer[letter].first)) if letter in newer else "")
-        for letter, own in eras.items()
-    }
+    return {letter: (own.before, str(day_before(newer[letter].first)) if letter in newer else "") for letter, own in eras.items()}
 
 
 def eras_of_code(text):
@@ -530,23 +527,73 @@ def eras_of_oracle(_):
     return {letter.decode(): era(before, number_of(first), number_of(last)) for letter, (before, first, last) in eras}
 
 
-def first_days(_):
-    """Whether the oracle reads and writes each era's first day."""
-    oracle, found = imported("oracle"), {}
-    for letter, (before, first, _) in oracle.ERAS.items():
-        form = letter + b"%02d%02d%02d" % (first.year - before, first.month, first.day)
-        found[letter.decode()] = f"read {oracle.day(form) == first}, written {oracle.era_form(first) == form}"
+def month_lengths(year):
+    leap = year % 4 == 0 and (year % 100 != 0 or year % 400 == 0)
+    return [31, 29 if leap else 28, 31, 30, 31, 30, 31, 31, 30, 31, 30, 31]
+
+
+def under(letter, own, day):
+    """A day, YYYYMMDD, under an era's letter."""
+    return f"{letter}{day - own.before * 10000:06}"
+
+
+def spellings(eras):
+    """What the rows say of every day: the spellings that are read, and the one that is written. Days are counted out as numbers, without Python's
+    calendar, so that this is another reading than the oracle's."""
+    found = {}
+    first, last = min(own.first for own in eras.values()), max(own.last for own in eras.values())
+    for year in range(first // 10000, last // 10000 + 1):
+        for month, length in enumerate(month_lengths(year), 1):
+            for day in range(year * 10000 + month * 100 + 1, year * 10000 + month * 100 + length + 1):
+                if first <= day <= last:
+                    found[str(day)] = f"read as {day}"
+                    found.update((under(letter, own, day), f"read as {day}") for letter, own in eras.items() if own.first <= day <= own.last)
+                    newest = max((letter for letter in eras if eras[letter].first <= day), key=lambda letter: eras[letter].first)
+                    found[f"{day} in the era form"] = under(newest, eras[newest], day)
     return found
 
 
-def eras_read(text):
-    form = r"\[b'(\w)', rest @ \.\.\] => \((\d+), ([\d_]+), ([\d_]+), rest\),"
-    return rows((letter, era(*numbers)) for letter, *numbers in every(form, text))
+def spellings_of_oracle(eras):
+    """What the oracle says of all that looks like a day: the western years around the range and every year under the eras' letters, with months to 13
+    and days to 32; and one day of every year under each other letter."""
+    oracle, found = imported("oracle"), {}
+    letters = {*eras, *(letter.decode() for letter in oracle.ERAS)}
+    years = [*range(oracle.FIRST_DAY.year - 1, oracle.LAST_DAY.year + 2), *(f"{letter}{year:02}" for letter in letters for year in range(100))]
+    tried = [f"{year}{month:02}{day:02}" for year in years for month in range(14) for day in range(33)]
+    tried += [f"{letter}{year:02}0501" for letter in set(string.ascii_letters) - letters for year in range(100)]
+    for text in tried:
+        day = oracle.day(text.encode())
+        if day:
+            found[text] = f"read as {number_of(day)}"
+    day = oracle.FIRST_DAY
+    while day <= oracle.LAST_DAY:
+        found[f"{number_of(day)} in the era form"] = oracle.era_form(day).decode()
+        day += datetime.timedelta(1)
+    return found
 
 
-def eras_written(text):
-    arms = every_line(r"([\d_]*)\.\.=?([\d_]*) => \(b'(\w)', (\d+)\),", block("let (letter, year_before) = match day {\n", "};", text))
-    return rows((letter, (int(before), first.replace("_", ""), last.replace("_", ""))) for first, last, letter, before in arms)
+def compare_days(eras):
+    """The first differences are enough: a wrong row makes thousands."""
+    has, wanted = spellings_of_oracle(eras), spellings(eras)
+    told = sorted(key for key in {*has, *wanted} if has.get(key) != wanted.get(key))[:5]
+    compare("tests/oracle.py", "every day", lambda _: {key: has[key] for key in told if key in has}, {key: wanted[key] for key in told if key in wanted})
+
+
+def cases_of(labels):
+    """The answers of these cases: ok or no."""
+    return lambda text: rows((label, answer) for label, answer in every(r"^(.+?): (ok|no) ", text) if label in labels)
+
+
+def compare_first_days(eras):
+    """What has days of every era: the cases, and the words that the fuzzers put into files."""
+    labels = [kind + under(letter, own, own.first) for letter, own in eras.items() for kind in ("birth ", "canonical: every day is ")]
+    compare("crates/cases/stdout", "the first day of each era", cases_of(labels), {label: "ok" for label in labels})
+    compare("hosts/rust/fuzz/words.dict", "days of each era", lambda text: names({*every(r'^"([A-Z])\d{6}"$', text)} & {*eras}), names(eras))
+
+
+def eras_of_ordinary(text):
+    form = r"letter: b'(\w)',\s+year_before: (\d+),\s+first: ([\d_]+),\s+last: ([\d_]+)\b"
+    return rows((letter, era(*numbers)) for letter, *numbers in every(form, block("const ERAS:", "];\n", text)))
 
 
 def last_written(text):
@@ -555,14 +602,16 @@ def last_written(text):
 
 
 def compare_eras(eras):
-    days, wanted = HOSTS + "ordinary/days.rs", written(eras)
+    days = HOSTS + "ordinary/days.rs"
     compare("crates/calendar/src/lib.rt", "ERAS", eras_of_code, eras)
     compare("tests/oracle.py", "ERAS", eras_of_oracle, eras)
-    compare("tests/oracle.py", "the first day of each era", first_days, {letter: "read True, written True" for letter in eras})
-    compare(days, "the eras that are read", eras_read, eras)
-    compare(days, "the eras that are written", eras_written, wanted)
+    compare_days(eras)
+    compare_first_days(eras)
+    compare(days, "ERAS", eras_of_ordinary, eras)
+    # The newest that has begun is the first one found.
+    compare(days, "the order of ERAS", lambda text: numbered(eras_of_ordinary(text)), numbered(eras))
     compare(HOSTS + "ordinary/reference.rs", "the eras that are written", last_written,
-            {letter: (before, last) for letter, (before, _, last) in wanted.items()})
+            written(eras))
 
 
 # ---- all of it
