@@ -183,8 +183,12 @@ impl<'a, W: Watcher> Items<'a, W> {
             None => Ok(0),
             Some(item) => {
                 let day = days::read(item).ok_or(FORM)?;
-                if W::RESPELLS && item.len() == 8 {
-                    self.respell(&days::era_form(day));
+                if W::RESPELLS {
+                    // Neither YYYYMMDD nor the form of an era that had ended begins with the letter of the day's own era.
+                    let era = days::era(day);
+                    if item[0] != era.letter {
+                        self.respell(&era.form(day));
+                    }
                 }
                 Ok(day)
             }

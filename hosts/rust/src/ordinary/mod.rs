@@ -11,7 +11,7 @@ mod cases;
 mod characters;
 mod check;
 mod cut;
-mod days;
+pub(crate) mod days;
 mod index;
 mod items;
 mod join;

@@ -4,6 +4,7 @@
 use super::{canonical, check, cut, index, join, Pieces, Refusal};
 use crate::damage::Damage;
 use crate::division::{join_input, CutInput, MOST_PIECES_BYTES};
+use std::sync::LazyLock;
 
 type Lines = Vec<Vec<u8>>;
 
@@ -82,7 +83,7 @@ fn reference_canonical(file: &[u8]) -> Result<Vec<u8>, Refusal> {
             assert_eq!(kinds.len() + 1, items.len());
             for (item, kind) in items.iter_mut().skip(1).zip(kinds) {
                 match kind {
-                    'D' if item.len() == 8 => *item = era_form(item),
+                    'D' if !item.is_empty() => *item = era_form(&gregorian(item)),
                     'P' => item.retain(|&byte| byte != b'-'),
                     'R' => *item = item.iter().copied().skip_while(|&byte| byte == b'0').collect(),
                     _ => {}
@@ -94,12 +95,30 @@ fn reference_canonical(file: &[u8]) -> Result<Vec<u8>, Refusal> {
     })
 }
 
+/// A day, however it is spelled, as YYYYMMDD.
+fn gregorian(day: &[u8]) -> Vec<u8> {
+    let Some((_, year_before)) = YEARS_BEFORE.iter().find(|(letter, _)| *letter == day[0]) else { return day.to_vec() };
+    [(year_before + era_year(day)).to_string().as_bytes(), &day[3..]].concat()
+}
+
+/// Letters and the years before their years 1, read off the last day of every year.
+static YEARS_BEFORE: LazyLock<Vec<(u8, u32)>> = LazyLock::new(|| {
+    let ends = (1873..=2087).map(|year| (year, era_form(format!("{year}1231").as_bytes())));
+    ends.map(|(year, form)| (form[0], year - era_year(&form))).collect()
+});
+
+fn era_year(form: &[u8]) -> u32 {
+    String::from_utf8_lossy(&form[1..3]).parse().expect("an era form has a year")
+}
+
+/// A day under the newest era that has begun by it.
 fn era_form(day: &[u8]) -> Vec<u8> {
     let (era, year_1) = match day {
         _ if day <= b"19120729" => ('M', 1868),
         _ if day <= b"19261224" => ('T', 1912),
         _ if day <= b"19890107" => ('S', 1926),
-        _ => ('H', 1989),
+        _ if day <= b"20190430" => ('H', 1989),
+        _ => ('R', 2019),
     };
     let text = String::from_utf8_lossy(day);
     let year: u32 = text[..4].parse().expect("a day has a year");

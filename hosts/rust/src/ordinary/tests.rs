@@ -67,7 +67,13 @@ fn dates() {
         ("S640107", 1989_01_07),
         ("H010108", 1989_01_08),
         ("H280411", 2016_04_11),
+        ("H310430", 2019_04_30),
+        ("H310501", 2019_05_01),
+        ("R010501", 2019_05_01),
+        ("R020229", 2020_02_29),
+        ("H320229", 2020_02_29),
         ("H991231", 2087_12_31),
+        ("R691231", 2087_12_31),
     ];
     for (era, number) in same {
         assert_eq!(days::read(era.as_bytes()), Some(number), "{era}");
@@ -97,14 +103,47 @@ fn dates() {
         "201604111",
         "2016 411",
         "H280 11",
-        "R010501",
+        "R010430",
+        "R010229",
+        "R000501",
+        "R691232",
+        "R700101",
+        "r010501",
+        "R01050",
+        "R0105011",
+        "H310431",
+        "H991232",
         "H",
         "M",
+        "R",
     ];
     for text in bad {
         assert_eq!(days::read(text.as_bytes()), None, "{text}");
     }
     assert!(days::read(b"20000229").is_some() && days::read(b"H280229").is_some());
+}
+
+/// "H310501 and R010501 are one day and get one spelling."
+#[test]
+fn the_era_that_a_day_is_written_under() {
+    let written = [
+        (1873_01_01, "M060101"),
+        (1912_07_29, "M450729"),
+        (1912_07_30, "T010730"),
+        (1926_12_24, "T151224"),
+        (1926_12_25, "S011225"),
+        (1989_01_07, "S640107"),
+        (1989_01_08, "H010108"),
+        (2016_04_11, "H280411"),
+        (2019_04_30, "H310430"),
+        (2019_05_01, "R010501"),
+        (2020_02_29, "R020229"),
+        (2087_12_31, "R691231"),
+    ];
+    for (day, form) in written {
+        assert_eq!(days::era(day).form(day), form.as_bytes(), "{day}");
+    }
+    assert!(days::ERAS.windows(2).all(|pair| pair[0].first > pair[1].first), "the newest era stands first");
 }
 
 #[test]
@@ -343,4 +382,32 @@ fn rp_values_and_date_order() {
     assert_eq!(two(&[&day, "5,H280411,1", "5,20160410,1"]), ok(4, 3, 0));
     assert_eq!(two(&[&day, "5,H280412,1"]), no(16, 4));
     assert_eq!(one(&[&day, SURGERY, "5,H280412,1"]), no(14, 4));
+}
+
+#[test]
+fn groups_are_compared_as_days() {
+    let groups = |days: [&str; 2]| two(&days.map(|day| format!("5,{day},1")));
+    for days in [
+        ["H310501", "R010501"],
+        ["R010501", "H310501"],
+        ["20190501", "R010501"],
+        ["R010501", "20190430"],
+        ["R010501", "H310430"],
+        ["H310501", "H310430"],
+        ["R010502", "H310501"],
+        ["H991231", "R691231"],
+    ] {
+        assert_eq!(groups(days), ok(3, 2, 0), "{days:?}");
+    }
+    for days in [
+        ["20190430", "R010501"],
+        ["H310430", "R010501"],
+        ["H310430", "H310501"],
+        ["R010501", "20190502"],
+        ["R010501", "H310502"],
+        ["H310501", "R010502"],
+        ["H991230", "R691231"],
+    ] {
+        assert_eq!(groups(days), no(16, 4), "{days:?}");
+    }
 }
