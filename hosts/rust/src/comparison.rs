@@ -8,6 +8,7 @@ use crate::library::{replies, Reply, Told};
 use crate::ordinary;
 use crate::random::Random;
 use crate::trial::{self, Difference, Filling};
+use std::collections::BTreeSet;
 use std::fmt::Write;
 
 /// A call, the refusals that it can give, and how often it has given each; 0 counts the inputs that are accepted.
@@ -30,6 +31,7 @@ pub struct Comparison {
     tallies: [Tally; 5],
     /// How often each reason for 19 has stood alone; beside another one, a missing k does not count.
     faults: [u64; Fault::ALL.len()],
+    days: Days,
     differences: u64,
     /// The first differences in words, with the whole inputs.
     pub shown: Vec<String>,
@@ -55,6 +57,7 @@ impl Comparison {
                 tally("join", JOIN),
             ],
             faults: [0; Fault::ALL.len()],
+            days: Days::default(),
             differences: 0,
             shown: Vec::new(),
             files: Damage::default(),
@@ -108,6 +111,9 @@ impl Comparison {
         );
 
         let needed = ordinary::canonical(file, &mut self.large).ok().map(|bytes| bytes as usize);
+        if let Some(bytes) = needed {
+            self.days.count(file, &self.large[..bytes]);
+        }
         self.call(
             (2, &mut random, needed),
             &[file],
@@ -185,7 +191,7 @@ impl Comparison {
         self.shown.push(text);
     }
 
-    /// What has not occurred though it can: refusals of a call, and reasons for 19.
+    /// What has not occurred though it can: refusals of a call, reasons for 19, and spellings of days.
     pub fn missing(&self) -> Vec<String> {
         let mut missing = Vec::new();
         for tally in &self.tallies {
@@ -194,10 +200,11 @@ impl Comparison {
         }
         let faults = Fault::ALL.iter().zip(self.faults).filter(|(_, count)| *count == 0);
         missing.extend(faults.map(|(fault, _)| format!("join: 19 has not occurred by {fault:?} alone")));
+        missing.extend(self.days.missing());
         missing
     }
 
-    /// Tables of refusals by call and of the reasons for 19, and the last line: inputs and differences.
+    /// Tables of refusals by call, of the reasons for 19 and of days by letter, and the last line: inputs and differences.
     pub fn summary(&self) -> String {
         let names: String = self.tallies.iter().map(|tally| format!("{:>10}", tally.call)).collect();
         let mut text = format!("{:<10}{names}\n", "");
@@ -209,12 +216,56 @@ impl Comparison {
         for (fault, count) in Fault::ALL.iter().zip(self.faults) {
             let _ = writeln!(text, "19 by {:<14}{count:>10}", format!("{fault:?}"));
         }
+        for (letter, [kept, changed]) in ('A'..='Z').zip(self.days.0).filter(|(_, counts)| *counts != [0; 2]) {
+            let _ = writeln!(text, "days under {letter} {kept:>17}, and {changed} that are written under another letter");
+        }
         for missing in self.missing() {
             let _ = writeln!(text, "{missing}");
         }
         let _ = write!(text, "files {}, differences {}", self.inputs, self.differences);
         text
     }
+}
+
+/// How often each letter has stood before the day of a group in an accepted file: where the canonical file keeps it, and where
+/// that has another one, as it has for a day after the end of the letter's era.
+#[derive(Default)]
+struct Days([[u64; 2]; 26]);
+
+impl Days {
+    fn count(&mut self, file: &[u8], canonical: &[u8]) {
+        let lines = |file| <[u8]>::split(file, |&byte| byte == b'\n');
+        for both in lines(file).zip(lines(canonical)) {
+            if let ([b'5', b',', letter @ b'A'..=b'Z', ..], [b'5', b',', written, ..]) = both {
+                self.0[usize::from(letter - b'A')][usize::from(letter != written)] += 1;
+            }
+        }
+    }
+
+    /// What the library reads and no group had.
+    fn missing(&self) -> impl Iterator<Item = String> + '_ {
+        let absent = letters_of_library().into_iter();
+        let absent = absent.filter(|(letter, changed)| self.0[usize::from(letter - b'A')][usize::from(*changed)] == 0);
+        absent.map(|(letter, changed)| {
+            let written = if changed { "another letter" } else { "it" };
+            format!("no group's day under {} that is written under {written}", char::from(letter))
+        })
+    }
+}
+
+/// The letters under which the library reads the last day of some year, and whether it writes that under another letter. It
+/// tells them itself, so that no list of eras stands here.
+fn letters_of_library() -> BTreeSet<(u8, bool)> {
+    const BEFORE: &str = "JAHISTC04,2\r\n1,A,1,";
+    let mut found = BTreeSet::new();
+    for (letter, year) in (b'A'..=b'Z').flat_map(|letter| (0..100).map(move |year| (letter, year))) {
+        let file = format!("{BEFORE}{}{year:02}1231,,,,,,,\r\n", char::from(letter));
+        let mut out = [0; 35];
+        if replies::canonical(file.as_bytes(), &mut out).refusal == 0 {
+            found.insert((letter, out[BEFORE.len()] != letter));
+        }
+    }
+    found
 }
 
 /// Bytes in hexadecimal, each row after its offset.
@@ -229,15 +280,15 @@ fn hexadecimal(text: &mut String, bytes: &[u8]) {
 
 #[cfg(test)]
 mod tests {
-    use super::Comparison;
+    use super::{Comparison, Days};
     use std::fs;
     use std::path::Path;
 
     const SEED: u64 = 5;
     const INPUTS: u64 = 12_000;
 
-    /// The gate's bounded comparison. Every refusal that a call can give and every reason for 19 must occur: a comparison that
-    /// misses one shows nothing of it.
+    /// The gate's bounded comparison. Every refusal that a call can give, every reason for 19 and every era's letter must occur,
+    /// and one that is read after its era's end must occur there: a comparison that misses one shows nothing of it.
     #[test]
     fn the_library_and_the_ordinary_implementation_answer_alike() {
         let mut comparison = Comparison::new(SEED);
@@ -247,6 +298,19 @@ mod tests {
         println!("{}", comparison.summary());
         assert_eq!(comparison.differences(), 0, "\n{}", comparison.shown.concat());
         assert_eq!(comparison.missing(), Vec::<String>::new());
+    }
+
+    #[test]
+    fn letters_that_have_not_occurred_are_missing() {
+        let mut days = Days::default();
+        let missing =
+            |days: &Days, day: &str| days.missing().any(|missing| missing == format!("no group's day under {day}"));
+        let (newest, late) = ("R that is written under it", "H that is written under another letter");
+        assert!(missing(&days, newest) && missing(&days, late));
+        days.count(b"5,R010501,1\r\n5,H310430,1\r\n", b"5,R010501,1\r\n5,H310430,1\r\n");
+        assert!(!missing(&days, newest) && missing(&days, late));
+        days.count(b"5,H310501,1\r\n", b"5,R010501,1\r\n");
+        assert!(!missing(&days, late));
     }
 
     /// The inputs that `fuzz/run` starts with.

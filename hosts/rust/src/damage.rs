@@ -1,17 +1,26 @@
 //! Files to compare implementations on: samples with damage of many kinds, and random walks through the order of records.
 //! Seed and index give the same file on every machine.
 
+use crate::calendar::{beginnings, edges, letters, near_a_beginning, Day};
 use crate::random::Random;
-use crate::sample;
+use crate::sample::{self, sized_from};
+use std::sync::LazyLock;
 
 /// The samples that are damaged.
 pub struct Damage {
-    samples: Vec<Vec<u8>>,
+    small: Vec<Vec<u8>>,
+    large: Vec<u8>,
 }
 
 impl Default for Damage {
     fn default() -> Self {
-        Damage { samples: [1_000, 1_500, 2_500, 4_000, 60_000].map(sample::sized).to_vec() }
+        // The newest groups of a sample are some days after an era begins, its other groups mostly before that. No day is
+        // before the oldest era. The groups of the large one reach back five years, over the beginning of the newest era.
+        let starts = beginnings().map(|first| (0..12).fold(first, |day, _| day.after()));
+        let newest: Vec<Day> = [sample::NEWEST].into_iter().chain(starts.take(beginnings().count() - 1)).collect();
+        let sizes = [1_000, 1_500, 2_500, 4_000];
+        let small = newest.iter().flat_map(|&day| sizes.map(|size| sized_from(day, size))).collect();
+        Damage { small, large: sized_from(Day::new(2021, 4, 11), 60_000) }
     }
 }
 
@@ -21,9 +30,10 @@ impl Damage {
         let mut random = Random::of(seed, index);
         let mut file = match random.below(64) {
             0 => return random_bytes(&mut random, 200),
-            1 => self.samples[4].clone(),
-            2..=31 => walk(&mut random),
-            _ => self.samples[random.below(4)].clone(),
+            1 => self.large.clone(),
+            2..=9 => groups(&mut random),
+            10..=31 => walk(&mut random),
+            _ => self.small[random.below(self.small.len())].clone(),
         };
         if random.once_in(3) {
             file[10] = random.pick(&[b"1", b"2"])[0];
@@ -38,34 +48,45 @@ impl Damage {
 
     /// A sample without damage; once in thirty-two the large one.
     pub fn sample(&self, random: &mut Random) -> Vec<u8> {
-        let sample = if random.once_in(32) { 4 } else { random.below(4) };
-        self.samples[sample].clone()
+        let large = random.once_in(32);
+        if large { &self.large } else { &self.small[random.below(self.small.len())] }.clone()
     }
 }
 
-/// Bytes and items that the rules speak of.
-const BYTES: &[u8] = b"\r\n\x1A ,\"'.-0123489MTSH@\x7E\x7F\x80\x81\x40\x82\x84\x85\x88\x98\x9F\xA0\xA1\xDF\xE0\xEA\xEB\xEF\xF0\xFC\xFD\x00\x1F";
+/// Bytes and items that the rules speak of, beside letters of eras and days.
+const BYTES: &[u8] =
+    b"\r\n\x1A ,\"'.-0123489@\x7E\x7F\x80\x81\x40\x82\x84\x85\x88\x98\x9F\xA0\xA1\xDF\xE0\xEA\xEB\xEF\xF0\xFC\xFD\x00\x1F";
 #[rustfmt::skip]
 const ITEMS: &[&[u8]] = &[
     b"0", b"1", b"2", b"3", b"4", b"5", b"6", b"7", b"8", b"9", b"10", b"11", b"01", b"001", b"0001", b"002", b"000", b"999", b"1000",
     b"30", b"31", b"99", b"00", b"47", b"48", b"0.25", b"1.50", b".5", b"1.", b"0.0", b"00.5", b"123456.12345", b"1234567.1", b"999.125",
     b"1050001", b"105-0001", b"105-00011", b"10-50001", b"123456", b"0412345", b"12345678",
-    b"M060101", b"M051231", b"18730101", b"18721231", b"M450729", b"M450730", b"19120729", b"T010729", b"T010730", b"T151224", b"T151225",
-    b"S011224", b"S011225", b"S640107", b"S640108", b"H010107", b"H010108", b"H280229", b"H290229", b"H991231", b"20871231", b"20880101",
-    b"20160411", b"H280411", b"h280411", b"20160431", b"19000229", b"20000229", b"H000101", b"20160412", b"20150101",
+    b"20160411", b"20160431", b"19000229", b"20000229", b"20160412", b"20150101",
     b"A", b"a.b-c", b"a_b", b"a b", b" ", b"\"", b"'", b"\"\"", b"''", b"'x'", b"\"x'", b"2171022F1010", b"12345678901234", b"1013044400000000", b"10130444000000001",
     b"\x92\xB2\x8D\xDC", b"\x93\xFA\x95\xAA", b"\x89\xF1\x95\xAA", b"\x81\x40", b"\x8A\x81\x40", b"\x8A\x81\x81\x40", b"\x83\x41", b"\x83\x41A", b"A\x83\x41", b"\xB1\xB2",
     b"911", b"", b"",
 ];
 
+static ALL_BYTES: LazyLock<Vec<u8>> = LazyLock::new(|| BYTES.iter().copied().chain(letters()).collect());
+static ALL_ITEMS: LazyLock<Vec<Vec<u8>>> =
+    LazyLock::new(|| ITEMS.iter().map(|item| item.to_vec()).chain(edges()).collect());
+
+fn some_byte(random: &mut Random) -> u8 {
+    ALL_BYTES[random.below(ALL_BYTES.len())]
+}
+
+fn some_item(random: &mut Random) -> Vec<u8> {
+    ALL_ITEMS[random.below(ALL_ITEMS.len())].clone()
+}
+
 /// Damages the file once. A file without lines stays as it is under damages of lines.
 pub fn damage(random: &mut Random, file: &mut Vec<u8>) {
     match random.below(22) {
         0 => change(random, file, |random| random.below(256) as u8),
-        1 => change(random, file, |random| BYTES[random.below(BYTES.len())]),
+        1 => change(random, file, some_byte),
         2 => {
             let at = random.below(file.len() + 1);
-            file.insert(at, BYTES[random.below(BYTES.len())]);
+            file.insert(at, some_byte(random));
         }
         3 if !file.is_empty() => {
             let at = random.below(file.len());
@@ -156,7 +177,7 @@ fn damage_items(random: &mut Random, line: &mut Vec<u8>) {
             let edge = random.pick(EDGES);
             items[at] = [edge, &items[at], edge].concat();
         }
-        5 => items.insert(at, random.pick(ITEMS).to_vec()),
+        5 => items.insert(at, some_item(random)),
         6 => {
             items.remove(at);
         }
@@ -165,24 +186,20 @@ fn damage_items(random: &mut Random, line: &mut Vec<u8>) {
             let pair = [0x80 + random.below(0x74) as u8, 0x3F + random.below(0xBF) as u8];
             items[at].extend_from_slice(&pair);
         }
-        _ => items[at] = random.pick(ITEMS).to_vec(),
+        _ => items[at] = some_item(random),
     }
     *line = items.join(&b',');
 }
 
 const EDGES: &[&[u8]] = &[b" ", b"\x81\x40", b"\"", b"'", b"@", b"\x8A\x81\x40", b"0"];
 
-/// Writes a day of the era H in the other spelling, and a postal code too.
+/// Writes a day or a postal code in another spelling.
 fn respell(item: &mut Vec<u8>) {
-    let text = String::from_utf8_lossy(item).into_owned();
-    let number = |digits: &str| digits.parse::<u32>().ok();
-    if let Some(day) = text.strip_prefix('H').filter(|day| day.len() == 6).and_then(number) {
-        *item = (1988_00_00 + day).to_string().into_bytes();
-    } else if let Some(day @ 1989_01_08..=2087_12_31) = number(&text) {
-        *item = format!("H{:06}", day - 1988_00_00).into_bytes();
-    } else if text.len() == 8 && text.as_bytes()[3] == b'-' {
+    if let Some(day) = Day::read(item) {
+        *item = day.respelled(item);
+    } else if item.len() == 8 && item[3] == b'-' {
         item.remove(3);
-    } else if text.len() == 7 && number(&text).is_some() {
+    } else if item.len() == 7 && item.iter().all(u8::is_ascii_digit) {
         item.insert(3, b'-');
     }
 }
@@ -225,7 +242,7 @@ fn walk(random: &mut Random) -> Vec<u8> {
     let mut file = random.pick(&[b"JAHISTC04,1\r\n", b"JAHISTC04,2\r\n"]).to_vec();
     let kinds: &[&str] = if random.once_in(2) { &["4"] } else { &["1", "3", "4", "4", ""] };
     let stray = 10 + random.below(100);
-    let (mut last, mut rp, mut day) = (0, 0, 28);
+    let (mut last, mut rp, mut day) = (0, 0, near_a_beginning(random));
     for _ in 0..random.below(30) {
         let usual = FOLLOWERS.iter().find(|(number, _)| *number == last).map_or(&[5][..], |(_, followers)| followers);
         let number =
@@ -233,7 +250,7 @@ fn walk(random: &mut Random) -> Vec<u8> {
         match number {
             5 => {
                 rp = 0;
-                day = if random.once_in(15) { day + 1 } else { (day - random.below(3)).max(2) };
+                day = next_day(random, day);
             }
             201 if matches!(last, 201 | 281 | 291) && !random.once_in(3) => {}
             201 => rp += 1,
@@ -247,16 +264,35 @@ fn walk(random: &mut Random) -> Vec<u8> {
     file
 }
 
+/// Direction 2: a patient, and groups of nothing but their days.
+fn groups(random: &mut Random) -> Vec<u8> {
+    let mut day = near_a_beginning(random);
+    let mut file = b"JAHISTC04,2\r\n".to_vec();
+    for number in [1].into_iter().chain([5].repeat(2 + random.below(9))) {
+        day = next_day(random, day);
+        file.extend_from_slice(&short_record(random, number, 0, day, &[]));
+        file.extend_from_slice(b"\r\n");
+    }
+    file
+}
+
+/// The day of the next group: the same or up to two days older, and once in fifteen a day newer.
+fn next_day(random: &mut Random, day: Day) -> Day {
+    if random.once_in(15) {
+        return day.after();
+    }
+    (0..random.below(3)).fold(day, |day, _| day.before())
+}
+
 /// A record with few bytes that is good by itself, most of the time.
-fn short_record(random: &mut Random, number: u16, rp: usize, day: usize, kinds: &[&str]) -> Vec<u8> {
+fn short_record(random: &mut Random, number: u16, rp: usize, day: Day, kinds: &[&str]) -> Vec<u8> {
     let rp = if random.once_in(10) { format!("{rp:03}") } else { rp.to_string() };
     let text = match number {
-        1 => "1,A,1,19890108,,,,,,,".to_string(),
+        1 => format!("1,A,1,{},,,,,,,", some_day(random)),
         2 => "2,1,x,1".to_string(),
-        3 => "3,x,,,8".to_string(),
-        4 => "4,x,,2".to_string(),
-        5 if random.once_in(2) => format!("5,201604{day:02},1"),
-        5 => format!("5,H2804{day:02},1"),
+        3 => format!("3,x,{},8", two_days(random)),
+        4 => format!("4,x,{},2", some_day_or_none(random)),
+        5 => format!("5,{},1", String::from_utf8_lossy(&day.spelled(random))),
         11 => format!("11,a,13,{},,,,,1", random.pick(kinds)),
         15 => "15,a,,1".to_string(),
         51 => "51,b,13,1,,1".to_string(),
@@ -266,10 +302,27 @@ fn short_record(random: &mut Random, number: u16, rp: usize, day: usize, kinds: 
         281 | 291 | 311 | 391 => format!("{number},{rp},x,1"),
         401 | 501 => format!("{number},x,1"),
         411 => "411,x,30,1".to_string(),
-        601 => "601,x,".to_string(),
-        _ => "701,a,b,c,,,1".to_string(),
+        601 => format!("601,x,{}", some_day_or_none(random)),
+        _ => "701,a,b,c,".to_string() + &two_days(random) + ",1",
     };
     text.into_bytes()
+}
+
+fn some_day(random: &mut Random) -> String {
+    String::from_utf8_lossy(&near_a_beginning(random).spelled(random)).into_owned()
+}
+
+/// For an item that may be empty.
+fn some_day_or_none(random: &mut Random) -> String {
+    if random.once_in(2) {
+        String::new()
+    } else {
+        some_day(random)
+    }
+}
+
+fn two_days(random: &mut Random) -> String {
+    format!("{},{}", some_day_or_none(random), some_day_or_none(random))
 }
 
 /// A 301 with any form, and its quantity and unit mostly as the form asks.
@@ -295,6 +348,7 @@ fn usage(random: &mut Random, rp: &str) -> Vec<u8> {
 mod tests {
     use super::*;
     use crate::ordinary::check;
+    use std::iter::repeat;
 
     #[test]
     fn damage_reaches_every_refusal_and_leaves_some_files_good() {
@@ -305,6 +359,46 @@ mod tests {
             counts[answer.map_or_else(|refusal| usize::from(refusal.number), |_| 0)] += 1;
         }
         assert!(counts.iter().all(|&count| count > 0), "{counts:?}");
+    }
+
+    /// Two days of groups that follow each other, as spelled, and whether the file is accepted or refused as 16.
+    fn neighbours(files: u64) -> Vec<([Vec<u8>; 2], bool)> {
+        let damage = Damage::default();
+        let mut found = Vec::new();
+        for file in (0..files).map(|index| damage.file(1, index)) {
+            let accepted = match check(&file) {
+                Ok(_) => true,
+                Err(refusal) if refusal.number == 16 => false,
+                Err(_) => continue,
+            };
+            let groups = file.split(|&byte| byte == b'\n').filter_map(|line| line.strip_prefix(b"5,"));
+            let days: Vec<&[u8]> = groups.filter_map(|group| group.split(|&byte| byte == b',').next()).collect();
+            found.extend(days.windows(2).map(|pair| ([pair[0].to_vec(), pair[1].to_vec()], accepted)));
+        }
+        found
+    }
+
+    #[test]
+    fn groups_fall_stay_and_rise_where_eras_begin() {
+        let neighbours = neighbours(12_000);
+        let newer = beginnings().count() - 1;
+        for (first, least) in beginnings().zip([20].into_iter().chain(repeat(2))).take(newer) {
+            let [mut falls, mut rises] = [0, 0];
+            for ([one, next], accepted) in &neighbours {
+                let (Some(one), Some(next)) = (Day::read(one), Day::read(next)) else { continue };
+                falls += u32::from(*accepted && one >= first && next < first);
+                rises += u32::from(!*accepted && one < first && next >= first);
+            }
+            assert!(falls >= least && rises >= least, "{first:?}: {falls} and {rises} of {}", neighbours.len());
+        }
+        // One day under two letters, each before the other.
+        let letter = |day: &[u8]| day[0].is_ascii_uppercase();
+        let same = neighbours.iter().filter(|([one, next], accepted)| {
+            *accepted && letter(one) && letter(next) && one[0] != next[0] && Day::read(one) == Day::read(next)
+        });
+        let first_is_older = same.map(|([one, next], _)| Day::read(one).is_some_and(|day| day.in_its_era() == *next));
+        let (older, newer): (Vec<bool>, Vec<bool>) = first_is_older.partition(|&older| older);
+        assert!(older.len() >= 3 && newer.len() >= 3, "{} and {}", older.len(), newer.len());
     }
 
     #[test]

@@ -1,11 +1,13 @@
 //! The gateway's ordinary-Rust side: `ordinary` has the five calls by document 01 without any proof, `sample` makes files,
-//! `damage` spoils them, `division` has inputs for cutting and joining, `library` has the replies of the proved static
-//! library, `comparison` compares the two, `timing` measures. The programs `bench` and `compare` use all of them.
+//! `damage` spoils them, `calendar` spells their days, `division` has inputs for cutting and joining, `library` has the
+//! replies of the proved static library, `comparison` compares the two, `timing` measures. The programs `bench` and
+//! `compare` use all of them.
 
 #![forbid(unsafe_code)]
 // Days are written YYYY_MM_DD.
 #![allow(clippy::inconsistent_digit_grouping)]
 
+pub mod calendar;
 pub mod comparison;
 pub mod damage;
 pub mod division;

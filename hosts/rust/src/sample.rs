@@ -1,7 +1,11 @@
-//! Accepted files as a pharmacy would send them: direction 1, groups of older and older days, much kanji, both spellings
-//! of dates and of postal codes. The same target gives the same bytes.
+//! Accepted files as a pharmacy would send them: direction 1, groups of older and older days, much kanji, all spellings
+//! of dates and both of postal codes. The same target and newest day give the same bytes; the newest day changes dates alone.
 
+use crate::calendar::Day;
 use crate::random::Random;
+
+/// The day of the newest group: the file is sent in 2026.
+pub const NEWEST: Day = Day::new(2026, 4, 11);
 
 /// An accepted file of 59,000 to 60,000 bytes.
 pub fn full() -> Vec<u8> {
@@ -10,11 +14,16 @@ pub fn full() -> Vec<u8> {
 
 /// An accepted file of at most `target` bytes, and near it. The target is 1,000 to 65,536.
 pub fn sized(target: usize) -> Vec<u8> {
+    sized_from(NEWEST, target)
+}
+
+/// Such a file whose first group is of the day `newest`.
+pub fn sized_from(newest: Day, target: usize) -> Vec<u8> {
     assert!((1_000..=65_536).contains(&target), "no sample of {target} bytes");
     let mut random = Random::new(15_106);
-    let mut file = head();
-    let tail = closing_note();
-    let mut day = Day { year: 2016, month: 4, day: 11 };
+    let mut file = head(newest.year());
+    let tail = closing_note(newest.year());
+    let mut day = newest;
     let mut prescriptions = 3;
     while prescriptions > 0 {
         let group = group(&mut random, day, prescriptions);
@@ -32,22 +41,24 @@ pub fn sized(target: usize) -> Vec<u8> {
     file
 }
 
-/// Line 1 and what stands before the groups.
-fn head() -> Vec<u8> {
+/// Line 1 and what stands before the groups; its dates but the birth's are of this year.
+fn head(year: u32) -> Vec<u8> {
     let mut file = b"JAHISTC04,1\r\n".to_vec();
     let (name, kana) = (b"\x8D\x82\x92\xC3\x81\x40\x8D\x4B\x8E\x71", b"\xC0\xB6\xC2 \xBB\xC1\xBA"); // 高津　幸子, half-width kana
     let home = ADDRESSES[0];
     record(&mut file, &[b"1", name, b"2", b"S330105", b"105-0001", home, b"03-3506-8010", b"", b"A+", b"52.5", kana]);
     record(&mut file, &[b"2", b"1", NOTES[4], b"1"]);
-    record(&mut file, &[b"3", DRUGS[5], b"H280301", b"20160310", b"8"]);
-    record(&mut file, &[b"4", NOTES[5], b"20160411", b"1"]);
+    let (from, to) = (Day::new(year, 3, 1).in_its_era(), Day::new(year, 3, 10).in_digits());
+    record(&mut file, &[b"3", DRUGS[5], &from, &to, b"8"]);
+    record(&mut file, &[b"4", NOTES[5], &Day::new(year, 4, 11).in_digits(), b"1"]);
     file
 }
 
 /// The pharmacist's words after the groups.
-fn closing_note() -> Vec<u8> {
+fn closing_note(year: u32) -> Vec<u8> {
     let mut file = Vec::new();
-    record(&mut file, &[b"701", PHARMACISTS[0], PHARMACIES[0], NOTES[3], b"H280401", b"20160430", b"1"]);
+    let (from, to) = (Day::new(year, 4, 1).in_its_era(), Day::new(year, 4, 30).in_digits());
+    record(&mut file, &[b"701", PHARMACISTS[0], PHARMACIES[0], NOTES[3], &from, &to, b"1"]);
     file
 }
 
@@ -127,41 +138,6 @@ fn prescription(random: &mut Random, file: &mut Vec<u8>, rp: usize) {
 fn record(file: &mut Vec<u8>, parts: &[&[u8]]) {
     file.extend_from_slice(&parts.join(&b','));
     file.extend_from_slice(b"\r\n");
-}
-
-/// A day of the era H; the sample's groups stay within it.
-#[derive(Clone, Copy)]
-struct Day {
-    year: u32,
-    month: u32,
-    day: u32,
-}
-
-impl Day {
-    fn before(self) -> Day {
-        let Day { year, month, day } = self;
-        if day > 1 {
-            return Day { day: day - 1, ..self };
-        }
-        let (year, month) = if month == 1 { (year - 1, 12) } else { (year, month - 1) };
-        let day = match month {
-            4 | 6 | 9 | 11 => 30,
-            2 if year % 4 == 0 => 29,
-            2 => 28,
-            _ => 31,
-        };
-        Day { year, month, day }
-    }
-
-    fn spelled(self, random: &mut Random) -> Vec<u8> {
-        let Day { year, month, day } = self;
-        let text = if random.once_in(2) {
-            format!("{year}{month:02}{day:02}")
-        } else {
-            format!("H{:02}{month:02}{day:02}", year - 1988)
-        };
-        text.into_bytes()
-    }
 }
 
 const DOSES: &[&[u8]] = &[b"1", b"2", b"3", b"0.5", b"1.5", b"0.25", b"7.5", b"63", b"100"];
@@ -302,7 +278,7 @@ const ADDRESSES: &[&[u8]] = &[
 #[cfg(test)]
 mod tests {
     use super::*;
-    use crate::ordinary::check;
+    use crate::ordinary::{canonical, check};
 
     #[test]
     fn samples_are_accepted_and_near_their_size() {
@@ -315,6 +291,38 @@ mod tests {
             assert_eq!(counts.records, lines - 1);
             assert!(counts.groups >= 1 && counts.drugs >= counts.groups);
         }
+    }
+
+    /// The days of the groups, as spelled, and as a canonical file spells them.
+    fn days_of(file: &[u8]) -> (Vec<Vec<u8>>, Vec<Vec<u8>>) {
+        let mut out = vec![0; file.len()];
+        let bytes = canonical(file, &mut out).expect("the sample is accepted") as usize;
+        let days = |file: &[u8]| {
+            let groups = file.split(|&byte| byte == b'\n').filter(|line| line.starts_with(b"5,"));
+            groups.map(|line| line[2..].split(|&byte| byte == b',').next().unwrap_or_default().to_vec()).collect()
+        };
+        (days(file), days(&out[..bytes]))
+    }
+
+    #[test]
+    fn the_full_sample_has_its_days_in_three_spellings_and_one_when_canonical() {
+        let (days, canonical) = days_of(&full());
+        for start in ["R", "H", "20"] {
+            let count = days.iter().filter(|day| day.starts_with(start.as_bytes())).count();
+            assert!(count >= 5, "{count} days begin with {start}");
+        }
+        assert!(canonical.iter().all(|day| day.starts_with(b"R")));
+    }
+
+    /// What is measured on it can be compared with figures of the time before 1 May 2019 had an era of its own.
+    #[test]
+    fn a_sample_of_older_days_has_the_same_length() {
+        let older = sized_from(Day::new(2016, 4, 11), 60_000);
+        assert_eq!(older.len(), full().len());
+        let (days, canonical) = days_of(&older);
+        let in_era = |days: &[Vec<u8>]| days.iter().filter(|day| day.starts_with(b"H")).count();
+        assert_eq!(in_era(&canonical), canonical.len());
+        assert!(days.iter().zip(&canonical).all(|(day, canonical)| day.len() == 8 || day == canonical));
     }
 
     #[test]
