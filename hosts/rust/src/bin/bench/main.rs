@@ -1,6 +1,8 @@
 //! Measures the calls of the gateway library against the ordinary implementation on the same inputs, in turn, and prints a
 //! table: minimum and median time of a call, nanoseconds per byte of its input at the median, and the ratios library /
-//! ordinary. `bench CALL..` measures the named calls alone.
+//! ordinary. `bench CALL..` measures the named calls alone. `bench --from DAY CALL..` takes files whose newest group is of
+//! this day; their dates differ, nothing else. From 20160411 they are byte for byte what was measured before days were
+//! written under R.
 //!
 //! `bench --report DOCUMENT PLOT MACHINE ROWS..` measures nothing: it reads such tables from files and writes them into the
 //! document between its two marks, with the date and machine given, and a plot of them as SVG beside it.
@@ -8,6 +10,7 @@
 mod plot;
 mod report;
 
+use notebook_hosts::calendar::Day;
 use notebook_hosts::division::MOST_PIECES_BYTES;
 use notebook_hosts::library::{replies, Reply, Told};
 use notebook_hosts::timing::{measure, Row, TARGETS};
@@ -24,18 +27,18 @@ const ID: &[u8] = b"20161115000001";
 /// A piece of this capacity holds one record of `fine`, so that the file makes 999 pieces.
 const FINE_CAPACITY: u64 = 101;
 
-const USAGE: &str = "usage: bench [CALL..] | bench --report DOCUMENT PLOT MACHINE ROWS..";
+const USAGE: &str = "usage: bench [--from DAY] [CALL..] | bench --report DOCUMENT PLOT MACHINE ROWS..";
 
 fn main() -> ExitCode {
     let arguments: Vec<String> = std::env::args().skip(1).collect();
     let arguments: Vec<&str> = arguments.iter().map(String::as_str).collect();
     let result = match arguments[..] {
         ["--report", document, plot, machine, ref rows @ ..] => report(document, plot, machine, rows),
-        _ if arguments.iter().all(|call| CALLS.contains(call) || MOST_PIECES.contains(call)) => {
-            measure_calls(&arguments);
-            Ok(())
-        }
-        _ => Err(USAGE.to_string()),
+        ["--from", day, ref calls @ ..] => match Day::read(day.as_bytes()) {
+            Some(newest) => measure_calls(newest, calls),
+            None => Err(format!("not a day: {day}")),
+        },
+        ref calls => measure_calls(sample::NEWEST, calls),
     };
     result.map_or_else(
         |message| {
@@ -62,7 +65,10 @@ fn report(document: &str, plot: &str, machine: &str, files: &[&str]) -> Result<(
     write(plot, plot::svg(machine, &rows))
 }
 
-fn measure_calls(wanted: &[&str]) {
+fn measure_calls(newest: Day, wanted: &[&str]) -> Result<(), String> {
+    if !wanted.iter().all(|call| CALLS.contains(call) || MOST_PIECES.contains(call)) {
+        return Err(USAGE.to_string());
+    }
     let measured = |call: &&str| wanted.is_empty() || wanted.contains(call);
     println!("{}  ratio of minima  ratio of medians", Row::HEAD);
     for call in MOST_PIECES.into_iter().filter(measured) {
@@ -85,7 +91,7 @@ fn measure_calls(wanted: &[&str]) {
     }
     for call in CALLS.into_iter().filter(measured) {
         for target in TARGETS {
-            let file = sample::sized(target);
+            let file = sample::sized_from(newest, target);
             match call {
                 "check" => compare(
                     call,
@@ -125,6 +131,7 @@ fn measure_calls(wanted: &[&str]) {
             }
         }
     }
+    Ok(())
 }
 
 /// A file of some 60,000 bytes that cuts into 999 pieces: record 1, and 998 notes of 60 bytes, mostly kanji.
