@@ -120,8 +120,8 @@ struct notebook_reply notebook_check(const uint8_t *file, size_t file_length);
 struct notebook_reply notebook_index(const uint8_t *file, size_t file_length, uint32_t *out, size_t out_length);
 
 /*
- * Writes the canonical file: days in the era form, postal codes without hyphen, RP numbers and quantities without leading zeros, no 1Ah;
- * all else as in the file.
+ * Writes the canonical file: days in the form of the newest era that has begun, postal codes without hyphen, RP numbers and quantities
+ * without leading zeros, no 1Ah; all else as in the file.
  * Result: a bytes; the first a bytes of out are the canonical file, those after them are as they were.
  * Refusals: 1 to 16; then 20 if out is shorter than the canonical file. out is as it was.
  */

@@ -106,7 +106,7 @@ static void groups(size_t limit)
 {
     static const char group[] = "5,20160411,1\r\n11,P,13,4,1234567,105-0004,A,03,1\r\n15,N,,1\r\n51,H,13,1,7654321,1\r\n55,D,,1\r\n"
                                 "201,001,X,0.25,g,2,610421321,1\r\n281,1,s,1\r\n291,1,c,1\r\n301,1,u,28,\x93\xfa\x95\xaa,1,1,,1\r\n"
-                                "311,1,s,1\r\n391,1,n,1\r\n401,r,1\r\n411,i,30,1\r\n501,m,1\r\n601,p,20160412\r\n";
+                                "311,1,s,1\r\n391,1,n,1\r\n401,r,1\r\n411,i,30,1\r\n501,m,1\r\n601,p,H310501\r\n";
     file_length = 0;
     add("JAHISTC04,1\r\n1,\x8e\x52\x93\x63,2,S330303,105-0004,A,03-1234-5678,,,60.5,B\r\n");
     while (file_length + sizeof group <= limit) {

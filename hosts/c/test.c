@@ -288,6 +288,40 @@ static void cut_refuses(struct bytes file, uint64_t capacity, const char *id, ui
     give_back(out);
 }
 
+/* Document 02's days, before and from 1 May 2019 on: canonical and cut write them under the newest era, join leaves them as they are. */
+static void days(void)
+{
+    static const struct {
+        const char *day, *written;
+    } cases[] = {
+        {"20190430", "H310430"}, {"H310430", "H310430"}, {"20190501", "R010501"}, {"H310501", "R010501"}, {"R010501", "R010501"},
+        {"20871231", "R691231"}, {"H991231", "R691231"}, {"R691231", "R691231"},
+    };
+    size_t i;
+    for (i = 0; i < sizeof cases / sizeof cases[0]; i++) {
+        struct bytes file = text(LINE_1 "1,A,1,");
+        struct bytes canonical = text(LINE_1 "1,A,1,");
+        uint8_t *out = lend(40);
+        file = add(file, cases[i].day, strlen(cases[i].day));
+        file = add(file, ",,,,,,,\r\n", 9);
+        canonical = add(canonical, cases[i].written, 7);
+        canonical = add(canonical, ",,,,,,,\r\n", 9);
+        HOLD(result(notebook_check(file.at, file.length), 1, 0, 0));
+        HOLD(result(notebook_canonical(file.at, file.length, out, 40), 35, 0, 0));
+        HOLD(same(out, 35, canonical) && kept(out, 40, 35));
+        give_back(out);
+
+        out = lend(40);
+        HOLD(result(cut(file, 35, ID, out, 40), 1, 35, 0));
+        HOLD(same(out, 35, canonical) && kept(out, 40, 35));
+        give_back(out);
+
+        join_gives(file, file);
+        free(canonical.at);
+        free(file.at);
+    }
+}
+
 static void cuttings(void)
 {
     struct bytes file = memos(18);
@@ -356,11 +390,13 @@ static void refusals(void)
         {LINE_1 "1,AAAAAAAAAAAAAAAAAAAAAAAAAAAAAAAAAAAAAAAAA,1,19890108,,,,,,,\r\n", NOTEBOOK_REFUSED_LONG, 2},
         {LINE_1 PATIENT "4, x,,2\r\n", NOTEBOOK_REFUSED_EDGE, 3},
         {LINE_1 PATIENT "4,x,,3\r\n", NOTEBOOK_REFUSED_FORM, 3},
+        {LINE_1 PATIENT "5,R010430,2\r\n", NOTEBOOK_REFUSED_FORM, 3},
         {LINE_1 PATIENT GROUP "201,1,x,1,T,2,,2\r\n", NOTEBOOK_REFUSED_PAIR, 4},
         {LINE_1 PATIENT MEMO "2,1,x,2\r\n", NOTEBOOK_REFUSED_PLACE, 4},
         {LINE_1, NOTEBOOK_REFUSED_MISSING, 2},
         {LINE_1 PATIENT GROUP "201,2,x,1,T,1,,2\r\n", NOTEBOOK_REFUSED_RP, 4},
         {LINE_1 PATIENT GROUP "5,20160412,2\r\n", NOTEBOOK_REFUSED_DATE_ORDER, 4},
+        {LINE_1 PATIENT "5,H310430,2\r\n5,R010501,2\r\n", NOTEBOOK_REFUSED_DATE_ORDER, 4},
     };
     struct bytes file = memos(8187);
     size_t i;
@@ -496,6 +532,7 @@ static void version(void)
 int main(void)
 {
     small_file();
+    days();
     cuttings();
     refusals();
     sets();

@@ -165,8 +165,15 @@ pub fn index_into(file: &[u8], out: &mut [Entry]) -> Result<usize, Refusal> {
     written(raw::index(file, raw::numbers(out)))
 }
 
-/// The canonical file: days in the era form, postal codes without hyphen, RP numbers and quantities
-/// without leading zeros, no 1Ah.
+/// The canonical file: days in the form of the newest era that has begun, postal codes without hyphen, RP numbers and
+/// quantities without leading zeros, no 1Ah.
+///
+/// ```
+/// // One day, as an older phone spells it, and as it is written.
+/// let file = b"JAHISTC04,2\r\n1,A,1,H310501,,,,,,,\r\n";
+/// assert_eq!(notebook::canonical(file)?, b"JAHISTC04,2\r\n1,A,1,R010501,,,,,,,\r\n");
+/// # Ok::<(), notebook::Refusal>(())
+/// ```
 pub fn canonical(file: &[u8]) -> Result<Vec<u8>, Refusal> {
     // No canonical spelling is longer than another.
     let mut out = vec![0; file.len().min(MOST_FILE_BYTES)];

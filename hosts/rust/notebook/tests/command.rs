@@ -45,6 +45,11 @@ fn canonical_of_a_file() {
     let json =
         "{\"file\":\"-\",\"ok\":true,\"bytes\":35,\"base64\":\"SkFISVNUQzA0LDINCjEsQSwxLEgwMTAxMDgsLCwsLCwsDQo=\"}\n";
     assert_eq!(run(&["canonical", "--json", "-"], SMALL), (0, json.into(), "".into()));
+    let born = |day: &str| format!("JAHISTC04,2\r\n1,A,1,{day},,,,,,,\r\n");
+    for (day, written) in [("20190430", "H310430"), ("20190501", "R010501"), ("H310501", "R010501"), ("R010501", "R010501")]
+    {
+        assert_eq!(run(&["canonical", "-"], born(day).as_bytes()), (0, born(written), "".into()), "{day}");
+    }
     let refused = "samples/refused.csv: no 11 10: form\n";
     assert_eq!(run(&["canonical", "samples/refused.csv"], b""), (1, "".into(), refused.into()));
     let json = "{\"file\":\"-\",\"ok\":false,\"number\":3,\"word\":\"version\",\"line\":1}\n";
