@@ -3,7 +3,8 @@
     refusals    the table of docs/OPERATING.md; the numbers of each call: refusals/specs/Refusals.antt
     calls       the exports of gateway/src/lib.rt, with the definitions that their contracts cite
     records     records/specs/Paper.antt, document 01's own text
-    eras        eras/specs/Era.antt; the oracle is also held to these rows day by day
+    eras        eras/specs/Era.antt; the oracle is also held to these rows day by day. Of the sentences on eras, the ranges in docs/OPERATING.md
+                and the letters in README.md are read
 
 Prints each difference with its file and what is expected there; exit status 1 if there is one, or if a place cannot be read: a form that finds
 nothing is a fault, so that no place is left out in silence. Run it from anywhere: python3 tests/agree.py
@@ -586,9 +587,31 @@ def cases_of(labels):
 
 def compare_first_days(eras):
     """What has days of every era: the cases, and the words that the fuzzers put into files."""
-    labels = [kind + under(letter, own, own.first) for letter, own in eras.items() for kind in ("birth ", "canonical: every day is ")]
+    firsts = {under(letter, own, own.first) for letter, own in eras.items()}
+    labels = [kind + first for first in firsts for kind in ("birth ", "canonical: every day is ")]
     compare("crates/cases/stdout", "the first day of each era", cases_of(labels), {label: "ok" for label in labels})
-    compare("hosts/rust/fuzz/words.dict", "days of each era", lambda text: names({*every(r'^"([A-Z])\d{6}"$', text)} & {*eras}), names(eras))
+    # It has other days too.
+    compare("hosts/rust/fuzz/words.dict", "the first day of each era",
+            lambda text: names({*every(r'^"([A-Z]\d{6})"$', text)} & firsts), names(firsts))
+
+
+def ranges_in_words(text):
+    """The days that are read under each letter: "M060101 to M450729, T010730 to .." """
+    sentence = one(r"or under an era's letter: ([^.]+)\.", plain(block("## Dates and eras\n", "\n## ", text)))
+    found = every_line(r"([A-Z])(\d{6}) to ([A-Z]\d{6})", sentence.replace(", ", "\n"))
+    return rows((letter, f"{letter}{first} to {last}") for letter, first, last in found)
+
+
+def letters_in_words(text):
+    """The letters of "M, T, S, H and R"."""
+    sentence = one(r"an \*\*era\*\*'s letter and YYMMDD: ([^.]+)\.", plain(block("## Words\n", "\n## ", text)))
+    return names(every_line(r"([A-Z])", re.sub(r", | and ", "\n", sentence)))
+
+
+def compare_sentences_on_eras(eras):
+    ranges = {letter: f"{under(letter, own, own.first)} to {under(letter, own, own.last)}" for letter, own in eras.items()}
+    compare(OPERATING, "the days that are read under each letter", ranges_in_words, ranges)
+    compare(README, "the letters of the eras", letters_in_words, names(eras))
 
 
 def eras_of_ordinary(text):
@@ -607,6 +630,7 @@ def compare_eras(eras):
     compare("tests/oracle.py", "ERAS", eras_of_oracle, eras)
     compare_days(eras)
     compare_first_days(eras)
+    compare_sentences_on_eras(eras)
     compare(days, "ERAS", eras_of_ordinary, eras)
     # The newest that has begun is the first one found.
     compare(days, "the order of ERAS", lambda text: numbered(eras_of_ordinary(text)), numbered(eras))

@@ -130,8 +130,11 @@ def spelled(written, given, folder):
 
 def sample_written(folder):
     """The sample has a day of R under H, and postal codes with a hyphen."""
-    data = tools.sample("visit.csv")
-    wanted = data.replace(b"H310508", b"R010508").replace(b"105-0004", b"1050004")
+    data = wanted = tools.sample("visit.csv")
+    for given, canonical in ((b"H310508", b"R010508"), (b"105-0004", b"1050004")):
+        # Without it the sample would show nothing of this spelling.
+        same("%s is in the sample" % given.decode(), given in data, True)
+        wanted = wanted.replace(given, canonical)
     write(folder, {"visit.csv": data})
     same("notebook canonical", run("notebook canonical visit.csv", folder), (0, wanted, b""))
     same("notecanon", run("notecanon", folder, data), (0, wanted, b""))

@@ -15,12 +15,14 @@ pub struct Damage {
 impl Default for Damage {
     fn default() -> Self {
         // The newest groups of a sample are some days after an era begins, its other groups mostly before that. No day is
-        // before the oldest era. The groups of the large one reach back five years, over the beginning of the newest era.
+        // before the oldest era. The groups of the large one reach back five years, from about two years after the newest
+        // era begins to the time before it.
         let starts = beginnings().map(|first| (0..12).fold(first, |day, _| day.after()));
         let newest: Vec<Day> = [sample::NEWEST].into_iter().chain(starts.take(beginnings().count() - 1)).collect();
         let sizes = [1_000, 1_500, 2_500, 4_000];
         let small = newest.iter().flat_map(|&day| sizes.map(|size| sized_from(day, size))).collect();
-        Damage { small, large: sized_from(Day::new(2021, 4, 11), 60_000) }
+        let begun = beginnings().next().expect("there is an era");
+        Damage { small, large: sized_from(Day::new(begun.year() + 2, 4, 11), 60_000) }
     }
 }
 

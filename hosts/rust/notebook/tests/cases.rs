@@ -12,7 +12,7 @@ use std::process::Command;
 #[test]
 fn check_every_case() {
     let cases = cases(b"v");
-    assert!(cases.len() >= 4_899);
+    assert!(cases.len() >= 5_145);
     for case in cases {
         let told = match notebook::check(&case.input) {
             Ok(counts) => format!("ok {} {} {}", counts.records, counts.groups, counts.drugs),
@@ -48,7 +48,7 @@ fn check_every_case_by_the_command() {
 fn every_call_on_every_case() {
     let calls = Calls { check: raw::check, index: raw::index, canonical: raw::canonical, cut: raw::cut, join: raw::join };
     let cases = cases(b"vickj");
-    assert!(cases.len() >= 4_899 + 3_021);
+    assert!(cases.len() >= 5_145 + 3_255);
     for case in cases {
         assert_eq!(case.told_by(&calls), case.answer);
     }
