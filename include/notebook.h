@@ -29,8 +29,8 @@ extern "C" {
  * The version of this header: the major, the minor and the patch as text, and as major * 10000 + minor * 100 + patch. notebook_version
  * tells that of the library; a host may compare the two, to see that they are of one version.
  */
-#define NOTEBOOK_VERSION_STRING "0.2.0"
-#define NOTEBOOK_VERSION_NUMBER 200
+#define NOTEBOOK_VERSION_STRING "0.3.0"
+#define NOTEBOOK_VERSION_NUMBER 300
 
 /* Limits. */
 enum {
