@@ -20,6 +20,7 @@ PLACES = [
     ("crates/gateway/src/lib.rt", "const VERSION: u64 = ", ";", "number"),
     ("hosts/rust/notebook/Cargo.toml", 'name = "notebook"\nversion = "', '"', "text"),
     ("hosts/rust/Cargo.lock", 'name = "notebook"\nversion = "', '"', "text"),
+    ("hosts/rust/README.md", "    error: notebook@", ": no libgateway.a", "text"),
 ]
 
 

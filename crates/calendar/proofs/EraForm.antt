@@ -24,7 +24,7 @@ use Rattle.eras.specs.Era.{sixDigits, eraOf, eraOn, writeDay}
 use Rattle.eras.specs.Day.{isDay}
 use Rattle.calendar.specs.Day.{gregorian}
 use Rattle.calendar.specs.Era.{inEra, fromEra, readDay}
-use Rattle.calendar.specs.Form.{under, isForm, IsForm}
+use Rattle.calendar.specs.Form.{under, isWrittenForm, TellsForm}
 use Rattle.eras.proofs.Eras.{day-named, letter-names, letter-small, letter-kept}
 use Rattle.calendar.proofs.Laws.{read-is-day}
 use Rattle.calendar.proofs.Steps.{some-digits, no-digits}
@@ -141,8 +141,8 @@ digits (a ∷ b ∷ c ∷ d ∷ f ∷ g ∷ x ∷ l) z h = absurd (omega arith)
 
 module _ (s : List ℕ) (n : ℕ) (e : readDay s ≡ Date (record { ymd = n })) where
   -- IT IS WHAT IS WRITTEN: where the letter is that of the day's era, they are one era
-  pub form-is : isForm s ≡ true → writeDay n ≡ s
-  unfolding isForm writeDay
+  pub form-is : isWrittenForm s ≡ true → writeDay n ≡ s
+  unfolding isWrittenForm writeDay
   form-is o =
       let d : isDay n ≡ true = read-is-day s n e in
       let a : (eraOn n) .letter ≡ getD s 0 0 = eqb-true _ _ (sym (ap (under (getD s 0 0)) e) ∙ o) in
@@ -155,8 +155,8 @@ module _ (s : List ℕ) (n : ℕ) (e : readDay s ≡ Date (record { ymd = n })) 
       cc
 
   -- AND NOTHING ELSE IS
-  pub form-only : writeDay n ≡ s → isForm s ≡ true
-  unfolding isForm writeDay
+  pub form-only : writeDay n ≡ s → isWrittenForm s ≡ true
+  unfolding isWrittenForm writeDay
   form-only w = ap (under (getD s 0 0)) e ∙ eq-eqb _ _ (ap (λ (t : List ℕ). getD t 0 0) w)
 
 -- the era of a letter is of years that fit 32 bits
@@ -180,11 +180,11 @@ module _ (s : List ℕ) (z : length s ≡ 7) {b : ℕ} (i : b ≡ getD s 0 0) {e
   era-is : {n : ℕ} (w : EraSpelled s n) → eraOf (w .letter) ≡ e
   era-is w = ap eraOf (letter-is w) ∙ sym v
 
-  is-under : {n : ℕ} → readDay s ≡ Date (record { ymd = n }) → eqb ((eraOn n) .letter) b ≡ isForm s
-  unfolding isForm
+  is-under : {n : ℕ} → readDay s ≡ Date (record { ymd = n }) → eqb ((eraOn n) .letter) b ≡ isWrittenForm s
+  unfolding isWrittenForm
   is-under h = ap (eqb _) i ∙ sym (ap (under (getD s 0 0)) h)
 
-  pub form-always : {x : Era} → x ≡ eraOn (e .last) → x .letter ≡ b → IsForm true s
+  pub form-always : {x : Era} → x ≡ eraOn (e .last) → x .letter ≡ b → TellsForm true s
   form-always {x} q l = record { is = λ n h. sym (eq-eqb _ _ (kept n (spelled h))) ∙ is-under h }
     where
       kept : (n : ℕ) → EraSpelled s n → (eraOn n) .letter ≡ b
@@ -205,19 +205,19 @@ module _ (s : List ℕ) (z : length s ≡ 7) {b : ℕ} (i : b ≡ getD s 0 0) {e
     value-is : {m n : ℕ} → k ≡ Is m → (w : EraSpelled s n) → value 0 (w .rest) ≡ m
     value-is q w = ap (λ (t : List ℕ). value 0 (drop 1 t)) (sym (w .is)) ∙ some-digits (drop 1 s) rest q .1
 
-    pub form-long : {m : ℕ} → k ≡ Is m → 999999 < m → IsForm false s
+    pub form-long : {m : ℕ} → k ≡ Is m → 999999 < m → TellsForm false s
     form-long {m} q l = record { is = λ n h. absurd (too-long (spelled h)) }
       where
         too-long : {n : ℕ} → EraSpelled s n → ⊥
         too-long w = omega (arith, w .within .short, value-is q w)
 
-    pub form-on : {m : ℕ} {x : Era} → k ≡ Is m → x ≡ eraOn (e .before + m) → IsForm (eqb (x .letter) b) s
+    pub form-on : {m : ℕ} {x : Era} → k ≡ Is m → x ≡ eraOn (e .before + m) → TellsForm (eqb (x .letter) b) s
     form-on {m} {x} q r = record { is = λ n h. ap (λ (y : Era). eqb (y .letter) b) (r ∙ ap eraOn (day n (spelled h))) ∙ is-under h }
       where
         day : (n : ℕ) → EraSpelled s n → e .before + m ≡ n
         day n w = omega (arith, w .within .is, ap (λ (y : Era). y .before) (era-is w), value-is q w)
 
-    pub form-none : k ≡ NoNumber → IsForm false s
+    pub form-none : k ≡ NoNumber → TellsForm false s
     form-none q = record { is = λ n h. absurd (digits-there (spelled h)) }
       where
         digits-there : {n : ℕ} → EraSpelled s n → ⊥

@@ -17,9 +17,9 @@ under c (Date d) = eqb ((eraOn (d .ymd)) .letter) c
 under c NotADate = false
 
 -- a date begins with the letter that its day is written under
-unfoldable pub isForm : List ℕ → Bool
-isForm s = under (getD s 0 0) (readDay s)
+unfoldable pub isWrittenForm : List ℕ → Bool
+isWrittenForm s = under (getD s 0 0) (readDay s)
 
 -- r tells whether it does, of bytes that are a date
-pub record IsForm (r : Bool) (s : List ℕ) : Type 0 where
-  pub is : (n : ℕ) → readDay s ≡ Date (record { ymd = n }) → r ≡ isForm s
+pub record TellsForm (r : Bool) (s : List ℕ) : Type 0 where
+  pub is : (n : ℕ) → readDay s ≡ Date (record { ymd = n }) → r ≡ isWrittenForm s

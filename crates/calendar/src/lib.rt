@@ -9,7 +9,7 @@ ghost use Rattle.eras.specs.Day.{leap, monthLength};
 ghost use Rattle.calendar.specs.Day.{gregorian};
 ghost use Rattle.eras.specs.Era.{eraOf, eraOn, writeDay};
 ghost use Rattle.calendar.specs.Era.{fromEra, readDay};
-ghost use Rattle.calendar.specs.Form.{IsForm};
+ghost use Rattle.calendar.specs.Form.{TellsForm};
 use eras::Era;
 
 // What a run of digits reads to.
@@ -212,7 +212,7 @@ impl Day {
     // day that is read under the letter, it is so on every day; else the day is asked for.
     pub fn is_written_form(s: &[u8]) -> bool
         requires { ⌜ length (now s) ≡ 7 ⌝ }
-        ensures { λ r. ⌜ IsForm r (now (s .entry)) ⌝ }
+        ensures { λ r. ⌜ TellsForm r (now (s .entry)) ⌝ }
     {
         let letter = s[0];
         let e = era_by_letter(letter);

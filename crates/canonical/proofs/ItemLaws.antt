@@ -19,7 +19,7 @@ use Rattle.calendar.specs.declared.DateRead.{DateRead}
 use Rattle.calendar.specs.declared.DateRead.the-variants.{Date, NotADate}
 use Rattle.calendar.specs.declared.Day.{Day}
 use Rattle.calendar.specs.Era.{readDay}
-use Rattle.calendar.specs.Form.{IsForm}
+use Rattle.calendar.specs.Form.{TellsForm}
 use Rattle.eras.specs.Era.{writeDay}
 use Rattle.records.specs.Table.{Kind, N, U, X, A, F, C, P, R, W, Q, D, among}
 use Rattle.records.specs.Items.{raw, writeValue, numberFault, numberValue, dayFault, dayValue, unhyphened, seven, postal, fault, valueOf}
@@ -288,7 +288,7 @@ module _ (c : ℕ) (s : List ℕ) (g : Spellable c s) where
     date-own : ((n : ℕ) → readDay s ≡ Date (record { ymd = n }) → writeDay n ≡ s) → itemBytes c s ≡ s
     date-own o = item-day c s e ∙ day-own s (λ h. (rw (kind-day (c / 4 % 16) (c / 64) e) at (g .good h))) o
 
-    pub own-date : {b : Bool} → IsForm b s → OwnUnless (not b) c s
+    pub own-date : {b : Bool} → TellsForm b s → OwnUnless (not b) c s
     own-date {b} o = record { own = λ f. date-own (λ n q. form-is s n q (sym (o .is n q) ∙ not-false′ b f)) }
 
     -- a date of another length is none
