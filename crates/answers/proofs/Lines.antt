@@ -6,7 +6,7 @@ use native.Mathlib.Omega.{arith}
 use mathlib.Core.Path.{_≡_, refl, sym, ap, _∙_}
 use mathlib.Core.List.{List, [], _∷_, _++_, append-assoc}
 use borrow.Author.Tests.{lt-ltb, eq-eqb, ne-eqb}
-use lib.ListN.{length, take, drop, length-append}
+use lib.ListN.{length, take, drop}
 use lib.Seq.{take-at}
 use Rattle.io.specs.Counts.{Counts}
 use Rattle.io.proofs.Counting.{counts}
@@ -46,16 +46,11 @@ digits-few k n h f e = omega (arith, ap length (e ∙ fewest-decimal k n f), dec
 
 -- ---- numbers, one after another
 
-module _ {d d₁ : List ℕ} {at r : ℕ} (n : ℕ) where
-  -- after a number there is room for what was left besides its 21 bytes
-  pub room-left : (k : ℕ) → n ≤ 18446744073709551615 → Wrote d d₁ at r (0x20 ∷ decimal n) → at + 21 + k ≤ length d → r + k ≤ length d₁
-  room-left k h w g = omega (arith, decimal-twenty n h, w .next, w .size)
-
-  -- one number more
-  number-more : {d₂ : List ℕ} {e : ℕ} (ns : List ℕ) → Wrote d d₁ at r (0x20 ∷ decimal n) → Wrote d₁ d₂ r e (spaced ns)
-      → Wrote d d₂ at e (spaced (n ∷ ns))
-  unfolding spaced
-  number-more ns x y = then x y
+-- one number more
+number-more : {d d₁ d₂ : List ℕ} {at r e : ℕ} (n : ℕ) (ns : List ℕ) → Wrote d d₁ at r (0x20 ∷ decimal n) → Wrote d₁ d₂ r e (spaced ns)
+    → Wrote d d₂ at e (spaced (n ∷ ns))
+unfolding spaced
+number-more n ns x y = then x y
 
 no-number : {d : List ℕ} {at : ℕ} → at ≤ length d → Wrote d d at at (spaced [])
 unfolding spaced
@@ -90,21 +85,9 @@ module _ (a b c : ℕ) where
       three-wrote (suc (suc (suc (suc count)))) h z =
           number-more a (b ∷ c ∷ []) x (number-more b (c ∷ []) y (number-more c [] z (no-number (omega (arith, z .high, z .size)))))
 
-  module _ (p : a ≤ 18446744073709551615) (q : b ≤ 18446744073709551615) (r : c ≤ 18446744073709551615) where
-    pub numbers-short : (count : ℕ) → length (spaced (take count (a ∷ b ∷ c ∷ []))) ≤ 63
-    unfolding spaced
-    numbers-short zero = omega arith
-    numbers-short (suc zero) = rw length-append (omega (arith, decimal-twenty a p))
-    numbers-short (suc (suc zero)) = simp length-append (omega (arith, decimal-twenty a p, decimal-twenty b q))
-    numbers-short (suc (suc (suc zero))) = simp length-append (omega (arith, decimal-twenty a p, decimal-twenty b q, decimal-twenty c r))
-    numbers-short (suc (suc (suc (suc count)))) = simp length-append (omega (arith, decimal-twenty a p, decimal-twenty b q, decimal-twenty c r))
-
 -- ---- a line
 
 module _ {d d₁ d₂ : List ℕ} {at i j : ℕ} {word : List ℕ} (ns : List ℕ) (x : Wrote d d₁ at i word) (y : Wrote d₁ d₂ i j (spaced ns)) where
-  pub end-room : at ≡ 0 → length word ≡ 2 → length (spaced ns) ≤ 63 → 66 ≤ length d → j + 1 ≤ length d₂
-  end-room a w h g = omega (arith, x .next, x .size, y .next, y .size)
-
   pub line-wrote : {d₃ : List ℕ} {k : ℕ} → Wrote d₂ d₃ j k (0x0a ∷ []) → Wrote d d₃ at k (line word ns)
   unfolding line
   line-wrote z = then (then x y) z
@@ -116,45 +99,17 @@ unfolding spaced
 spaced-append [] ns = refl
 spaced-append (m ∷ ms) ns = rw (append-assoc, spaced-append ms ns)
 
--- where its numbers end, written as one, three, one and one, in a buffer that stays as long as it was
-module _ {s₀ s₁ : List ℕ} {at i : ℕ} (a : ℕ) (p : a ≤ 18446744073709551615) (u : Wrote s₀ s₁ at i (decimal a)) where
-  pub one-end : (i ≤ at + 20) × (length s₁ ≡ length s₀)
-  one-end = (omega (arith, decimal-twenty a p, u .next), u .size)
+-- its numbers, written as one, three and three
+pub entry-wrote : {s₀ s₁ s₂ s₃ s₄ : List ℕ} {at i j k r : ℕ} (a b c d e f g : ℕ) → Wrote s₀ s₁ at i (decimal a)
+    → Wrote s₁ s₂ i j (spaced (b ∷ c ∷ d ∷ [])) → Wrote s₂ s₃ j k (spaced (e ∷ f ∷ g ∷ [])) → Wrote s₃ s₄ k r (0x0a ∷ [])
+    → Wrote s₀ s₄ at r (line (decimal a) (b ∷ c ∷ d ∷ e ∷ f ∷ g ∷ []))
+entry-wrote a b c d e f g u v w x =
+    let rest = rw (spaced-append (b ∷ c ∷ d ∷ []) (e ∷ f ∷ g ∷ [])) at (then v w) in
+    line-wrote (b ∷ c ∷ d ∷ e ∷ f ∷ g ∷ []) u rest x
 
-  module _ {s₂ : List ℕ} {j : ℕ} (b c d : ℕ) (q : b ≤ 18446744073709551615) (r : c ≤ 18446744073709551615) (t : d ≤ 18446744073709551615)
-      (v : Wrote s₁ s₂ i j (spaced (b ∷ c ∷ d ∷ []))) where
-    pub four-end : (j ≤ at + 83) × (length s₂ ≡ length s₀)
-    four-end = (omega (arith, one-end .0, numbers-short b c d q r t 3, v .next), v .size ∙ u .size)
+-- ---- at a buffer's front
 
-    module _ {s₃ : List ℕ} {k : ℕ} (e : ℕ) (y : e ≤ 18446744073709551615) (w : Wrote s₂ s₃ j k (0x20 ∷ decimal e)) where
-      pub five-end : (k ≤ at + 104) × (length s₃ ≡ length s₀)
-      five-end = (omega (arith, four-end .0, decimal-twenty e y, w .next), w .size ∙ four-end .1)
-
-      module _ {s₄ : List ℕ} {l : ℕ} (f : ℕ) (z : f ≤ 18446744073709551615) (x : Wrote s₃ s₄ k l (0x20 ∷ decimal f)) where
-        pub six-end : (l ≤ at + 125) × (length s₄ ≡ length s₀)
-        six-end = (omega (arith, five-end .0, decimal-twenty f z, x .next), x .size ∙ five-end .1)
-
--- six numbers, written as one, three, one and one
-module _ {s₁ s₂ s₃ s₄ : List ℕ} {i j k l : ℕ} (b c d e f : ℕ) (v : Wrote s₁ s₂ i j (spaced (b ∷ c ∷ d ∷ [])))
-    (w : Wrote s₂ s₃ j k (0x20 ∷ decimal e))
-    (x : Wrote s₃ s₄ k l (0x20 ∷ decimal f)) where
-  five-wrote : Wrote s₁ s₄ i l (spaced (b ∷ c ∷ d ∷ e ∷ f ∷ []))
-  five-wrote =
-      let last = number-more f [] x (no-number (omega (arith, x .high, x .size))) in
-      rw (spaced-append (b ∷ c ∷ d ∷ []) (e ∷ f ∷ [])) at (then v (number-more e (f ∷ []) w last))
-
-  pub entry-wrote : (a : ℕ) {s₀ s₅ : List ℕ} {at r : ℕ} → Wrote s₀ s₁ at i (decimal a) → Wrote s₄ s₅ l r (0x0a ∷ [])
-      → Wrote s₀ s₅ at r (line (decimal a) (b ∷ c ∷ d ∷ e ∷ f ∷ []))
-  entry-wrote a u y = line-wrote (b ∷ c ∷ d ∷ e ∷ f ∷ []) u five-wrote y
-
--- ---- a failure
-
--- there is room for the line's end
-pub error-room : {d d₁ d₂ d₃ : List ℕ} {i j k : ℕ} {head word : List ℕ} (ns : List ℕ) → Wrote d d₁ 0 i head → Wrote d₁ d₂ i j word
-    → Wrote d₂ d₃ j k (spaced ns) → length head ≡ 6 → length word ≤ 64 → length (spaced ns) ≤ 63 → 144 ≤ length d → k + 1 ≤ length d₃
-error-room ns x y z f g h e = omega (arith, x .next, x .size, y .next, y .size, z .next, z .size)
-
--- the bytes at a buffer's front are counted
+-- the bytes there are counted
 pub front-counts : {d d′ : List ℕ} {n : ℕ} {w : List ℕ} → Wrote d d′ 0 n w → Counts n d′
 front-counts {d} {d′} {n} w = counts n d′ (omega (arith, w .high, w .size))
 

@@ -15,6 +15,7 @@ use replies::Reply;
 fn put_decimal(out: &mut [u8], at: usize, n: u64) -> usize
     requires { ⌜ at + 20 ≤ length (now out) ⌝ }
     ensures { λ r. ⌜ Wrote (now (out .entry)) (now (out .exit)) at r (decimal n) ⌝ }
+    ensures { λ r. ⌜ r ≤ at + 20 ⌝ }
 {
     let mut text = [0u8; 20];
     let k = io::decimal(n, &mut text);
@@ -25,6 +26,7 @@ fn put_decimal(out: &mut [u8], at: usize, n: u64) -> usize
 fn put_number(out: &mut [u8], at: usize, n: u64) -> usize
     requires { ⌜ at + 21 ≤ length (now out) ⌝ }
     ensures { λ r. ⌜ Wrote (now (out .entry)) (now (out .exit)) at r (0x20 ∷ decimal n) ⌝ }
+    ensures { λ r. ⌜ r ≤ at + 21 ⌝ }
 {
     let next = buffers::put_byte(out, at, 0x20);
     put_decimal(out, next, n)
@@ -34,6 +36,7 @@ fn put_number(out: &mut [u8], at: usize, n: u64) -> usize
 fn put_numbers(out: &mut [u8], at: usize, count: usize, a: u64, b: u64, c: u64) -> usize
     requires { ⌜ at + 63 ≤ length (now out) ⌝ }
     ensures { λ r. ⌜ Wrote (now (out .entry)) (now (out .exit)) at r (spaced (take count (a ∷ b ∷ c ∷ []))) ⌝ }
+    ensures { λ r. ⌜ r ≤ at + 63 ⌝ }
 {
     if count < 1 {
         return at;
@@ -83,17 +86,26 @@ fn put_error(out: &mut [u8; 144], word: &[u8], count: usize, k: u64) -> usize
     buffers::put_byte(out, end, 0x0A)
 }
 
-// The line of a record in the index: six numbers with single spaces, and 0Ah.
-pub fn put_entry(out: &mut [u8], at: usize, a: u64, b: u64, c: u64, d: u64, e: u64, f: u64) -> usize
-    requires { ⌜ at + 126 ≤ length (now out) ⌝ }
-    ensures { λ r. ⌜ Wrote (now (out .entry)) (now (out .exit)) at r (line (decimal a) (b ∷ c ∷ d ∷ e ∷ f ∷ [])) ⌝ }
-    ensures { λ r. ⌜ r ≤ at + 126 ⌝ }
+// The line of a record in the index: seven numbers with single spaces, and 0Ah.
+pub fn put_entry(
+    out: &mut [u8],
+    at: usize,
+    a: u64,
+    b: u64,
+    c: u64,
+    d: u64,
+    e: u64,
+    f: u64,
+    g: u64,
+) -> usize
+    requires { ⌜ at + 147 ≤ length (now out) ⌝ }
+    ensures { λ r. ⌜ Wrote (now (out .entry)) (now (out .exit)) at r (line (decimal a) (b ∷ c ∷ d ∷ e ∷ f ∷ g ∷ [])) ⌝ }
+    ensures { λ r. ⌜ r ≤ at + 147 ⌝ }
 {
     let first = put_decimal(out, at, a);
     let fourth = put_numbers(out, first, 3, b, c, d);
-    let fifth = put_number(out, fourth, e);
-    let sixth = put_number(out, fifth, f);
-    buffers::put_byte(out, sixth, 0x0A)
+    let seventh = put_numbers(out, fourth, 3, e, f, g);
+    buffers::put_byte(out, seventh, 0x0A)
 }
 
 // Tells a failure on standard error, in one write. Where that fails, nothing is left to tell it by.

@@ -4,15 +4,15 @@ use Prim.Native.Nat.{ℕ, suc, _+_, _/_, _%_, _≤_, _<_}
 use native.Mathlib.Nat.{add-zero, add-suc, suc-add, zero-add}
 use native.Mathlib.Numerals.{add-one}
 use native.Mathlib.Omega.{arith}
-use mathlib.Core.Path.{_≡_, refl, sym, ap, _∙_}
-use mathlib.Core.List.{List, [], _∷_, _++_}
+use mathlib.Core.Path.{_≡_, refl, sym, ap, ap₂, _∙_}
+use mathlib.Core.List.{List, [], _∷_, _++_, append-assoc}
 use borrow.Author.Tests.{le-leb, lt-leb}
 use lib.ListN.{length, getD, take, drop, set, length-append, length-set, drop-of-length-le}
-use lib.Seq.{sets, sets-eq, take-at}
+use lib.Seq.{sets, sets-eq, length-sets, length-take-le, take-append-le, take-take, take-at, drop-at}
 use Rattle.lists.proofs.Cuts.{drop-step}
 use Rattle.digits.specs.Digits.{spell}
 use Rattle.buffers.specs.Buffers.{Room, Wrote}
-use Rattle.buffers.specs.Entries.{six}
+use Rattle.buffers.specs.Entries.{sevenNumbers}
 
 -- one run after another is one run
 pub sets-append : (v d : List ℕ) (at : ℕ) (w : List ℕ) → sets d at (v ++ w) ≡ sets (sets d at v) (at + length v) w
@@ -39,6 +39,29 @@ carry {d} {d₁} {at} {r} {v} w x h = (rw (x .list, x .next) (sym (sets-append v
 -- what was written from the start, read back
 pub front : {d d′ : List ℕ} {r : ℕ} {w : List ℕ} → Wrote d d′ 0 r w → length w ≤ length d → take r d′ ≡ w
 front {d} {d′} {r} {w} x h = (rw (x .list, sets-all w d h) (take-at w (drop (length w) d) r (omega (arith, x .next))))
+
+-- what was written behind a front, read back with it
+pub front-more : {d d′ : List ℕ} {at r : ℕ} {w : List ℕ} → Wrote d d′ at r w → take r d′ ≡ take at d ++ w
+front-more {d} {d′} {at} {r} {w} x =
+    let n : length (take at d ++ w) ≡ r = length-append (take at d) w ∙ omega (arith, length-take-le at d (omega (arith, x .next, x .high)), x .next) in
+    rw (x .list, sets-eq w d at (omega (arith, x .next, x .high))) (take-at (take at d ++ w) (drop (at + length w) d) r n)
+
+-- the later of two runs may be written first
+pub sets-behind : (v w d : List ℕ) (at : ℕ) → at + length v + length w ≤ length d → sets (sets d (at + length v) w) at v ≡ sets d at (v ++ w)
+sets-behind v w d at h =
+    let b = at + length v in
+    let rest = drop (b + length w) d in
+    let one : sets d b w ≡ take b d ++ (w ++ rest) = sets-eq w d b h ∙ append-assoc (take b d) w rest in
+    let front : take at (sets d b w) ≡ take at d =
+    ap (take at) one ∙ take-append-le at (take b d) (w ++ rest) (omega (arith, length-take-le b d (omega arith))) ∙ take-take at b d (omega arith) in
+    let back : drop b (sets d b w) ≡ w ++ rest = ap (drop b) one ∙ drop-at (take b d) (w ++ rest) b (length-take-le b d (omega arith)) in
+    let n : at + length (v ++ w) ≡ b + length w = rw length-append (omega arith) in
+    sets-eq v (sets d b w) at (omega (arith, length-sets d b w))
+    ∙ ap₂ (λ (x y : List ℕ). x ++ v ++ y) front back
+    ∙ append-assoc (take at d) v (w ++ rest)
+    ∙ ap (λ (x : List ℕ). take at d ++ x) (sym (append-assoc v w rest))
+    ∙ sym (sets-eq (v ++ w) d at (omega (arith, n)) ∙ append-assoc (take at d) (v ++ w) (drop (at + length (v ++ w)) d)
+    ∙ ap (λ (k : ℕ). take at d ++ (v ++ w ++ drop k d)) n)
 
 -- ---- the copy of a list: what is left of it gives the whole run
 
@@ -127,6 +150,6 @@ module _ (d : List ℕ) (at v : ℕ) (r : Room d at (spell v)) where
 
 pub ruleset number-laws = (room-1, wrote-1, room-2-first, room-2-last, wrote-2, room-3-first, room-3-second, room-3-last, wrote-3)
 
-pub six-length : (a b c d e f : ℕ) → length (six a b c d e f) ≡ 6
-unfolding six
-six-length a b c d e f = refl
+pub seven-length : (a b c d e f g : ℕ) → length (sevenNumbers a b c d e f g) ≡ 7
+unfolding sevenNumbers
+seven-length a b c d e f g = refl

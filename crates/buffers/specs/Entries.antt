@@ -3,6 +3,6 @@
 use Prim.Native.Nat.{ℕ}
 use mathlib.Core.List.{List, [], _∷_}
 
--- six numbers, as an entry of an index has them
-unfoldable pub six : ℕ → ℕ → ℕ → ℕ → ℕ → ℕ → List ℕ
-six a b c d e f = a ∷ b ∷ c ∷ d ∷ e ∷ f ∷ []
+-- seven numbers, as an entry of an index has them
+unfoldable pub sevenNumbers : ℕ → ℕ → ℕ → ℕ → ℕ → ℕ → ℕ → List ℕ
+sevenNumbers a b c d e f g = a ∷ b ∷ c ∷ d ∷ e ∷ f ∷ g ∷ []

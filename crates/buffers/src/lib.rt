@@ -5,7 +5,7 @@ ghost use mathlib.Core.List.{[], _∷_};
 ghost use Prim.Native.Nat.{_<_};
 ghost use Rattle.digits.specs.Digits.{spell};
 ghost use Rattle.buffers.specs.Buffers.{Room, Wrote};
-ghost use Rattle.buffers.specs.Entries.{six};
+ghost use Rattle.buffers.specs.Entries.{sevenNumbers};
 
 // One byte.
 pub fn put_byte(out: &mut [u8], at: usize, b: u8) -> usize
@@ -52,10 +52,35 @@ pub fn put_number(out: &mut [u8], at: usize, v: u32) -> usize
     at + 3
 }
 
-// Six numbers.
-pub fn put_six(out: &mut [u32], at: usize, a: u32, b: u32, c: u32, d: u32, e: u32, f: u32) -> usize
-    requires { ⌜ Room (now out) at (six a b c d e f) ⌝ }
-    ensures { λ r. ⌜ Wrote (now (out .entry)) (now (out .exit)) at r (six a b c d e f) ⌝ }
+// All numbers of w.
+pub fn copy_numbers(out: &mut [u32], at: usize, w: &[u32]) -> usize
+    requires { ⌜ Room (now out) at (now w) ⌝ }
+    ensures { λ r. ⌜ Wrote (now (out .entry)) (now (out .exit)) at r (now (w .entry)) ⌝ }
+{
+    let mut i = 0;
+    let mut o = at;
+    while i < w.len() {
+        out[o] = w[i];
+        o += 1;
+        i += 1;
+    }
+    o
+}
+
+// Seven numbers.
+pub fn put_seven(
+    out: &mut [u32],
+    at: usize,
+    a: u32,
+    b: u32,
+    c: u32,
+    d: u32,
+    e: u32,
+    f: u32,
+    g: u32,
+) -> usize
+    requires { ⌜ Room (now out) at (sevenNumbers a b c d e f g) ⌝ }
+    ensures { λ r. ⌜ Wrote (now (out .entry)) (now (out .exit)) at r (sevenNumbers a b c d e f g) ⌝ }
 {
     out[at] = a;
     out[at + 1] = b;
@@ -63,5 +88,6 @@ pub fn put_six(out: &mut [u32], at: usize, a: u32, b: u32, c: u32, d: u32, e: u3
     out[at + 3] = d;
     out[at + 4] = e;
     out[at + 5] = f;
-    at + 6
+    out[at + 6] = g;
+    at + 7
 }

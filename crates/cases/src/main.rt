@@ -180,10 +180,15 @@ fn index(input: &[u8], out: &mut [u32]) {
     write_numbers(out);
 }
 
+// Room for the index of a file with the most records, 8,192. A function of its own, as `bytes` is, for the same reason.
+fn numbers() -> [u32; 57344] {
+    [0u32; 57344]
+}
+
 fn lend_numbers(input: &[u8], room: usize) {
     let start = 0;
-    let mut space = [0u32; 12000];
-    if room <= 12000 {
+    let mut space = numbers();
+    if room <= space.len() {
         index(input, &mut space[start..room]);
     }
 }

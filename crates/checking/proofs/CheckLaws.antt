@@ -32,7 +32,7 @@ use Rattle.replies.specs.Results.{answerIn}
 use Rattle.notebook.specs.Notebook.{stepLine, prepend, closed, onward, recordsFrom, notebookOf}
 use Rattle.notebook.specs.Check.{count, checkResult}
 use Rattle.notebook.proofs.Answered.{answered}
-use Rattle.checking.specs.Walking.{tally, Closing}
+use Rattle.checking.specs.Walking.{tally, Midway, Closing}
 use Rattle.checking.proofs.LineFacts.{whole-line, records-end, records-mark, records-broken, records-on}
 use Rattle.checking.specs.declared.Turn.{Turn}
 use Rattle.checking.specs.declared.Turn.the-variants.{Over, Refused as TurnRefused, On as TurnOn}
@@ -72,47 +72,52 @@ tally-on st rec (ok rs) h =
 
 -- ---- the loop
 
-pub record Reading (provider : Bool) (s : List ℕ) (from : ℕ) (st : State) (at : ℕ) : Type 0 where
-  pub left : tally (start provider) (recordsFrom (start provider) (rows (drop from s))) ≡ tally st (recordsFrom st (rows (drop at s)))
-  pub room : Room st
-  pub low : 1 ≤ st .line
-  pub line : st .line ≤ at
-  pub high : at ≤ length s
-  pub small : length s ≤ 65536
+-- from a state at a position on
+pub record Reading (st₀ : State) (s : List ℕ) (from : ℕ) (st : State) (at : ℕ) : Type 0 where
+  pub left : tally st₀ (recordsFrom st₀ (rows (drop from s))) ≡ tally st (recordsFrom st (rows (drop at s)))
+  pub midway : Midway s st at
 
-pub reading-start : (provider : Bool) (s : List ℕ) (from : ℕ) {st : State} → Behind s from → st ≡ start provider → Reading provider s from st from
+pub midway-start : (provider : Bool) (s : List ℕ) (from : ℕ) → Behind s from → Midway s (start provider) from
+midway-start provider s from b = record {
+  room = room-start provider;
+  low = omega (arith, line-start provider);
+  line = omega (arith, line-start provider, b .low);
+  high = b .high;
+  small = b .small;
+}
+
+pub reading-again : (s : List ℕ) (st : State) (at : ℕ) → Midway s st at → Reading st s at st at
+reading-again s st at m = record { left = refl; midway = m }
+
+pub reading-start : (provider : Bool) (s : List ℕ) (from : ℕ) {st : State} → Behind s from → st ≡ start provider → Reading (start provider) s from st from
 reading-start provider s from b e =
-    subst (λ (x : State). Reading provider s from x from) (sym e) (record {
-      left = refl;
-      room = room-start provider;
-      low = omega (arith, line-start provider);
-      line = omega (arith, line-start provider, b .low);
-      high = b .high;
-      small = b .small;
-    })
+    subst (λ (x : State). Reading (start provider) s from x from) (sym e) (reading-again s (start provider) from (midway-start provider s from b))
 
-module _ {provider : Bool} {s : List ℕ} {from : ℕ} {st : State} {at : ℕ} (v : Reading provider s from st at) where
+module _ {st₀ : State} {s : List ℕ} {from : ℕ} {st : State} {at : ℕ} (v : Reading st₀ s from st at) where
+  here : Midway s st at
+  here = v .midway
+
   pub reading-closing : Closing st
-  reading-closing = record { low = v .low; small = omega (arith, v .line, v .high, v .small) }
+  reading-closing = record { low = here .low; small = omega (arith, here .line, here .high, here .small) }
 
   pub reading-fits : Fits w32 (st .line + 1)
-  reading-fits = omega (arith, v .line, v .high, v .small)
+  reading-fits = omega (arith, here .line, here .high, here .small)
 
   pub reading-room : Room st
-  reading-room = v .room
+  reading-room = here .room
 
   -- the answer, if what is left answers it
-  answer : {r : Answer} → r ≡ tally st (recordsFrom st (rows (drop at s))) → r ≡ tally (start provider) (recordsFrom (start provider) (rows (drop from s)))
+  answer : {r : Answer} → r ≡ tally st (recordsFrom st (rows (drop at s))) → r ≡ tally st₀ (recordsFrom st₀ (rows (drop from s)))
   answer e = e ∙ sym (v .left)
 
   module _ {stops : List ℕ} {k : Line} (w : LineOf s at stops k) where
-    reading-end : {r : Answer} → k ≡ End → r ≡ tally st (closed st) → r ≡ tally (start provider) (recordsFrom (start provider) (rows (drop from s)))
+    reading-end : {r : Answer} → k ≡ End → r ≡ tally st (closed st) → r ≡ tally st₀ (recordsFrom st₀ (rows (drop from s)))
     reading-end e q = answer (q ∙ sym (ap (tally st) (records-end w st e)))
 
-    reading-mark : {r : Answer} → k ≡ Mark → r ≡ tally st (closed st) → r ≡ tally (start provider) (recordsFrom (start provider) (rows (drop from s)))
+    reading-mark : {r : Answer} → k ≡ Mark → r ≡ tally st (closed st) → r ≡ tally st₀ (recordsFrom st₀ (rows (drop from s)))
     reading-mark e q = answer (q ∙ sym (ap (tally st) (records-mark w st e)))
 
-    reading-broken : k ≡ Broken → Refused 2 (st .line + 1) ≡ tally (start provider) (recordsFrom (start provider) (rows (drop from s)))
+    reading-broken : k ≡ Broken → Refused 2 (st .line + 1) ≡ tally st₀ (recordsFrom st₀ (rows (drop from s)))
     reading-broken e = answer (sym (ap (tally st) (records-broken w st e)))
 
     module _ {e : ℕ} {good : Bool} {n : ℕ} (q : k ≡ Whole e good n) where
@@ -120,44 +125,46 @@ module _ {provider : Bool} {s : List ℕ} {from : ℕ} {st : State} {at : ℕ} (
       next = onward (st .line + 1) (recordOf (part s at e)) (λ t. recordsFrom t (rows (drop (e + 2) s)))
 
       module _ {m : Moved} (o : m ≡ stepLine st (take (e - at) (drop at s))) where
-        reading-refused : {j : ℕ} → m ≡ StepRefused j → Refused j (st .line + 1) ≡ tally (start provider) (recordsFrom (start provider) (rows (drop from s)))
+        reading-refused : {j : ℕ} → m ≡ StepRefused j → Refused j (st .line + 1) ≡ tally st₀ (recordsFrom st₀ (rows (drop from s)))
         unfolding onward next
         reading-refused u = sym (v .left ∙ ap (tally st) (records-on w q st ∙ ap next (sym o ∙ u)))
 
-        reading-on : {t : State} {rp d : ℕ} → m ≡ On t rp d → Reading provider s from t (e + 2)
+        reading-on : {t : State} {rp d : ℕ} → m ≡ On t rp d → Reading st₀ s from t (e + 2)
         unfolding onward next
         reading-on {t} {rp} {d} u =
             let p : Placed st (part s at e) t rp d = placed st (part s at e) t rp d (sym o ∙ u) in
             let l : t .line ≡ st .line + 1 = next-line st (factsOf (recordOf (part s at e))) t rp d (p .step) in
             record {
               left = v .left ∙ ap (tally st) (records-on w q st ∙ ap next (sym o ∙ u))
-                  ∙ tally-on st (recordOf (part s at e)) (recordsFrom t (rows (drop (e + 2) s))) (v .low)
+                  ∙ tally-on st (recordOf (part s at e)) (recordsFrom t (rows (drop (e + 2) s))) (here .low)
                   ∙ ap (λ (x : State). tally x (recordsFrom t (rows (drop (e + 2) s)))) (sym (p .state));
-              room = room st (factsOf (recordOf (part s at e))) t rp d (p .step) (v .room) (omega (arith, l, v .line, v .high, v .small));
-              low = omega (arith, l);
-              line = omega (arith, l, v .line, whole-line w q .low);
-              high = whole-line w q .high;
-              small = v .small;
+              midway = record {
+                room = room st (factsOf (recordOf (part s at e))) t rp d (p .step) (here .room) (omega (arith, l, here .line, here .high, here .small));
+                low = omega (arith, l);
+                line = omega (arith, l, here .line, whole-line w q .low);
+                high = whole-line w q .high;
+                small = here .small;
+              };
             }
 
   -- by a turn
   module _ {stops : List ℕ} {k : Turn} (w : TurnOf st s at stops k) where
-    pub reading-over : {r : Answer} → k ≡ Over → r ≡ tally st (closed st) → r ≡ tally (start provider) (recordsFrom (start provider) (rows (drop from s)))
+    pub reading-over : {r : Answer} → k ≡ Over → r ≡ tally st (closed st) → r ≡ tally st₀ (recordsFrom st₀ (rows (drop from s)))
     reading-over q p = ⊎-elim (λ l. reading-end l refl p) (λ l. reading-mark l refl p) (turn-over w q)
 
-    pub reading-stopped : {n : ℕ} → k ≡ TurnRefused n → Refused n (st .line + 1) ≡ tally (start provider) (recordsFrom (start provider) (rows (drop from s)))
+    pub reading-stopped : {n : ℕ} → k ≡ TurnRefused n → Refused n (st .line + 1) ≡ tally st₀ (recordsFrom st₀ (rows (drop from s)))
     reading-stopped {n} q = go (turn-refused w q)
       where
-        go : RefusedAt st s at stops n → Refused n (st .line + 1) ≡ tally (start provider) (recordsFrom (start provider) (rows (drop from s)))
+        go : RefusedAt st s at stops n → Refused n (st .line + 1) ≡ tally st₀ (recordsFrom st₀ (rows (drop from s)))
         go (broken l e) = ap (λ (j : ℕ). Refused j (st .line + 1)) e ∙ reading-broken l refl
         go (faulty e m x) = reading-refused (x .line) refl (x .step) refl
 
     module _ {t : State} {rp d e n : ℕ} (q : k ≡ TurnOn t rp d e n) where
-      pub reading-next : Reading provider s from t (e + 2)
+      pub reading-next : Reading st₀ s from t (e + 2)
       reading-next = let x = turn-step w q in reading-on (x .line) refl (x .step) refl
 
       pub reading-within : Fits w64 (e + 2)
-      reading-within = turn-fits w q (v .small)
+      reading-within = turn-fits w q (here .small)
 
 pub ruleset reading-laws = (turn-facts, reading-start, reading-closing, reading-fits, reading-room, reading-over, reading-stopped, reading-next, reading-within)
 

@@ -48,7 +48,7 @@ pub fn open_file(s: &[u8]) -> Opening
 }
 
 // The end of a file: what is missing there, or the counts.
-fn close(st: order::State) -> Answer
+pub fn close(st: order::State) -> Answer
     requires { ⌜ Closing st ⌝ }
     ensures { λ r. ⌜ r ≡ tally st (closedOf st) ⌝ }
 {

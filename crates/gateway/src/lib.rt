@@ -18,7 +18,7 @@ pub extern "C" fn notebook_check(file: &[u8]) -> replies::Reply
     replies::reply_of(checking::check(file))
 }
 
-// Writes six numbers for each record from the front of the buffer on and keeps what lies after them: a records; or the one refusal
+// Writes seven numbers for each record from the front of the buffer on and keeps what lies after them: a records; or the one refusal
 // with its line, and the whole buffer as it was.
 #[no_mangle]
 pub extern "C" fn notebook_index(file: &[u8], out: &mut [u32]) -> replies::Reply
@@ -64,7 +64,7 @@ pub extern "C" fn notebook_join(pieces: &[u8], out: &mut [u8]) -> replies::Reply
 }
 
 // The file VERSION as one number (tests/version.py).
-const VERSION: u64 = 300;
+const VERSION: u64 = 400;
 
 // The version of this library: 10,000 times the major, 100 times the minor, and the patch.
 #[no_mangle]

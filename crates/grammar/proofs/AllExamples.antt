@@ -5,7 +5,7 @@ use mathlib.Core.List.{map}
 use Rattle.order.specs.declared.Facts.{Facts}
 use Rattle.grammar.specs.Grammar.{Tree, records, allOf, good}
 use Rattle.grammar.specs.TreeRows.{TreeRow, treeRows}
-use Rattle.grammar.specs.Examples.{dispensed, pharmacy, twoDoctors, cases, twoDoctorsRecords, everyRecord, theirNumbers, twoGroups, theirDoctors}
+use Rattle.grammar.specs.Examples.{dispensed, pharmacy, twoDoctors, cases, twoDoctorsRecords, everyRecord, theirNumbers, twoGroups, theirDoctors, theirClinics, everyClinic}
 
 abbrev pub holds : Bool × (Tree × Bool) → Bool
 holds c = Bool·beq (good (c .0) (c .1 .0)) (c .1 .1)
@@ -21,3 +21,6 @@ numbers-hold = refl
 
 pub doctors-hold : map (λ (r : TreeRow). r .doctor) (treeRows twoGroups) ≡ theirDoctors
 doctors-hold = refl
+
+pub clinics-hold : (map (λ (r : TreeRow). r .clinic) (treeRows twoGroups) ≡ theirClinics) × (map (λ (r : TreeRow). r .clinic) (treeRows everyRecord) ≡ everyClinic)
+clinics-hold = (refl, refl)

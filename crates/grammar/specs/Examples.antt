@@ -194,3 +194,13 @@ twoGroups = told (pharmacy twoDoctors ∷ hospital noDoctors ∷ [])
 -- the next group" would put 9 at the last four.
 abbrev pub theirDoctors : List ℕ
 theirDoctors = 0 ∷ 0 ∷ 0 ∷ 0 ∷ 0 ∷ 6 ∷ 6 ∷ 0 ∷ 9 ∷ 9 ∷ 0 ∷ 0 ∷ 0 ∷ 0 ∷ 0 ∷ 0 ∷ []
+
+-- The clinic of each: the 51 stands at line 5. A clinic that reached into the next group would be at the last six, too.
+abbrev pub theirClinics : List ℕ
+theirClinics = 0 ∷ 0 ∷ 0 ∷ 5 ∷ 5 ∷ 5 ∷ 5 ∷ 5 ∷ 5 ∷ 5 ∷ 0 ∷ 0 ∷ 0 ∷ 0 ∷ 0 ∷ 0 ∷ []
+
+-- of every record: the 51 stands at line 12, after 1, 2s, 3s, 4s, 5, 11 and 15; 701s have none
+abbrev pub everyClinic : List ℕ
+everyClinic =
+    0 ∷ 0 ∷ 0 ∷ 0 ∷ 0 ∷ 0 ∷ 0 ∷ 0 ∷ 0 ∷ 0 ∷ 12 ∷ 12 ∷ 12 ∷ 12 ∷ 12 ∷ 12 ∷ 12 ∷ 12 ∷ 12 ∷ 12 ∷ 12 ∷ 12 ∷ 12 ∷ 12 ∷ 12 ∷ 12 ∷ 12
+    ∷ 12 ∷ 12 ∷ 12 ∷ 12 ∷ 0 ∷ 0 ∷ []

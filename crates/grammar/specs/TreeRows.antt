@@ -1,6 +1,6 @@
 -- A second statement, proved equal.
--- Document 01, "Index", read off the tree: the group of each record, the line of the 55 under which the tree puts its RP, the line of the 201 to
--- whose drug a 281 or 291 belongs. No record before is looked for.
+-- Document 01, "Index", and document 02, (v), read off the tree: the group of each record, the line of the 55 under which the tree puts its RP, the line of
+-- the 201 to whose drug a 281 or 291 belongs, the line of the 51 that its group has before it. No record before is looked for.
 use Prim.Native.Nat.{ℕ, _+_}
 use mathlib.Core.Option.{Option, none, some}
 use mathlib.Core.List.{List, [], _∷_}
@@ -12,9 +12,18 @@ pub record TreeRow : Type 0 where
   pub group : ℕ
   pub doctor : ℕ
   pub drug : ℕ
+  pub clinic : ℕ
 
-abbrev pub treeRow : ℕ → ℕ → ℕ → ℕ → TreeRow
-treeRow n g c d = record { number = n; group = g; doctor = c; drug = d }
+-- a group, and the line of its 51, or 0 before it
+pub record Visit : Type 0 where
+  pub group : ℕ
+  pub clinic : ℕ
+
+abbrev pub visit : ℕ → ℕ → Visit
+visit g k = record { group = g; clinic = k }
+
+abbrev pub treeRow : ℕ → Visit → ℕ → ℕ → TreeRow
+treeRow n g c d = record { number = n; group = g .group; doctor = c; drug = d; clinic = g .clinic }
 
 -- ---- the rows of each part, in front of those after it; l is the line of the record before, and k gives the rows after by the line reached
 
@@ -27,59 +36,69 @@ anyRows w l [] k = k l
 anyRows w l (d ∷ ds) k = w ∷ anyRows w (l + 1) ds k
 
 -- in group g, under the doctor of line c: a 281 or 291 has the line of its drug's 201
-abbrev pub drugRows : ℕ → ℕ → ℕ → Drug → (ℕ → List TreeRow) → List TreeRow
+abbrev pub drugRows : Visit → ℕ → ℕ → Drug → (ℕ → List TreeRow) → List TreeRow
 drugRows g c l d k = treeRow 201 g c 0 ∷ anyRows (treeRow 281 g c (l + 1)) (l + 1) (d .r281s) (λ m. anyRows (treeRow 291 g c (l + 1)) m (d .r291s) k)
 
-abbrev pub drugsRows : ℕ → ℕ → ℕ → List Drug → (ℕ → List TreeRow) → List TreeRow
+abbrev pub drugsRows : Visit → ℕ → ℕ → List Drug → (ℕ → List TreeRow) → List TreeRow
 drugsRows g c l [] k = k l
 drugsRows g c l (d ∷ ds) k = drugRows g c l d (λ m. drugsRows g c m ds k)
 
-abbrev pub usageRows : ℕ → ℕ → ℕ → Option Usage → (ℕ → List TreeRow) → List TreeRow
+abbrev pub usageRows : Visit → ℕ → ℕ → Option Usage → (ℕ → List TreeRow) → List TreeRow
 usageRows g c l none k = k l
 usageRows g c l (some u) k = treeRow 301 g c 0 ∷ anyRows (treeRow 311 g c 0) (l + 1) (u .r311s) k
 
-abbrev pub rpRows : ℕ → ℕ → ℕ → Prescription → (ℕ → List TreeRow) → List TreeRow
+abbrev pub rpRows : Visit → ℕ → ℕ → Prescription → (ℕ → List TreeRow) → List TreeRow
 rpRows g c l p k = drugRows g c l (p .drug) (λ l. drugsRows g c l (p .drugs) (λ l. usageRows g c l (p .usage) (λ l. anyRows (treeRow 391 g c 0) l (p .r391s) k)))
 
 -- without doctors
-abbrev pub plainRows : ℕ → ℕ → List Prescription → (ℕ → List TreeRow) → List TreeRow
+abbrev pub plainRows : Visit → ℕ → List Prescription → (ℕ → List TreeRow) → List TreeRow
 plainRows g l [] k = k l
 plainRows g l (p ∷ ps) k = rpRows g 0 l p (λ m. plainRows g m ps k)
 
 -- a later RP is under its own 55, or else under the doctor before (15-106 3.2.9, record 55: the RPs up to the next 55); k also by the doctor
-abbrev pub underRows : ℕ → ℕ → ℕ → Option Details → Prescription → (ℕ → ℕ → List TreeRow) → List TreeRow
+abbrev pub underRows : Visit → ℕ → ℕ → Option Details → Prescription → (ℕ → ℕ → List TreeRow) → List TreeRow
 underRows g c l none p k = rpRows g c l p (k c)
 underRows g c l (some d) p k = treeRow 55 g 0 0 ∷ rpRows g (l + 1) (l + 1) p (k (l + 1))
 
-abbrev pub laterRows : ℕ → ℕ → ℕ → List Later → (ℕ → List TreeRow) → List TreeRow
+abbrev pub laterRows : Visit → ℕ → ℕ → List Later → (ℕ → List TreeRow) → List TreeRow
 laterRows g c l [] k = k l
 laterRows g c l (y ∷ ys) k = underRows g c l (y .r55) (y .prescription) (λ c′ m. laterRows g c′ m ys k)
 
-abbrev pub prescriptionsRows : ℕ → ℕ → Prescriptions → (ℕ → List TreeRow) → List TreeRow
+abbrev pub prescriptionsRows : Visit → ℕ → Prescriptions → (ℕ → List TreeRow) → List TreeRow
 prescriptionsRows g l (withoutDoctors ps) k = plainRows g l ps k
 prescriptionsRows g l (withDoctors d p ls) k = treeRow 55 g 0 0 ∷ rpRows g (l + 1) (l + 1) p (λ m. laterRows g (l + 1) m ls k)
 
 -- in group g, under no doctor
-abbrev pub bare : ℕ → ℕ → TreeRow
+abbrev pub bare : Visit → ℕ → TreeRow
 bare g n = treeRow n g 0 0
 
-abbrev pub restRows : ℕ → ℕ → Group → (ℕ → List TreeRow) → List TreeRow
+abbrev pub restRows : Visit → ℕ → Group → (ℕ → List TreeRow) → List TreeRow
 restRows g l x k =
     anyRows (bare g 401) l (x .r401s) (λ l. anyRows (bare g 411) l (x .r411s)
     (λ l. anyRows (bare g 501) l (x .r501s) (λ l. anyRows (bare g 601) l (x .r601s) k)))
 
+-- "The record 51 itself shows its own line", and so does all that follows in the group; k also by that line
+abbrev pub clinicRows : ℕ → ℕ → Option Details → (Visit → ℕ → List TreeRow) → List TreeRow
+clinicRows g l none k = k (visit g 0) l
+clinicRows g l (some d) k = bare (visit g (l + 1)) 51 ∷ k (visit g (l + 1)) (l + 1)
+
 abbrev pub groupRows : ℕ → ℕ → Group → (ℕ → List TreeRow) → List TreeRow
 groupRows g l x k =
-    bare g 5 ∷ optRows (bare g 11) (l + 1) (x .r11) (λ l. optRows (bare g 15) l (x .r15) (λ l. optRows (bare g 51) l (x .r51)
-    (λ l. prescriptionsRows g l (x .prescriptions) (λ l. restRows g l x k))))
+    bare (visit g 0) 5 ∷ optRows (bare (visit g 0) 11) (l + 1) (x .r11) (λ l. optRows (bare (visit g 0) 15) l (x .r15) (λ l. clinicRows g l (x .r51)
+    (λ v l. prescriptionsRows v l (x .prescriptions) (λ l. restRows v l x k))))
 
 -- after g groups
 abbrev pub groupsRows : ℕ → ℕ → List Group → (ℕ → List TreeRow) → List TreeRow
 groupsRows g l [] k = k l
 groupsRows g l (x ∷ xs) k = groupRows (g + 1) l x (λ m. groupsRows (g + 1) m xs k)
 
--- after line 1; group 0 is no group
+-- group 0 is no group
+abbrev pub outside : Visit
+outside = visit 0 0
+
+-- after line 1
 abbrev pub treeRows : Tree → List TreeRow
 treeRows t =
-    optRows (bare 0 1) 1 (t .r1) (λ l. anyRows (bare 0 2) l (t .r2s) (λ l. anyRows (bare 0 3) l (t .r3s) (λ l. anyRows (bare 0 4) l (t .r4s)
-    (λ l. groupsRows 0 l (t .groups) (λ l. anyRows (bare 0 701) l (t .r701s) (λ l. []))))))
+    optRows (bare outside 1) 1 (t .r1)
+    (λ l. anyRows (bare outside 2) l (t .r2s) (λ l. anyRows (bare outside 3) l (t .r3s) (λ l. anyRows (bare outside 4) l (t .r4s)
+    (λ l. groupsRows 0 l (t .groups) (λ l. anyRows (bare outside 701) l (t .r701s) (λ l. []))))))

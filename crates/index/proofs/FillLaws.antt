@@ -1,15 +1,14 @@
 -- The walk that writes the entries: what is left from a line on, written after what is written, gives the whole index. One law for
--- each way through the code. Assumes nothing.
-use Prim.Native.Nat.{ℕ, _+_, _-_, _≤_}
+-- each way through the code. What the walk answers is check's to say (checking, proofs/CheckLaws.antt). Assumes nothing.
+use Prim.Native.Nat.{ℕ, _+_, _*_, _-_, _≤_, _<_}
 use native.Mathlib.Omega.{arith}
-use mathlib.Core.Path.{_≡_, refl, sym, ap, _∙_, subst}
-use mathlib.Core.Bool.{Bool}
+use mathlib.Core.Path.{_≡_, refl, sym, ap, _∙_}
+use mathlib.Core.Bool.{Bool, true, false}
 use mathlib.Core.Logic.{⊎-elim}
-use mathlib.Core.List.{List, [], _∷_, _++_}
-use mir.Val.{Fits}
-use mir.Syntax.{w64}
-use lib.ListN.{length, drop, length-append}
-use lib.Seq.{sets}
+use mathlib.Core.List.{List, [], _∷_, _++_, append-assoc, append-nil}
+use borrow.Author.Tests.{eq-eqb, ne-eqb}
+use lib.ListN.{length, take, drop, length-append}
+use lib.Seq.{take-all}
 use Rattle.lists.specs.Searching.{part}
 use Rattle.scanning.specs.declared.Line.the-variants.{Whole, Mark, End, Broken}
 use Rattle.characters.specs.Rows.{rows, isLine, lineEnd}
@@ -17,77 +16,111 @@ use Rattle.characters.specs.Scanning.{WholeLine, BrokenRow}
 use Rattle.scanning.specs.Scans.{LineOf}
 use Rattle.characters.proofs.RowLaws.{line-is, line-text}
 use Rattle.records.specs.Records.{recordOf}
+use Rattle.rules.specs.Places.{inGroup}
 use Rattle.order.specs.declared.State.{State}
 use Rattle.order.specs.declared.Moved.{Moved}
 use Rattle.order.specs.declared.Moved.the-variants.{Fault, On}
-use Rattle.order.specs.State.{start, stepOf, groupOf, drugOf}
-use Rattle.order.specs.Room.{Room as Countable}
-use Rattle.order.proofs.Laws.{next-line, room, room-start, line-start}
+use Rattle.order.specs.State.{groupOf, drugOf}
+use Rattle.order.proofs.Laws.{next-line}
 use Rattle.notebook.specs.Facts.{factsOf}
 use Rattle.buffers.specs.Buffers.{Room, Wrote}
-use Rattle.buffers.specs.Entries.{six}
-use Rattle.buffers.proofs.Runs.{carry}
-use Rattle.notebook.specs.Notebook.{stepLine}
-use Rattle.checking.specs.Opening.{Behind}
+use Rattle.buffers.specs.Entries.{sevenNumbers}
+use Rattle.buffers.proofs.Runs.{front-more, seven-length}
+use Rattle.replies.specs.declared.Answer.{Answer}
+use Rattle.replies.specs.declared.Answer.the-variants.{Refused}
+use Rattle.notebook.specs.Notebook.{stepLine, closed}
+use Rattle.checking.specs.Walking.{tally}
 use Rattle.notebook.proofs.Placing.{Placed, placed, place-number}
 use Rattle.checking.specs.declared.Turn.{Turn}
 use Rattle.checking.specs.declared.Turn.the-variants.{Over, Refused as TurnRefused, On as TurnOn}
 use Rattle.checking.specs.Turns.{StepAt, RefusedAt, broken, faulty, TurnOf}
-use Rattle.checking.proofs.TurnLaws.{turn-facts, turn-over, turn-refused, turn-step, turn-fits}
+use Rattle.checking.proofs.TurnLaws.{turn-over, turn-refused, turn-step}
 use Rattle.checking.proofs.LineFacts.{whole-line, whole-length}
-use Rattle.notebook.specs.Index.{Entry, entryOf, entered, entriesFrom, numbers}
-use Rattle.index.specs.Filling.{Spanned}
+use Rattle.checking.proofs.CheckLaws.{Reading, reading-over, reading-stopped}
+use Rattle.notebook.specs.Index.{Entry, entryOf, entered, entriesFrom, clinicAfter, clinicOf, listedFrom, numbers}
+use Rattle.index.specs.Filling.{Spanned, answerAt, listedAt, BatchOf}
+use Rattle.index.specs.declared.Batch.the-variants.{Full, Last}
+
+-- ---- the clinic
+
+module _ (line before : ℕ) {n : ℕ} where
+  pub clinic-group : n ≡ 5 → 0 ≡ clinicAfter line before n
+  unfolding clinicAfter
+  clinic-group e = rw (eq-eqb n 5 e)
+
+  pub clinic-own : n ≡ 51 → line ≡ clinicAfter line before n
+  unfolding clinicAfter
+  clinic-own e = rw e
+
+  pub clinic-kept : (n ≡ 5 → ⊥) → (n ≡ 51 → ⊥) → before ≡ clinicAfter line before n
+  unfolding clinicAfter
+  clinic-kept p q = rw (ne-eqb n 5 p, ne-eqb n 51 q)
+
+pub ruleset clinic-laws = (clinic-group, clinic-own, clinic-kept)
+
+module _ (number clinic : ℕ) {b : Bool} (e : b ≡ inGroup number) where
+  pub clinic-inside : b ≡ true → clinic ≡ clinicOf number clinic
+  unfolding clinicOf
+  clinic-inside h = rw (sym e ∙ h)
+
+  pub clinic-outside : b ≡ false → 0 ≡ clinicOf number clinic
+  unfolding clinicOf
+  clinic-outside h = rw (sym e ∙ h)
 
 -- ---- one entry
 
--- room for six numbers is room for any six
-pub entry-room : (d : List ℕ) (next a b c x y z a′ b′ c′ x′ y′ z′ : ℕ) → Room d next (six a′ b′ c′ x′ y′ z′) → Room d next (six a b c x y z)
-unfolding six
-entry-room d next a b c x y z a′ b′ c′ x′ y′ z′ r = r
+-- room for seven numbers is room for any seven
+pub entry-room : (d : List ℕ) (next a b c x y z k a′ b′ c′ x′ y′ z′ k′ : ℕ) → Room d next (sevenNumbers a′ b′ c′ x′ y′ z′ k′) → Room d next (sevenNumbers a b c x y z k)
+unfolding sevenNumbers
+entry-room d next a b c x y z k a′ b′ c′ x′ y′ z′ k′ r = r
 
-pub entry-written : (st : State) (a b doctor : ℕ) {group drug : ℕ} → group ≡ groupOf st → drug ≡ drugOf st → {d d′ : List ℕ} {next behind : ℕ}
-    → Wrote d d′ next behind (six (st .place) a b group doctor drug) → Wrote d d′ next behind (six (st .place) a b (groupOf st) doctor (drugOf st))
-entry-written st a b doctor g h w = rw (g, h) at w
+pub entry-written : {d d′ : List ℕ} {next behind : ℕ} (st : State) (a b doctor clinic : ℕ) {group drug shown : ℕ}
+    → group ≡ groupOf st → drug ≡ drugOf st → shown ≡ clinicOf (st .place) clinic
+    → Wrote d d′ next behind (sevenNumbers (st .place) a b group doctor drug shown)
+    → Wrote d d′ next behind (sevenNumbers (st .place) a b (groupOf st) doctor (drugOf st) (clinicOf (st .place) clinic))
+entry-written st a b doctor clinic g h i w = rw (g, h, i) at w
 
 -- ---- the walk
 
--- the numbers of the entries from a line on
-abbrev pub rest : List ℕ → State → ℕ → List ℕ
-rest s st at = numbers (entriesFrom st at (rows (drop at s)))
+-- from a state at a position on, with this clinic
+pub record Filling (st₀ : State) (s : List ℕ) (from clinic₀ : ℕ) (st : State) (at : ℕ) (d : List ℕ) (next clinic : ℕ) : Type 0 where
+  pub left : listedAt s st₀ from clinic₀ ≡ take next d ++ listedAt s st at clinic
+  pub count : next + st₀ .line * 7 ≡ st .line * 7
+  pub size : length d ≡ 448
+  pub few : next ≤ 448
+  pub begun : from ≤ at
+  pub more : 1 ≤ next → from < at
 
-pub record Filling (provider : Bool) (s : List ℕ) (from : ℕ) (d : List ℕ) (st : State) (at : ℕ) (d′ : List ℕ) (next : ℕ) : Type 0 where
-  pub left : sets d′ next (rest s st at) ≡ sets d 0 (rest s (start provider) from)
-  pub count : next + length (rest s st at) ≡ length (rest s (start provider) from)
-  pub hold : length (rest s (start provider) from) ≤ length d
-  pub size : length d′ ≡ length d
-  pub room : Countable st
-  pub line : st .line ≤ at
-  pub high : at ≤ length s
-  pub small : length s ≤ 65536
+pub filling-start : (st₀ : State) (s : List ℕ) (from clinic₀ : ℕ) (d : List ℕ) → length d ≡ 448 → Filling st₀ s from clinic₀ st₀ from d 0 clinic₀
+filling-start st₀ s from clinic₀ d n = record { left = refl; count = omega arith; size = n; few = omega arith; begun = omega arith; more = λ h. absurd (omega arith) }
 
-pub filling-start : (provider : Bool) (s : List ℕ) (from : ℕ) (d : List ℕ) {st : State} → Behind s from → Room d 0 (rest s (start provider) from)
-    → st ≡ start provider → Filling provider s from d st from d 0
-filling-start provider s from d b r e =
-    subst (λ (x : State). Filling provider s from d x from d 0) (sym e) (record {
-      left = refl;
-      count = omega arith;
-      hold = omega (arith, r);
-      size = refl;
-      room = room-start provider;
-      line = omega (arith, line-start provider, b .low);
-      high = b .high;
-      small = b .small;
-    })
-
-module _ {provider : Bool} {s : List ℕ} {from : ℕ} {d : List ℕ} {st : State} {at : ℕ} {d′ : List ℕ} {next : ℕ} (v : Filling provider s from d st at d′ next) where
-  -- nothing is left: all is written
-  all-written : entriesFrom st at (rows (drop at s)) ≡ [] → Wrote d d′ 0 next (rest s (start provider) from)
-  unfolding numbers
-  all-written e = record {
-    next = omega (arith, v .count, ap (λ (es : List Entry). length (numbers es)) e);
-    list = rw e at (v .left);
+module _ {st₀ : State} {s : List ℕ} {from clinic₀ : ℕ} {st : State} {at : ℕ} {d : List ℕ} {next clinic : ℕ}
+    (v : Filling st₀ s from clinic₀ st at d next clinic) (o : Reading st₀ s from st at) where
+  -- the array is full
+  pub filling-full : 448 ≤ next → BatchOf s st₀ from clinic₀ d (Full st clinic at)
+  filling-full h = record {
+    means = record {
+      answer = o .left;
+      list = v .left ∙ ap (λ (w : List ℕ). w ++ listedAt s st at clinic) (take-all next d (omega (arith, v .size)));
+      midway = o .midway;
+      lines = omega (arith, v .count, v .few);
+      less = v .more (omega arith);
+    };
     size = v .size;
-    high = omega (arith, v .count, v .hold);
+  }
+
+  -- nothing is left
+  all-written : {r : Answer} → r ≡ answerAt s st₀ from → entriesFrom st at (rows (drop at s)) ≡ [] → BatchOf s st₀ from clinic₀ d (Last r next)
+  unfolding numbers listedFrom
+  all-written q e = record {
+    means = record {
+      answer-is = q;
+      list =
+          ap (λ (k : ℕ). take k d) {x = next - 0} {y = next} (omega arith) ∙ sym (append-nil (take next d))
+          ∙ ap (λ (es : List Entry). take next d ++ numbers (listedFrom (st .line + 1) clinic es)) (sym e) ∙ sym (v .left);
+      high = v .few;
+    };
+    size = v .size;
   }
 
   -- where no record is left
@@ -127,11 +160,11 @@ module _ {provider : Bool} {s : List ℕ} {from : ℕ} {d : List ℕ} {st : Stat
     filling-faulty u = line-entries ∙ ap here (sym u)
 
   module _ {stops : List ℕ} {k : Turn} (w : TurnOf st s at stops k) where
-    pub filling-over : k ≡ Over → Wrote d d′ 0 next (rest s (start provider) from)
-    filling-over q = all-written (⊎-elim filling-end filling-mark (turn-over w q))
+    pub filling-over : {r : Answer} → k ≡ Over → r ≡ tally st (closed st) → BatchOf s st₀ from clinic₀ d (Last r next)
+    filling-over q p = all-written (reading-over o w q p) (⊎-elim filling-end filling-mark (turn-over w q))
 
-    pub filling-stopped : {n : ℕ} → k ≡ TurnRefused n → Wrote d d′ 0 next (rest s (start provider) from)
-    filling-stopped {n} q = all-written (go (turn-refused w q))
+    pub filling-stopped : {n : ℕ} → k ≡ TurnRefused n → BatchOf s st₀ from clinic₀ d (Last (Refused n (st .line + 1)) next)
+    filling-stopped {n} q = all-written (reading-stopped o w q) (go (turn-refused w q))
       where
         go : RefusedAt st s at stops n → entriesFrom st at (rows (drop at s)) ≡ []
         go (broken l e) = filling-broken l
@@ -144,48 +177,46 @@ module _ {provider : Bool} {s : List ℕ} {from : ℕ} {d : List ℕ} {st : Stat
       whole : WholeLine s at e (found .good)
       whole = whole-line (found .line) refl
 
-      pub filling-fits : Fits w64 (e + 2)
-      filling-fits = turn-fits w q (v .small)
-
       pub filling-span : Spanned at e
-      filling-span = record { low = whole .low; small = omega (arith, whole .high, v .small) }
+      filling-span = record { low = whole .low; small = omega (arith, whole .high, o .midway .small) }
 
       taken-here : Placed st (part s at e) after rp doctor
       taken-here = placed st (part s at e) after rp doctor (sym (found .step))
 
-      own : List ℕ
-      own = six (after .place) at (e - at) (groupOf after) doctor (drugOf after)
+      next-here : after .line ≡ st .line + 1
+      next-here = next-line st (factsOf (recordOf (part s at e))) after rp doctor (taken-here .step)
 
-      -- the record's own numbers, and those after it
-      written : rest s st at ≡ own ++ rest s after (e + 2)
-      unfolding numbers here entered entryOf own
-      written = ap numbers (line-entries (found .line) ∙ ap (here (found .line)) (sym (found .step))) ∙ rw (place-number taken-here, whole-length (found .line) refl)
+      -- the array is filled entry by entry
+      pub filling-room : next < 448 → (a b c x y z u : ℕ) → Room d next (sevenNumbers a b c x y z u)
+      unfolding sevenNumbers
+      filling-room h a b c x y z u = omega (arith, v .count, v .size)
 
-      count-on : length (rest s st at) ≡ length own + length (rest s after (e + 2))
-      count-on = ap length written ∙ length-append own (rest s after (e + 2))
+      module _ {kept : ℕ} (c : kept ≡ clinicAfter (after .line) clinic (after .place)) where
+        own : List ℕ
+        own = sevenNumbers (after .place) at (e - at) (groupOf after) doctor (drugOf after) (clinicOf (after .place) kept)
 
-      pub filling-room : Room d′ next (six (after .place) at (e - at) (groupOf after) doctor (drugOf after))
-      unfolding own
-      filling-room = omega (arith, v .count, v .hold, v .size, count-on)
+        -- the record's own numbers, and those after it
+        written : listedAt s st at clinic ≡ own ++ listedAt s after (e + 2) kept
+        unfolding numbers listedFrom here entered entryOf own
+        written =
+            ap (λ (es : List Entry). numbers (listedFrom (st .line + 1) clinic es)) (line-entries (found .line) ∙ ap (here (found .line)) (sym (found .step)))
+            ∙ rw (c, place-number taken-here, whole-length (found .line) refl, next-here)
 
-      pub filling-on : {behind : ℕ} {d″ : List ℕ} → Wrote d′ d″ next behind (six (after .place) at (e - at) (groupOf after) doctor (drugOf after))
-          → Filling provider s from d after (e + 2) d″ behind
-      unfolding own
-      filling-on x =
-          let y : stepOf st (factsOf (recordOf (part s at e))) ≡ On after rp doctor = taken-here .step in
-          let l : after .line ≡ st .line + 1 = next-line st (factsOf (recordOf (part s at e))) after rp doctor y in
-          record {
-            left = carry (rest s after (e + 2)) x (rw written at (v .left));
-            count = omega (arith, x .next, v .count, count-on);
-            hold = v .hold;
-            size = x .size ∙ v .size;
-            room = room st (factsOf (recordOf (part s at e))) after rp doctor y (v .room) (omega (arith, l, v .line, v .high, v .small));
-            line = omega (arith, l, v .line, whole .low);
-            high = whole .high;
-            small = v .small;
-          }
+        pub filling-on : {behind : ℕ} {d′ : List ℕ}
+            → Wrote d d′ next behind (sevenNumbers (after .place) at (e - at) (groupOf after) doctor (drugOf after) (clinicOf (after .place) kept))
+            → Filling st₀ s from clinic₀ after (e + 2) d′ behind kept
+        unfolding own
+        filling-on x =
+            let n = seven-length (after .place) at (e - at) (groupOf after) doctor (drugOf after) (clinicOf (after .place) kept) in
+            record {
+              left =
+                  v .left ∙ ap (λ (r : List ℕ). take next d ++ r) written ∙ sym (append-assoc (take next d) own (listedAt s after (e + 2) kept))
+                  ∙ ap (λ (r : List ℕ). r ++ listedAt s after (e + 2) kept) (sym (front-more x));
+              count = omega (arith, x .next, n, v .count, next-here);
+              size = x .size ∙ v .size;
+              few = omega (arith, x .high, v .size);
+              begun = omega (arith, v .begun, whole .low);
+              more = λ _. omega (arith, v .begun, whole .low);
+            }
 
-  pub filling-countable : Countable st
-  filling-countable = v .room
-
-pub ruleset filling-laws = (turn-facts, filling-start, filling-countable, filling-over, filling-stopped, filling-fits, filling-span, filling-room, filling-on)
+pub ruleset filling-laws = (filling-start, filling-full, filling-over, filling-stopped, filling-span, filling-room, filling-on)

@@ -7,7 +7,7 @@ use mathlib.Core.Path.{_≡_, refl, sym, ap, _∙_, subst}
 use mathlib.Core.Bool.{Bool, true, false, cond, _||_, false≢true}
 use mathlib.Core.Logic.{_⊎_, inl, inr}
 use mathlib.Core.List.{List, [], _∷_, _++_, head-eq-of-cons-eq, tail-eq-of-cons-eq}
-use borrow.Author.Tests.{eq-eqb, ne-eqb, eqb-true}
+use borrow.Author.Tests.{ne-eqb, eqb-true}
 use lib.Dec.{eqb}
 use lib.ListN.{length, drop, length-append}
 use Rattle.lists.specs.Lists.{member, Res, ok, refused, mapRes}
@@ -28,7 +28,7 @@ use Rattle.notebook.specs.Index.{Entry, entryOf, entriesOf}
 use Rattle.notebook.specs.Meaning.{countEntries, Cuts, Each, lastLine, Stands}
 use Rattle.notebook.proofs.Walk.{Walk, over, more, accepted, walk-length}
 use Rattle.notebook.proofs.Lines.{at-row, walk-cuts}
-use Rattle.notebook.proofs.Lasts.{Keeps, Known, Before, group-is, walk-last, last-stands}
+use Rattle.notebook.proofs.Lasts.{kept, keptAfter, Keeps, Before, group-is, walk-last, last-stands}
 
 -- ---- the counts are check's
 
@@ -91,36 +91,33 @@ index-group s b r before e behind q =
 
 -- ---- an entry's doctor and drug
 
-doctor : State → ℕ
-doctor st = st .had .doctor
+-- the line that is kept is the state's doctor; its drug
+abbrev IsDoctor : State → ℕ → Type 0
+IsDoctor st k = k ≡ st .had .doctor
 
-drug : State → ℕ
-drug st = st .had .drug
+abbrev IsDrug : State → ℕ → Type 0
+IsDrug st k = k ≡ st .had .drug
 
-keeps-doctor : Keeps 55 doctor
-unfolding doctor advance hadAfter inGroup
-keeps-doctor = record {
-  no-group = λ e. omega (arith, e);
-  grouped = refl;
-  reset = λ st f e. rw (eq-eqb (f .number) 5 e);
-  own = λ st f e. rw e;
-  other = λ st f p q. rw (ne-eqb (f .number) 5 p, ne-eqb (f .number) 55 q);
-}
+keeps-doctor : Keeps 55 IsDoctor
+unfolding kept advance hadAfter inGroup
+keeps-doctor = record { no-group = λ e. omega (arith, e); grouped = refl; on = λ st f k h. ap (λ (j : ℕ). kept 55 (st .line + 1) j (f .number)) h }
 
-keeps-drug : Keeps 201 drug
-unfolding drug advance hadAfter inGroup
-keeps-drug = record {
-  no-group = λ e. omega (arith, e);
-  grouped = refl;
-  reset = λ st f e. rw (eq-eqb (f .number) 5 e);
-  own = λ st f e. rw e;
-  other = λ st f p q. rw (ne-eqb (f .number) 5 p, ne-eqb (f .number) 201 q);
-}
+keeps-drug : Keeps 201 IsDrug
+unfolding kept advance hadAfter inGroup
+keeps-drug = record { no-group = λ e. omega (arith, e); grouped = refl; on = λ st f k h. ap (λ (j : ℕ). kept 201 (st .line + 1) j (f .number)) h }
 
 -- before the first record nothing is kept
-at-start : (provider : Bool) (g : ℕ) → Known doctor g 0 (start provider) × Known drug g 0 (start provider)
-unfolding doctor drug start nothingYet
-at-start provider g = (record { now = λ _. refl; ahead = λ _. refl }, record { now = λ _. refl; ahead = λ _. refl })
+none-kept : (provider : Bool) → IsDoctor (start provider) 0 × IsDrug (start provider) 0
+unfolding start nothingYet
+none-kept provider = (refl, refl)
+
+-- what is kept before an entry of an accepted file, whose first record stands at line 2
+pub kept-before : (n : ℕ) (Beside : State → ℕ → Type 0) (keeps : Keeps n Beside) (s : List ℕ) (b : Notebook) → readFile s ≡ ok b → Beside (start (b .provider)) 0
+    → (before : List Entry) (e : Entry) (behind : List Entry) → entriesOf s ≡ before ++ e ∷ behind
+    → Before n Beside keeps e (2 + length before) (lastLine n (e .group) 2 0 before) (keptAfter n 2 0 before)
+kept-before n Beside keeps s b r h before e behind q =
+    subst (λ (j : ℕ). Before n Beside keeps e (j + 1 + length before) (lastLine n (e .group) (j + 1) 0 before) (keptAfter n (j + 1) 0 before)) (line-start (b .provider))
+    (walk-last n Beside keeps (accepted s b r .walked) before e behind 0 0 q h (record { now = λ _. refl; ahead = λ _. refl }))
 
 -- a record of an RP is in a group, and is no 5
 rp-grouped : (n : ℕ) → inRp n ≡ true → inGroup n ≡ true
@@ -146,9 +143,9 @@ detail-rp n h = go (either (eqb n 281) (eqb n 291) (member-left (281 ∷ 291 ∷
 detail-no-drug : (n : ℕ) → member (281 ∷ 291 ∷ []) n ≡ true → n ≡ 201 → ⊥
 detail-no-drug n h e = false≢true (rw e at h)
 
-drug-of : (st : State) (f : Facts) → member (281 ∷ 291 ∷ []) (f .number) ≡ true → drugOf (advance st f) ≡ drug (advance st f)
-unfolding drugOf advance drug
-drug-of st f h = rw h
+drug-of : (st : State) (f : Facts) → member (281 ∷ 291 ∷ []) (f .number) ≡ true → drugOf (advance st f) ≡ st .had .drug
+unfolding drugOf advance hadAfter
+drug-of st f h = rw (h, ne-eqb (f .number) 5 (rp-no-5 (f .number) (detail-rp (f .number) h)), ne-eqb (f .number) 201 (detail-no-drug (f .number) h))
 
 drug-none : (st : State) (f : Facts) → member (281 ∷ 291 ∷ []) (f .number) ≡ false → drugOf (advance st f) ≡ 0
 unfolding drugOf advance
@@ -157,24 +154,22 @@ drug-none st f h = rw h
 module _ (s : List ℕ) (b : Notebook) (r : readFile s ≡ ok b) (before : List Entry) (e : Entry) (behind : List Entry) (q : entriesOf s ≡ before ++ e ∷ behind) where
   -- "line of the last preceding 55 in the group for 201–391 (else 0)": the first record stands at line 2
   pub index-doctor : e .doctor ≡ cond (inRp (e .number)) (lastLine 55 (e .group) 2 0 before) 0
-  unfolding entryOf factsOf doctor doctorOf
+  unfolding entryOf factsOf doctorOf
   index-doctor =
-      let x : Before 55 doctor keeps-doctor e (lastLine 55 (e .group) 2 0 before) =
-      subst (λ (j : ℕ). Before 55 doctor keeps-doctor e (lastLine 55 (e .group) (j + 1) 0 before)) (line-start (b .provider))
-      (walk-last 55 doctor keeps-doctor (accepted s b r .walked) before e behind 0 q (at-start (b .provider) (e .group) .0)) in
+      let x = kept-before 55 IsDoctor keeps-doctor s b r (none-kept (b .provider) .0) before e behind q in
       let f : Facts = factsOf (recordOf (x .l)) in
       let n : f .number ≡ e .number = ap (λ (y : Entry). y .number) (x .is) in
       let d : x .doctor ≡ doctorOf (x .st) f = taken (x .st) f (x .after) (x .rp) (x .doctor) (x .placed .step) .doctor in
       let g : groupOf (advance (x .st) f) ≡ e .group = ap groupOf (sym (x .placed .state)) ∙ ap (λ (y : Entry). y .group) (x .is) in
       sym (ap (λ (y : Entry). y .doctor) (x .is)) ∙ d ∙ go x n g (inRp (f .number)) refl
     where
-      go : (x : Before 55 doctor keeps-doctor e (lastLine 55 (e .group) 2 0 before)) → (recordOf (x .l)) .number ≡ e .number
+      go : (x : Before 55 IsDoctor keeps-doctor e (2 + length before) (lastLine 55 (e .group) 2 0 before) (keptAfter 55 2 0 before)) → (recordOf (x .l)) .number ≡ e .number
           → groupOf (advance (x .st) (factsOf (recordOf (x .l)))) ≡ e .group → (i : Bool) → inRp ((recordOf (x .l)) .number) ≡ i
           → cond (inRp ((recordOf (x .l)) .number)) (x .st .had .doctor) 0 ≡ cond (inRp (e .number)) (lastLine 55 (e .group) 2 0 before) 0
       go x n g true i =
           let m = (recordOf (x .l)) .number in
           let k = group-is (x .st) (factsOf (recordOf (x .l))) (rp-no-5 m i) (rp-grouped m i) in
-          let u = x .known .now (sym g ∙ k) in
+          let u = x .known .now (sym g ∙ k) ∙ x .beside in
           rw (ap inRp (sym n) ∙ i, i, u)
       go x n g false i = rw (ap inRp (sym n) ∙ i, i)
 
@@ -187,23 +182,20 @@ module _ (s : List ℕ) (b : Notebook) (r : readFile s ≡ ok b) (before : List 
 
   -- "line of the last preceding 201 for 281 and 291 (else 0)"
   pub index-drug : e .drug ≡ cond (member (281 ∷ 291 ∷ []) (e .number)) (lastLine 201 (e .group) 2 0 before) 0
-  unfolding entryOf factsOf drug drugOf
+  unfolding entryOf factsOf drugOf
   index-drug =
-      let x : Before 201 drug keeps-drug e (lastLine 201 (e .group) 2 0 before) =
-      subst (λ (j : ℕ). Before 201 drug keeps-drug e (lastLine 201 (e .group) (j + 1) 0 before)) (line-start (b .provider))
-      (walk-last 201 drug keeps-drug (accepted s b r .walked) before e behind 0 q (at-start (b .provider) (e .group) .1)) in
+      let x = kept-before 201 IsDrug keeps-drug s b r (none-kept (b .provider) .1) before e behind q in
       let n : (recordOf (x .l)) .number ≡ e .number = ap (λ (y : Entry). y .number) (x .is) in
       let g : groupOf (advance (x .st) (factsOf (recordOf (x .l)))) ≡ e .group = ap groupOf (sym (x .placed .state)) ∙ ap (λ (y : Entry). y .group) (x .is) in
       sym (ap (λ (y : Entry). y .drug) (x .is)) ∙ ap drugOf (x .placed .state) ∙ go x n g (member (281 ∷ 291 ∷ []) ((recordOf (x .l)) .number)) refl
     where
-      go : (x : Before 201 drug keeps-drug e (lastLine 201 (e .group) 2 0 before)) → (recordOf (x .l)) .number ≡ e .number
+      go : (x : Before 201 IsDrug keeps-drug e (2 + length before) (lastLine 201 (e .group) 2 0 before) (keptAfter 201 2 0 before)) → (recordOf (x .l)) .number ≡ e .number
           → groupOf (advance (x .st) (factsOf (recordOf (x .l)))) ≡ e .group → (i : Bool) → member (281 ∷ 291 ∷ []) ((recordOf (x .l)) .number) ≡ i
           → drugOf (advance (x .st) (factsOf (recordOf (x .l)))) ≡ cond (member (281 ∷ 291 ∷ []) (e .number)) (lastLine 201 (e .group) 2 0 before) 0
       go x n g true i =
           let m = (recordOf (x .l)) .number in
           let f = factsOf (recordOf (x .l)) in
           let k = group-is (x .st) f (rp-no-5 m (detail-rp m i)) (rp-grouped m (detail-rp m i)) in
-          let u = x .known .now (sym g ∙ k) in
-          let v = keeps-drug .other (x .st) f (rp-no-5 m (detail-rp m i)) (detail-no-drug m i) in
-          rw (← n, i) (drug-of (x .st) f i ∙ v ∙ sym u)
+          let u = x .known .now (sym g ∙ k) ∙ x .beside in
+          rw (← n, i) (drug-of (x .st) f i ∙ sym u)
       go x n g false i = rw (← n, i) (drug-none (x .st) (factsOf (recordOf (x .l))) i)

@@ -1,5 +1,5 @@
--- What the reader's state has kept of its group is the last entry of that number in the group: told once for every number that is kept so
--- (55 as the doctor, 201 as the drug). Assumes nothing.
+-- What is kept of a group, record by record, is the last entry of a number in the group: told once for every number that is kept so (55 as the
+-- doctor and 201 as the drug, in the reader's state; 51 as the clinic). Assumes nothing.
 use Prim.Native.Nat.{ℕ, _+_, _≤_, _<_}
 use native.Mathlib.Omega.{arith}
 use mathlib.Core.Path.{_≡_, refl, sym, ap, _∙_, subst}
@@ -37,59 +37,56 @@ pub group-is : (st : State) (f : Facts) → (f .number ≡ 5 → ⊥) → inGrou
 unfolding groupOf advance
 group-is st f n e = rw (e, ne-eqb _ _ n)
 
--- ---- a number whose last line the state keeps
+-- ---- a number whose last line is kept
 
-pub record Keeps (n : ℕ) (kept : State → ℕ) : Type 0 where
+-- after a record m at a line; a 5 begins anew
+unfoldable pub kept : ℕ → ℕ → ℕ → ℕ → ℕ
+kept n line k m = cond (eqb m 5) 0 (cond (eqb m n) line k)
+
+-- after all of these entries, the first at a line
+unfoldable pub keptAfter : ℕ → ℕ → ℕ → List Entry → ℕ
+keptAfter n line k [] = k
+keptAfter n line k (e ∷ es) = keptAfter n (line + 1) (kept n line k (e .number)) es
+
+-- a number that a group has, and what is said of the state and the line kept beside it
+pub record Keeps (n : ℕ) (Beside : State → ℕ → Type 0) : Type 0 where
   pub no-group : n ≡ 5 → ⊥
   pub grouped : inGroup n ≡ true
-  pub reset : (st : State) (f : Facts) → f .number ≡ 5 → kept (advance st f) ≡ 0
-  pub own : (st : State) (f : Facts) → f .number ≡ n → kept (advance st f) ≡ st .line + 1
-  pub other : (st : State) (f : Facts) → (f .number ≡ 5 → ⊥) → (f .number ≡ n → ⊥) → kept (advance st f) ≡ kept st
+  pub on : (st : State) (f : Facts) (k : ℕ) → Beside st k → Beside (advance st f) (kept n (st .line + 1) k (f .number))
 
--- d is what is kept, seen from the group g: none where g is still to come
-pub record Known (kept : State → ℕ) (g d : ℕ) (st : State) : Type 0 where
-  pub now : g ≡ st .groups → d ≡ kept st
-  pub ahead : st .groups < g → d ≡ 0
+-- d is the line that is kept, seen from the group g: none where g is still to come
+pub record Known (k g d groups : ℕ) : Type 0 where
+  pub now : g ≡ groups → d ≡ k
+  pub ahead : groups < g → d ≡ 0
 
-module _ (n : ℕ) (kept : State → ℕ) (k : Keeps n kept) where
-  known-step : (g d : ℕ) (st : State) (f : Facts) → Known kept g d st
-      → Known kept g (cond (eqb (f .number) n && eqb (groupOf (advance st f)) g) (st .line + 1) d) (advance st f)
-  known-step g d st f v = go (eqb (f .number) 5) refl (eqb (f .number) n) refl (eqb (groupOf (advance st f)) g) refl
+module _ (n : ℕ) (Beside : State → ℕ → Type 0) (keeps : Keeps n Beside) where
+  pub known-step : (k g d : ℕ) (st : State) (f : Facts) → Known k g d (st .groups)
+      → Known (kept n (st .line + 1) k (f .number)) g (cond (eqb (f .number) n && eqb (groupOf (advance st f)) g) (st .line + 1) d) (advance st f .groups)
+  unfolding kept
+  known-step k g d st f v = go (eqb (f .number) 5) refl (eqb (f .number) n) refl (eqb (groupOf (advance st f)) g) refl
     where
       go : (x : Bool) → eqb (f .number) 5 ≡ x → (y : Bool) → eqb (f .number) n ≡ y → (z : Bool) → eqb (groupOf (advance st f)) g ≡ z
-          → Known kept g (cond (y && z) (st .line + 1) d) (advance st f)
-      go true p true q z r = absurd (k .no-group (sym (eqb-true _ _ q) ∙ eqb-true _ _ p))
+          → Known (cond x 0 (cond y (st .line + 1) k)) g (cond (y && z) (st .line + 1) d) (advance st f .groups)
+      go true p true q z r = absurd (keeps .no-group (sym (eqb-true _ _ q) ∙ eqb-true _ _ p))
       go true p false q z r =
           let a : advance st f .groups ≡ st .groups + 1 = groups-5 st f (eqb-true _ _ p) in
-          record {
-            now = λ e. v .ahead (omega (arith, a, e)) ∙ sym (k .reset st f (eqb-true _ _ p));
-            ahead = λ h. v .ahead (omega (arith, a, h));
-          }
+          record { now = λ e. v .ahead (omega (arith, a, e)); ahead = λ h. v .ahead (omega (arith, a, h)) }
       go false p true q true r =
-          let m : f .number ≡ n = eqb-true _ _ q in
           let a : advance st f .groups ≡ st .groups = groups-other st f (eqb-false _ _ p) in
-          let b : groupOf (advance st f) ≡ st .groups = group-is st f (eqb-false _ _ p) (rw m (k .grouped)) in
-          record {
-            now = λ e. sym (k .own st f m);
-            ahead = λ h. absurd (omega (arith, a, b, h, eqb-true (groupOf (advance st f)) g r));
-          }
+          let m : f .number ≡ n = eqb-true _ _ q in
+          let b : groupOf (advance st f) ≡ st .groups = group-is st f (eqb-false _ _ p) (rw m (keeps .grouped)) in
+          record { now = λ e. refl; ahead = λ h. absurd (omega (arith, a, b, h, eqb-true (groupOf (advance st f)) g r)) }
       go false p true q false r =
-          let m : f .number ≡ n = eqb-true _ _ q in
           let a : advance st f .groups ≡ st .groups = groups-other st f (eqb-false _ _ p) in
-          let b : groupOf (advance st f) ≡ st .groups = group-is st f (eqb-false _ _ p) (rw m (k .grouped)) in
-          record {
-            now = λ e. absurd (eqb-false _ _ r (b ∙ sym a ∙ sym e));
-            ahead = λ h. v .ahead (omega (arith, a, h));
-          }
+          let m : f .number ≡ n = eqb-true _ _ q in
+          let b : groupOf (advance st f) ≡ st .groups = group-is st f (eqb-false _ _ p) (rw m (keeps .grouped)) in
+          record { now = λ e. absurd (eqb-false _ _ r (b ∙ sym a ∙ sym e)); ahead = λ h. v .ahead (omega (arith, a, h)) }
       go false p false q z r =
           let a : advance st f .groups ≡ st .groups = groups-other st f (eqb-false _ _ p) in
-          record {
-            now = λ e. v .now (e ∙ a) ∙ sym (k .other st f (eqb-false _ _ p) (eqb-false _ _ q));
-            ahead = λ h. v .ahead (omega (arith, a, h));
-          }
+          record { now = λ e. v .now (e ∙ a); ahead = λ h. v .ahead (omega (arith, a, h)) }
 
-  -- the state before an entry's record, and what it has kept
-  pub record Before (e : Entry) (d : ℕ) : Type 0 where
+  -- the state before an entry's record, and the line k that is kept there
+  pub record Before (e : Entry) (line d k : ℕ) : Type 0 where
     pub st : State
     pub offset : ℕ
     pub l : List ℕ
@@ -98,26 +95,47 @@ module _ (n : ℕ) (kept : State → ℕ) (k : Keeps n kept) where
     pub doctor : ℕ
     pub placed : Placed st l after rp doctor
     pub is : entryOf offset l after doctor ≡ e
-    pub known : Known kept (e .group) d st
+    pub at : st .line + 1 ≡ line
+    pub beside : Beside st k
+    pub known : Known k (e .group) d (st .groups)
 
   pub walk-last : {st : State} {at : ℕ} {rs : List (List ℕ)} {recs : List Record} {es : List Entry} → Walk st at rs recs es
-      → (before : List Entry) (e : Entry) (behind : List Entry) (d : ℕ) → es ≡ before ++ e ∷ behind → Known kept (e .group) d st
-      → Before e (lastLine n (e .group) (st .line + 1) d before)
-  unfolding lastLine entryOf factsOf
-  walk-last over before e behind d q v = absurd (omega (arith, ap length q, length-append before (e ∷ behind)))
-  walk-last (more {st = st} {at = at} {r = r} {after = after} {rp = rp} {doctor = doctor} l p w) [] e behind d q v =
-      record { st = st; offset = at; l = text r; after = after; rp = rp; doctor = doctor; placed = p; is = head-eq-of-cons-eq q; known = v }
-  walk-last (more {st = st} {at = at} {r = r} {after = after} {rp = rp} {doctor = doctor} l p w) (e₀ ∷ before) e behind d q v =
+      → (before : List Entry) (e : Entry) (behind : List Entry) (d k : ℕ) → es ≡ before ++ e ∷ behind → Beside st k → Known k (e .group) d (st .groups)
+      → Before e (st .line + 1 + length before) (lastLine n (e .group) (st .line + 1) d before) (keptAfter n (st .line + 1) k before)
+  unfolding lastLine keptAfter entryOf factsOf
+  walk-last over before e behind d k q b v = absurd (omega (arith, ap length q, length-append before (e ∷ behind)))
+  walk-last (more {st = st} {at = at} {r = r} {after = after} {rp = rp} {doctor = doctor} l p w) [] e behind d k q b v =
+      record {
+        st = st;
+        offset = at;
+        l = text r;
+        after = after;
+        rp = rp;
+        doctor = doctor;
+        placed = p;
+        is = head-eq-of-cons-eq q;
+        at = omega arith;
+        beside = b;
+        known = v;
+      }
+  walk-last (more {st = st} {at = at} {r = r} {after = after} {rp = rp} {doctor = doctor} l p w) (e₀ ∷ before) e behind d k q b v =
       let f : Facts = factsOf (recordOf (text r)) in
       let h : entryOf at (text r) after doctor ≡ e₀ = head-eq-of-cons-eq q in
       let m : after .line ≡ st .line + 1 = next-line st f after rp doctor (p .step) in
-      let u : Known kept (e .group) (cond (eqb (f .number) n && eqb (groupOf (advance st f)) (e .group)) (st .line + 1) d) (advance st f) = known-step (e .group) d st f v in
-      let u′ : Known kept (e .group) (cond (eqb (f .number) n && eqb (groupOf after) (e .group)) (st .line + 1) d) after =
-      subst (λ (t : State). Known kept (e .group) (cond (eqb (f .number) n && eqb (groupOf t) (e .group)) (st .line + 1) d) t) (sym (p .state)) u in
-      let u″ : Known kept (e .group) (cond (eqb (e₀ .number) n && eqb (e₀ .group) (e .group)) (st .line + 1) d) after =
-      subst (λ (x : Entry). Known kept (e .group) (cond (eqb (x .number) n && eqb (x .group) (e .group)) (st .line + 1) d) after) h u′ in
-      subst (λ (j : ℕ). Before e (lastLine n (e .group) (j + 1) (cond (eqb (e₀ .number) n && eqb (e₀ .group) (e .group)) (st .line + 1) d) before)) m
-      (walk-last w before e behind (cond (eqb (e₀ .number) n && eqb (e₀ .group) (e .group)) (st .line + 1) d) (tail-eq-of-cons-eq q) u″)
+      let k′ : ℕ → ℕ = kept n (st .line + 1) k in
+      let d′ : ℕ → ℕ → ℕ = λ number group. cond (eqb number n && eqb group (e .group)) (st .line + 1) d in
+      let u : Known (k′ (f .number)) (e .group) (d′ (f .number) (groupOf (advance st f))) (advance st f .groups) = known-step k (e .group) d st f v in
+      let u′ : Known (k′ (f .number)) (e .group) (d′ (f .number) (groupOf after)) (after .groups) =
+      subst (λ (t : State). Known (k′ (f .number)) (e .group) (d′ (f .number) (groupOf t)) (t .groups)) (sym (p .state)) u in
+      let u″ : Known (k′ (e₀ .number)) (e .group) (d′ (e₀ .number) (e₀ .group)) (after .groups) =
+      subst (λ (x : Entry). Known (k′ (x .number)) (e .group) (d′ (x .number) (x .group)) (after .groups)) h u′ in
+      let b′ : Beside after (k′ (e₀ .number)) =
+      subst (λ (x : Entry). Beside after (k′ (x .number))) h (subst (λ (t : State). Beside t (k′ (f .number))) (sym (p .state)) (keeps .on st f k b)) in
+      let Then : ℕ → ℕ → Type 0 = λ x j. Before e x (lastLine n (e .group) (j + 1) (d′ (e₀ .number) (e₀ .group)) before) (keptAfter n (j + 1) (k′ (e₀ .number)) before) in
+      let x : after .line + 1 + length before ≡ st .line + 1 + length (e₀ ∷ before) = omega (arith, m) in
+      subst (λ (j : ℕ). Then (st .line + 1 + length (e₀ ∷ before)) j) m
+      (subst (λ (y : ℕ). Then y (after .line)) x
+      (walk-last w before e behind (d′ (e₀ .number) (e₀ .group)) (k′ (e₀ .number)) (tail-eq-of-cons-eq q) b′ u″))
 
 -- ---- the last line is that of an entry, or there is none
 

@@ -10,4 +10,5 @@ pub mod FileGroups
 pub mod Lines
 pub mod Lasts
 pub mod IndexLaws
+pub mod ClinicLaws
 pub mod Answered

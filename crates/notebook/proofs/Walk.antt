@@ -17,10 +17,9 @@ use Rattle.order.specs.declared.State.{State}
 use Rattle.order.specs.declared.Moved.{Moved}
 use Rattle.order.specs.declared.Moved.the-variants.{Fault, On}
 use Rattle.order.specs.State.{start, finishOf}
-use Rattle.buffers.specs.Entries.{six}
-use Rattle.buffers.proofs.Runs.{six-length}
+use Rattle.buffers.specs.Entries.{sevenNumbers}
 use Rattle.notebook.specs.Notebook.{Notebook, stepLine, prepend, closed, onward, recordsFrom, notebookOf, readRows, readFile}
-use Rattle.notebook.specs.Index.{Entry, entryOf, entered, entriesFrom, entriesAfterHead, entriesOf, numbers}
+use Rattle.notebook.specs.Index.{Entry, entryOf, entered, entriesFrom, entriesAfterHead, entriesOf, Listed, listedFrom, entryNumbers, numbers}
 use Rattle.notebook.proofs.Placing.{Placed, placed}
 
 pub data Walk : State → ℕ → List (List ℕ) → List Record → List Entry → Type 0 where
@@ -119,15 +118,20 @@ accepted s b e = sized (leb (length s) 65536) refl e
     sized true p e = rowed (leb-true _ _ p) (rows s) refl e
     sized false p e = absurd (no-refusal e)
 
--- ---- as many entries as records, six numbers each
+-- ---- as many entries as records, seven numbers each
 
 pub walk-length : {st : State} {at : ℕ} {rs : List (List ℕ)} {recs : List Record} {es : List Entry} → Walk st at rs recs es → length es ≡ length recs
 walk-length over = refl
 walk-length (more l p w) = ap suc (walk-length w)
 
-pub numbers-length : (es : List Entry) → length (numbers es) ≡ 6 * length es
-unfolding numbers
+pub listed-length : (line before : ℕ) (es : List Entry) → length (listedFrom line before es) ≡ length es
+unfolding listedFrom
+listed-length line before [] = refl
+listed-length line before (e ∷ es) = ap suc (listed-length (line + 1) _ es)
+
+pub numbers-length : (xs : List Listed) → length (numbers xs) ≡ 7 * length xs
+unfolding numbers sevenNumbers
 numbers-length [] = refl
-numbers-length (e ∷ es) =
-    let x = six-length (e .number) (e .offset) (e .bytes) (e .group) (e .doctor) (e .drug) in
-    length-append (six (e .number) (e .offset) (e .bytes) (e .group) (e .doctor) (e .drug)) (numbers es) ∙ omega (arith, x, numbers-length es)
+numbers-length (x ∷ xs) =
+    let n : length (entryNumbers x) ≡ 7 = refl in
+    length-append (entryNumbers x) (numbers xs) ∙ omega (arith, n, numbers-length xs)

@@ -1,22 +1,25 @@
 -- Definitions, to be believed.
--- The call index. Document 01, "Index": "Six u32 per record after line 1"; "Index and canonical: 1–16, then 20".
+-- The call index. Document 01, "Index": "Six u32 per record after line 1"; "Index and canonical: 1–16, then 20". Document 02, (v) adds a seventh:
+-- "The index buffer needs seven numbers a record."
 use Prim.Native.Nat.{ℕ, _+_}
 use mathlib.Core.Bool.{cond, true}
 use mathlib.Core.List.{List, [], _∷_, _++_}
+use lib.Dec.{eqb}
 use lib.ListN.{length}
 use Rattle.lists.specs.Lists.{same, Res, mapRes}
 use Rattle.characters.specs.Text.{text}
 use Rattle.characters.specs.Rows.{rows, isLine}
 use Rattle.records.specs.Records.{recordOf, header}
+use Rattle.rules.specs.Places.{inGroup}
 use Rattle.order.specs.declared.State.{State}
 use Rattle.order.specs.declared.Moved.{Moved}
 use Rattle.order.specs.declared.Moved.the-variants.{Fault, On}
 use Rattle.order.specs.State.{start, groupOf, drugOf}
-use Rattle.buffers.specs.Entries.{six}
+use Rattle.buffers.specs.Entries.{sevenNumbers}
 use Rattle.notebook.specs.Notebook.{Notebook, stepLine, readFile}
 use Rattle.replies.specs.Results.{Result}
 
--- ---- the entry of a record
+-- ---- the entry of a record, as document 01 has it
 
 pub record Entry : Type 0 where
   -- "record number"
@@ -61,14 +64,43 @@ entriesAfterHead (r ∷ rs) = cond (isLine r) (entriesFrom (start (same (text r)
 unfoldable pub entriesOf : List ℕ → List Entry
 entriesOf s = entriesAfterHead (rows s)
 
--- ---- as numbers: "Six u32 per record"
+-- ---- the prescribing clinic, document 02, (v); 15-106 3.2.9, record 51
 
-unfoldable pub numbers : List Entry → List ℕ
+-- "Each index entry gets a seventh number"
+pub record Listed : Type 0 where
+  pub entry : Entry
+  pub clinic : ℕ
+
+-- "the line of the group's 51, or 0 where none has yet stood in that group", after a record n at a line; before: what it was before that record
+unfoldable pub clinicAfter : ℕ → ℕ → ℕ → ℕ
+clinicAfter line before n = cond (eqb n 5) 0 (cond (eqb n 51) line before)
+
+-- what a record n shows: outside groups there is no clinic
+unfoldable pub clinicOf : ℕ → ℕ → ℕ
+clinicOf n clinic = cond (inGroup n) clinic 0
+
+-- "The record 51 itself shows its own line"
+unfoldable pub listedFrom : ℕ → ℕ → List Entry → List Listed
+listedFrom line before [] = []
+listedFrom line before (e ∷ es) =
+    record { entry = e; clinic = clinicOf (e .number) (clinicAfter line before (e .number)) }
+    ∷ listedFrom (line + 1) (clinicAfter line before (e .number)) es
+
+-- the first record stands at line 2
+unfoldable pub listOf : List ℕ → List Listed
+listOf s = listedFrom 2 0 (entriesOf s)
+
+-- ---- as numbers: "seven numbers a record"
+
+abbrev pub entryNumbers : Listed → List ℕ
+entryNumbers x = let e = x .entry in sevenNumbers (e .number) (e .offset) (e .bytes) (e .group) (e .doctor) (e .drug) (x .clinic)
+
+unfoldable pub numbers : List Listed → List ℕ
 numbers [] = []
-numbers (e ∷ es) = six (e .number) (e .offset) (e .bytes) (e .group) (e .doctor) (e .drug) ++ numbers es
+numbers (x ∷ xs) = entryNumbers x ++ numbers xs
 
 unfoldable pub numbersOf : List ℕ → List ℕ
-numbersOf s = numbers (entriesOf s)
+numbersOf s = numbers (listOf s)
 
 -- "index the count of records": a records
 abbrev pub indexed : List ℕ → Notebook → Result

@@ -6,5 +6,6 @@ pub mod Check
 pub mod Samples
 pub mod Index
 pub mod Meaning
+pub mod Clinics
 pub mod Canonical
 pub mod Examples

@@ -1,5 +1,5 @@
 -- A second statement, proved equal.
--- What the laws of the index (proofs/IndexLaws.antt) say of its entries, without the reader's state: how many have a number, which line
+-- What the laws of the index (proofs/IndexLaws.antt, ClinicLaws.antt) say of its entries, without the reader's state: how many have a number, which line
 -- an entry cuts out of the file, and the last entry of a number and group among those before another.
 use Prim.Native.Nat.{ℕ, _+_}
 use mathlib.Core.Path.{_≡_}

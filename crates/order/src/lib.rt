@@ -98,7 +98,7 @@ fn in_rest(p: u32) -> bool
     (p == 401) | (p == 411) | (p == 501) | (p == 601)
 }
 
-fn in_group(p: u32) -> bool
+pub fn in_group(p: u32) -> bool
     ensures { λ r. ⌜ r ≡ inGroup p ⌝ }
 {
     in_front(p) | (p == 55) | in_rp(p) | in_rest(p)

@@ -148,3 +148,15 @@ abbrev pub allReached : Bool
 allReached =
     reached checkNumbers checks && reached writingNumbers indexes && reached writingNumbers canonicals && reached cutNumbers cuts
     && reached joinNumbers joins
+
+-- ---- document 02, (v): an index that IndexIn (notebook, specs/Clinics.antt) has, in an output of one number more than it needs
+
+-- a group with a 51 and a doctor, one with neither, and a 701
+abbrev pub clinicFile : List ℕ
+clinicFile =
+    behind1 (patient ∷ bytes "5,20160411,1" ∷ bytes "51,x,,,,1" ∷ bytes "55,x,,1" ∷ bytes "201,1,x,1,x,1,,1" ∷ bytes "5,20160411,1" ∷ bytes "701,x,x,x,,,1" ∷ [])
+
+abbrev pub itsOutput : List ℕ
+itsOutput =
+    1 ∷ 13 ∷ 21 ∷ 0 ∷ 0 ∷ 0 ∷ 0 ∷ 5 ∷ 36 ∷ 12 ∷ 1 ∷ 0 ∷ 0 ∷ 0 ∷ 51 ∷ 50 ∷ 9 ∷ 1 ∷ 0 ∷ 0 ∷ 4 ∷ 55 ∷ 61 ∷ 7 ∷ 1 ∷ 0 ∷ 0 ∷ 4 ∷ 201 ∷ 70 ∷ 16 ∷ 1 ∷ 5 ∷ 0 ∷ 4
+    ∷ 5 ∷ 88 ∷ 12 ∷ 2 ∷ 0 ∷ 0 ∷ 0 ∷ 701 ∷ 102 ∷ 13 ∷ 0 ∷ 0 ∷ 0 ∷ 0 ∷ 9 ∷ []

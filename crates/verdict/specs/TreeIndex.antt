@@ -1,22 +1,22 @@
 -- A second statement, proved equal.
--- What is claimed of the index: it is the one read off the tree of a file's records (grammar, specs/TreeRows.antt), and no two groups share a
--- doctor. Names of proofs/TreeIndexLaws.antt have the types: `index-is-the-trees`, `tree-shares-none`, `no-shared-doctor`.
+-- What is claimed of the index: it is the one read off the tree of a file's records (grammar, specs/TreeRows.antt), its clinics too, and no two groups
+-- share a doctor. Names of proofs/TreeIndexLaws.antt have the types: `index-is-the-trees`, `tree-shares-none`, `no-shared-doctor`.
 use Prim.Native.Nat.{ℕ}
 use mathlib.Core.Path.{_≡_}
 use mathlib.Core.List.{List, _∷_, _++_, map}
 use Rattle.lists.specs.Lists.{ok}
 use Rattle.notebook.specs.Facts.{factsOf}
 use Rattle.notebook.specs.Notebook.{Notebook, readFile}
-use Rattle.notebook.specs.Index.{Entry, entriesOf}
+use Rattle.notebook.specs.Index.{Entry, entriesOf, Listed, listOf}
 use Rattle.grammar.specs.Grammar.{Tree, records}
-use Rattle.grammar.specs.TreeRows.{TreeRow, treeRow, treeRows}
+use Rattle.grammar.specs.TreeRows.{TreeRow, visit, treeRow, treeRows}
 
-abbrev pub entryRow : Entry → TreeRow
-entryRow e = treeRow (e .number) (e .group) (e .doctor) (e .drug)
+abbrev pub entryRow : Listed → TreeRow
+entryRow x = let e = x .entry in treeRow (e .number) (visit (e .group) (x .clinic)) (e .doctor) (e .drug)
 
 -- the entries of an accepted file are those of every tree of its records
 abbrev pub IndexIsTheTrees : Type 0
-IndexIsTheTrees = (s : List ℕ) (b : Notebook) (t : Tree) → readFile s ≡ ok b → records t ≡ map factsOf (b .records) → map entryRow (entriesOf s) ≡ treeRows t
+IndexIsTheTrees = (s : List ℕ) (b : Notebook) (t : Tree) → readFile s ≡ ok b → records t ≡ map factsOf (b .records) → map entryRow (listOf s) ≡ treeRows t
 
 -- a row of the list
 pub data Among (x : TreeRow) : List TreeRow → Type 0 where

@@ -1,6 +1,7 @@
 use borrow.Author.Needs.{needs}
 use native.Mathlib.Omega.{arith}
 use Rattle.answers.proofs.Lines.{digits-few, digits-wrote}
+use Rattle.printing.proofs.Decimal.{decimal-twenty}
 use Rattle.answers.proofs.put_decimal.Statement.{statement}
 use Rattle.answers.proofs.put_decimal.Tie as tie
 use Rattle.answers.proofs.put_decimal.Reads as reads
@@ -28,7 +29,9 @@ same-length c = search needs
 returns : tie.Need-returns
 returns c =
     let d = c .before .before .before .before .before in
-    digits-wrote _ (d .before .before .before .args .n) (d .decimal .ensures .1 .0) (d .decimal .ensures .1 .1) (c .before .before .put-all .ensures)
+    let n = d .before .before .before .args .n in
+    let w = digits-wrote _ n (d .decimal .ensures .1 .0) (d .decimal .ensures .1 .1) (c .before .before .put-all .ensures) in
+    (w, omega (arith, decimal-twenty n (omega arith), w .next))
 
 pub put-decimal-spec : {M : Type 1} → statement M
 put-decimal-spec =

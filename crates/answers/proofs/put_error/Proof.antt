@@ -1,8 +1,7 @@
 use borrow.Author.Needs.{needs}
 use mathlib.Core.List.{[], _∷_}
 use lib.ListN.{take}
-use native.Mathlib.Omega.{arith}
-use Rattle.answers.proofs.Lines.{numbers-short, error-room, line-wrote, front-counts}
+use Rattle.answers.proofs.Lines.{line-wrote, front-counts}
 use Rattle.buffers.proofs.Runs.{then}
 use Rattle.lists.specs.Lists.{bytes}
 use Rattle.answers.proofs.put_error.Statement.{statement}
@@ -26,11 +25,7 @@ put-numbers-requires : tie.Need-put-numbers-requires
 put-numbers-requires c κs = search needs
 
 put-byte-requires : tie.Need-put-byte-requires
-put-byte-requires c κs =
-    let s = c .before .before .before .before .before .before .before .before .before .args in
-    error-room (take (s .count) (s .k ∷ 0 ∷ 0 ∷ [])) (c .before .before .before .before .before .put-all .ensures)
-    (c .before .before .before .put-all2 .ensures) (c .before .put-numbers .ensures) (omega arith) (omega arith)
-    (numbers-short (s .k) 0 0 (omega arith) (omega arith) (omega arith) (s .count)) (omega arith)
+put-byte-requires c κs = search needs
 
 returns : tie.Need-returns
 unfolding bytes
@@ -39,8 +34,8 @@ returns c =
     let w₂ = w₃ .before .before in
     let w₁ = w₂ .before .before in
     let s = w₁ .before .before .before .before .args in
-    let w = line-wrote (take (s .count) (s .k ∷ 0 ∷ 0 ∷ [])) (then (w₁ .put-all .ensures) (w₂ .put-all2 .ensures)) (w₃ .put-numbers .ensures)
-    (c .put-byte .ensures) in
+    let w = line-wrote (take (s .count) (s .k ∷ 0 ∷ 0 ∷ [])) (then (w₁ .put-all .ensures) (w₂ .put-all2 .ensures))
+    (w₃ .put-numbers .ensures .0) (c .put-byte .ensures) in
     (w, front-counts w)
 
 pub put-error-spec : {M : Type 1} → statement M

@@ -1,9 +1,7 @@
 use borrow.Author.Needs.{needs}
-use mathlib.Core.Path.{refl}
 use mathlib.Core.List.{[], _∷_}
 use lib.ListN.{take}
-use native.Mathlib.Omega.{arith}
-use Rattle.answers.proofs.Lines.{numbers-short, end-room, line-wrote}
+use Rattle.answers.proofs.Lines.{line-wrote}
 use Rattle.answers.proofs.put_line.Statement.{statement}
 use Rattle.answers.proofs.put_line.Tie as tie
 use Rattle.answers.proofs.put_line.Reads as reads
@@ -19,11 +17,7 @@ put-numbers-requires : tie.Need-put-numbers-requires
 put-numbers-requires c κs = search needs
 
 put-byte-requires : tie.Need-put-byte-requires
-put-byte-requires c κs =
-    let s = c .before .before .before .before .before .before .before .before .before .before .before .args in
-    end-room (take (s .count) ((s .a) ∷ (s .b) ∷ (s .c) ∷ [])) (c .before .before .before .before .before .before .before .put-all .ensures)
-    (c .before .before .before .put-numbers .ensures) refl (omega arith) (numbers-short (s .a) (s .b) (s .c) (omega arith) (omega arith) (omega arith)
-    (s .count)) (omega arith)
+put-byte-requires c κs = search needs
 
 same-length : tie.Need-same-length
 same-length c = search needs
@@ -33,7 +27,7 @@ returns c =
     let s = c .before .before .before .before .before .before .before .before .before .before .before .before .before .before .args in
     line-wrote (take (s .count) ((s .a) ∷ (s .b) ∷ (s .c) ∷ []))
     (c .before .before .before .before .before .before .before .before .before .before .put-all .ensures)
-    (c .before .before .before .before .before .before .put-numbers .ensures) (c .before .before .put-byte .ensures)
+    (c .before .before .before .before .before .before .put-numbers .ensures .0) (c .before .before .put-byte .ensures)
 
 pub put-line-spec : {M : Type 1} → statement M
 put-line-spec =

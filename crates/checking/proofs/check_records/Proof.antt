@@ -3,6 +3,7 @@ use Prim.Native.Nat.{_-_}
 use lib.ListN.{length}
 use Rattle.checking.proofs.CheckLaws.{Reading, reading-laws}
 use Rattle.scanning.specs.Scans.{Sixteen}
+use Rattle.order.specs.State.{start}
 use Rattle.checking.proofs.check_records.Statement.{statement}
 use Rattle.checking.proofs.check_records.Tie as tie
 use Rattle.checking.proofs.check_records.Reads as reads
@@ -12,7 +13,7 @@ use Rattle.checking.proofs.read_record.Reads as read-record-reads
 use Rattle.order.proofs.State.new.Reads as new-reads
 
 abbrev Inv-loop : tie.InvT-loop
-Inv-loop codes stops₀ provider s from st₀ at₀ stops st at = Reading provider s from st at × Sixteen stops
+Inv-loop codes stops₀ provider s from st₀ at₀ stops st at = Reading (start provider) s from st at × Sixteen stops
 
 abbrev μ-loop : tie.MeasureT-loop
 μ-loop codes stops₀ provider s from st₀ at₀ stops st at = length s - at

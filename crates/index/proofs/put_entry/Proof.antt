@@ -4,7 +4,8 @@ use Rattle.index.proofs.put_entry.Statement.{statement}
 use Rattle.index.proofs.put_entry.Tie as tie
 use Rattle.index.proofs.put_entry.Reads as reads
 use Rattle.index.proofs.put_entry.Lts as lts
-use Rattle.buffers.proofs.put_six.Reads as put-six-reads
+use Rattle.buffers.proofs.put_seven.Reads as put-seven-reads
+use Rattle.index.proofs.clinic_of.Reads as clinic-of-reads
 use Rattle.order.proofs.State.drug.Reads as drug-reads
 use Rattle.order.proofs.State.group.Reads as group-reads
 
@@ -23,14 +24,17 @@ group-requires c κs = search needs
 drug-requires : tie.Need-drug-requires
 drug-requires c κs = search needs
 
-put-six-requires : tie.Need-put-six-requires
-put-six-requires c κs = search (needs, entry-room, entry-written)
+clinic-of-requires : tie.Need-clinic-of-requires
+clinic-of-requires c κs = search needs
+
+put-seven-requires : tie.Need-put-seven-requires
+put-seven-requires c κs = search (needs, entry-room)
 
 same-length : tie.Need-same-length
 same-length c = search needs
 
 returns : tie.Need-returns
-returns c = search (needs, entry-room, entry-written)
+returns c = search (needs, entry-written)
 
 pub put-entry-spec : {M : Type 1} → statement M
 put-entry-spec =
@@ -41,6 +45,7 @@ put-entry-spec =
     cast-bytes
     group-requires
     drug-requires
-    put-six-requires
+    clinic-of-requires
+    put-seven-requires
     same-length
     returns)

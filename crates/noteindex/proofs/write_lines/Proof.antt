@@ -13,7 +13,7 @@ use Rattle.answers.proofs.write_output.Reads as write-output-reads
 use Rattle.noteindex.proofs.put_record.Reads as put-record-reads
 
 abbrev Inv-loop : tie.InvT-loop
-Inv-loop entries first end text₀ at₀ number₀ text at number = (length text ≡ 8064) × (at + 126 * first ≤ 126 * number) × (first ≤ number) × (number ≤ end)
+Inv-loop entries first end text₀ at₀ number₀ text at number = (length text ≡ 9408) × (at + 147 * first ≤ 147 * number) × (first ≤ number) × (number ≤ end)
 
 abbrev μ-loop : tie.MeasureT-loop
 μ-loop entries first end text₀ at₀ number₀ text at number = end - number

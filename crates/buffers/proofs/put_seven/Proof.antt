@@ -4,17 +4,17 @@ use mathlib.Core.Path.{_≡_, refl}
 use native.Mathlib.Omega.{arith}
 use native.Mathlib.Numerals.{add-one}
 use lib.ListN.{length-set}
-use Rattle.buffers.specs.Entries.{six}
-use Rattle.buffers.proofs.put_six.Statement.{statement}
-use Rattle.buffers.proofs.put_six.Tie as tie
-use Rattle.buffers.proofs.put_six.Reads as reads
-use Rattle.buffers.proofs.put_six.Lts as lts
+use Rattle.buffers.specs.Entries.{sevenNumbers}
+use Rattle.buffers.proofs.put_seven.Statement.{statement}
+use Rattle.buffers.proofs.put_seven.Tie as tie
+use Rattle.buffers.proofs.put_seven.Reads as reads
+use Rattle.buffers.proofs.put_seven.Lts as lts
 
 mul-out : tie.Need-mul-out
 mul-out c = search needs
 
 slice-write-out : tie.Need-slice-write-out
-unfolding six
+unfolding sevenNumbers
 slice-write-out c = search needs
 
 add-out : tie.Need-add-out
@@ -24,7 +24,7 @@ mul-out-2 : tie.Need-mul-out-2
 mul-out-2 c = search needs
 
 slice-write-out-2 : tie.Need-slice-write-out-2
-unfolding six
+unfolding sevenNumbers
 slice-write-out-2 c = simp length-set (omega arith)
 
 add-out-2 : tie.Need-add-out-2
@@ -34,7 +34,7 @@ mul-out-3 : tie.Need-mul-out-3
 mul-out-3 c = search needs
 
 slice-write-out-3 : tie.Need-slice-write-out-3
-unfolding six
+unfolding sevenNumbers
 slice-write-out-3 c = simp length-set (omega arith)
 
 add-out-3 : tie.Need-add-out-3
@@ -44,7 +44,7 @@ mul-out-4 : tie.Need-mul-out-4
 mul-out-4 c = search needs
 
 slice-write-out-4 : tie.Need-slice-write-out-4
-unfolding six
+unfolding sevenNumbers
 slice-write-out-4 c = simp length-set (omega arith)
 
 add-out-4 : tie.Need-add-out-4
@@ -54,7 +54,7 @@ mul-out-5 : tie.Need-mul-out-5
 mul-out-5 c = search needs
 
 slice-write-out-5 : tie.Need-slice-write-out-5
-unfolding six
+unfolding sevenNumbers
 slice-write-out-5 c = simp length-set (omega arith)
 
 add-out-5 : tie.Need-add-out-5
@@ -64,8 +64,18 @@ mul-out-6 : tie.Need-mul-out-6
 mul-out-6 c = search needs
 
 slice-write-out-6 : tie.Need-slice-write-out-6
-unfolding six
+unfolding sevenNumbers
 slice-write-out-6 c = simp length-set (omega arith)
+
+add-out-6 : tie.Need-add-out-6
+add-out-6 c = search needs
+
+mul-out-7 : tie.Need-mul-out-7
+mul-out-7 c = search needs
+
+slice-write-out-7 : tie.Need-slice-write-out-7
+unfolding sevenNumbers
+slice-write-out-7 c = simp length-set (omega arith)
 
 add-result : tie.Need-add-result
 add-result c = search needs
@@ -74,16 +84,17 @@ same-length : tie.Need-same-length
 same-length c = search needs
 
 returns : tie.Need-returns
-unfolding six
+unfolding sevenNumbers
 returns c = let at = c .args .at in
     let e2 : at + 2 ≡ suc (suc at) = omega arith in
     let e3 : at + 3 ≡ suc (suc (suc at)) = omega arith in
     let e4 : at + 4 ≡ suc (suc (suc (suc at))) = omega arith in
     let e5 : at + 5 ≡ suc (suc (suc (suc (suc at)))) = omega arith in
-    record { next = refl; list = rw (e5, e4, e3, e2, add-one); size = simp length-set; high = omega arith }
+    let e6 : at + 6 ≡ suc (suc (suc (suc (suc (suc at))))) = omega arith in
+    record { next = refl; list = rw (e6, e5, e4, e3, e2, add-one); size = simp length-set; high = omega arith }
 
-pub put-six-spec : {M : Type 1} → statement M
-put-six-spec =
+pub put-seven-spec : {M : Type 1} → statement M
+put-seven-spec =
     tie.close
     (tie.spec
     mul-out
@@ -103,6 +114,9 @@ put-six-spec =
     add-out-5
     mul-out-6
     slice-write-out-6
+    add-out-6
+    mul-out-7
+    slice-write-out-7
     add-result
     same-length
     returns)
