@@ -1,10 +1,12 @@
-"""Lists that are told in more than one place: refusals, records, calls and eras. One place has each, and every other must have the same.
+"""Lists that are told in more than one place: refusals, records, calls, eras and the numbers of an index entry. One place has each, and every
+other must have the same.
 
     refusals    the table of docs/OPERATING.md; the numbers of each call: refusals/specs/Refusals.antt
     calls       the exports of gateway/src/lib.rt, with the definitions that their contracts cite
     records     records/specs/Paper.antt, document 01's own text
     eras        eras/specs/Era.antt; the oracle is also held to these rows day by day. Of the sentences on eras, the ranges in docs/OPERATING.md
                 and the letters in README.md are read
+    entries     ENTRY in tests/oracle.py. The most records of a file follow from the shortest record that the table of records allows
 
 Prints each difference with its file and what is expected there; exit status 1 if there is one, or if a place cannot be read: a form that finds
 nothing is a fault, so that no place is left out in silence. Run it from anywhere: python3 tests/agree.py
@@ -638,6 +640,93 @@ def compare_eras(eras):
             written(eras))
 
 
+# ---- the numbers of an index entry
+
+# How the help says the fields of an entry that are lines.
+IN_HELP = {"record": "number", "doctor": "line of the doctor's 55", "drug": "line of the drug's 201", "clinic": "line of the clinic's 51"}
+IN_WORDS = "none one two three four five six seven eight nine ten".split()
+
+# The least bytes of an item that is not empty; of one with listed values, those of the shortest.
+LEAST = {"N": 1, "U": 1, "X": 1, "A": 1, "F": 2, "C": 7, "P": 7, "R": 1, "W": 1, "Q": 1, "D": 7}
+
+
+def least_bytes(number, items):
+    """The shortest line of a record, its line end included: with what is required in both directions, each item after a comma."""
+    found = len(str(number)) + 2
+    for item in items.split():
+        values = re.fullmatch(r"\{(.+)\}.", item)
+        least = min(map(len, values[1].split(","))) if values else LEAST[item[0]]
+        found += 1 + (least if item.endswith("!") else 0)
+    return found
+
+
+def entry_of_oracle(_):
+    return list(imported("oracle").ENTRY)
+
+
+def constants_of_index(text):
+    return rows(every(r"^    (NOTEBOOK_(?:ENTRY_NUMBERS|RECORDS_MAX|INDEX_MAX)) = ([\d* ]+),", text))
+
+
+def counts_of_comment(text):
+    """What the header's comment of the call says of the numbers of a record. `plain` takes the star from `7 * a` too."""
+    comment = plain(one(r"/\*((?:[^*]|\*(?!/))*)\*/\nstruct notebook_reply notebook_index\(", text))
+    return {"for each record": one(r"(\w+) numbers for each record", comment),
+            "up to": one(r"out\[0\] to out\[(\d+) a - 1\] are the index", comment),
+            "20": one(r"out_length is less than (\w+) times the records", comment)}
+
+
+def fields_in_help(text):
+    return numbered(one(r"a line for each record: ([^.;]+)[.;]", plain(text)).split(", "))
+
+
+def fields_in_readme(text):
+    """The names in "the record's number, its offset and bytes in the file, .." """
+    return numbered(every(r"(?:record's |its |(?<=offset )and )(\w+)", one(r"^\| index \| gives \w+ numbers for each record: (.+) \|$", text)))
+
+
+def fields_in_definition(text):
+    return numbered(every(r"\([ex] \.(\w+)\)", one(r"^entryNumbers x = (.+)$", text)))
+
+
+def arrays_of_program(text):
+    return {"numbers": ", ".join(sorted(set(every(r"(?:u32|0u32); (\d+)\]", text))))}
+
+
+def numbers_of_oracle(_):
+    """How many it gives of a file with one record."""
+    return {"count": len(imported("oracle").entries(imported("call_cases").SMALL))}
+
+
+def numbers_of_case(text):
+    return {"count": len(one(r"^index: 37 bytes, exactly: ok 1;((?: \d+)+)$", text).split())}
+
+
+def compare_entries(entry, records):
+    count, in_words = len(entry), IN_WORDS[len(entry)]
+    most = imported("oracle").LIMIT // min(least_bytes(*record) for record in records.items())
+    row = f"{count} numbers a record, at most {most:,} records: {count * most:,} numbers"
+    compare("tests/oracle.py", "the numbers of an entry", numbers_of_oracle, {"count": count})
+    compare("crates/cases/stdout", "the numbers of an entry", numbers_of_case, {"count": count})
+    compare(HEADER, "the limits of an index", constants_of_index,
+            {"NOTEBOOK_ENTRY_NUMBERS": f"{count}", "NOTEBOOK_RECORDS_MAX": f"{most}", "NOTEBOOK_INDEX_MAX": f"{count} * {most}"})
+    compare(HEADER, "the comment of notebook_index", counts_of_comment,
+            {"for each record": in_words, "up to": f"{count}", "20": in_words})
+    compare(OPERATING, "the limit of an index",
+            lambda text: {"row": one(r"^\| output of index \| ([^|]+) \| `NOTEBOOK_INDEX_MAX` \|$", text)}, {"row": row})
+    compare(README, "the numbers of an entry",
+            lambda text: {"count": one(r"^\| index \| gives (\w+) numbers for each record", text)}, {"count": in_words})
+    named = numbered("number" if name == "record" else name for name in entry)
+    compare(README, "the names of an entry's numbers", fields_in_readme, named)
+    compare("docs/PROMISES.md", "when index is short", lambda text: {"count": one(r"then 20 where (\w+) numbers a record are more", plain(text))},
+            {"count": in_words})
+    compare("crates/notebook/specs/Index.antt", "the numbers of an entry", fields_in_definition, named)
+    compare("crates/noteindex/src/main.rt", "the length of its index", arrays_of_program, {"numbers": f"{count * most}"})
+    compare(CRATE + "src/lib.rs", "the fields of Entry",
+            lambda text: numbered(every(r"^    pub (\w+): u32,$", block("pub struct Entry {\n", "\n}", text))), numbered(entry))
+    compare(COMMAND + "help.txt", "the numbers of an entry", fields_in_help, numbered(IN_HELP.get(name, name) for name in entry))
+
+
 # ---- all of it
 
 
@@ -649,7 +738,7 @@ def source(file, read):
         sys.exit(f"{file}: cannot be read: {why}")
 
 
-def parts(refusals, exports, records, eras):
+def parts(refusals, exports, records, eras, entry):
     lists, about = source(PROMISES, lists_of), source(PROMISES, rows_of_about)
     calls = calls_of(exports)
     return [
@@ -662,20 +751,22 @@ def parts(refusals, exports, records, eras):
         lambda: compare_promises(exports, calls, about),
         lambda: compare_records(records),
         lambda: compare_eras(eras),
+        lambda: compare_entries(entry, records),
     ]
 
 
 def main():
     refusals, exports = source(OPERATING, refusals_of), source(GATEWAY, exports_of)
     records, eras = source("crates/records/specs/Paper.antt", items_of_paper), source("crates/eras/specs/Era.antt", eras_of)
-    for part in parts(refusals, exports, records, eras):
+    entry = source("tests/oracle.py", entry_of_oracle)
+    for part in parts(refusals, exports, records, eras, entry):
         try:
             part()
         except Unreadable as why:
             FAULTS.append(f"cannot be read: {why}")
     for fault in FAULTS:
         print(fault)
-    counts = f"{len(refusals)} refusals, {len(records)} records, {len(calls_of(exports))} calls, {len(eras)} eras"
+    counts = f"{len(refusals)} refusals, {len(records)} records, {len(calls_of(exports))} calls, {len(eras)} eras, {len(entry)} numbers of an entry"
     print(f"agree: {counts}, in {len(PLACES)} places" + (f"; {len(FAULTS)} differences" if FAULTS else ""))
     return 1 if FAULTS else 0
 

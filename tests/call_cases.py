@@ -26,7 +26,7 @@ LETTERS = {"index": "i", "canonical": "c", "cut": "k", "join": "j"}
 ANSWERED = ["index", "canonical", "cut", "join"]
 
 MOST_BYTES = 140000
-MOST_NUMBERS = 12000
+MOST_NUMBERS = 57344
 SHOWN = 200
 
 # The buffers before a call.
@@ -130,21 +130,24 @@ SMALL = to_provider(PATIENT) + b"\x1a"
 SMALL_CANONICAL = to_provider("1,A,1,H010108,,,,,,,")
 
 # The examples of 15-106 that check accepts, as make_cases has them, with lines
-# counted by hand: ranges of lines in a group, with a doctor, with a drug.
+# counted by hand: ranges of lines in a group, with a doctor, a drug, a clinic.
 EXAMPLES = [
-    ("example 1", [(3, 12, 1)], [], []),
-    ("example 2", [(3, 20, 1)], [], []),
-    ("example 3, code kind 2", [(3, 26, 1)], [(8, 25, 7)], [(9, 9, 8), (11, 11, 10)]),
-    ("example 4", [(3, 26, 1)], [(8, 20, 7), (22, 25, 21)], []),
-    ("example 5", [(3, 11, 1)], [], []),
-    ("example 6", [(3, 11, 1)], [], []),
-    ("example 7, with a contact", [(7, 16, 1)], [(12, 15, 11)], [(13, 13, 12)]),
-    ("example 8", [(3, 6, 1)], [], []),
-    ("example 9", [(3, 10, 1), (11, 20, 2)], [], []),
-    ("example 10", [(3, 12, 1)], [], []),
+    ("example 1", [(3, 12, 1)], [], [], [(5, 12, 5)]),
+    ("example 2", [(3, 20, 1)], [], [], [(5, 20, 5)]),
+    ("example 3, code kind 2", [(3, 26, 1)], [(8, 25, 7)], [(9, 9, 8), (11, 11, 10)],
+     [(6, 26, 6)]),
+    ("example 4", [(3, 26, 1)], [(8, 20, 7), (22, 25, 21)], [], [(6, 26, 6)]),
+    ("example 5", [(3, 11, 1)], [], [], []),
+    ("example 6", [(3, 11, 1)], [], [], []),
+    ("example 7, with a contact", [(7, 16, 1)], [(12, 15, 11)], [(13, 13, 12)],
+     [(10, 16, 10)]),
+    ("example 8", [(3, 6, 1)], [], [], []),
+    ("example 9", [(3, 10, 1), (11, 20, 2)], [], [], [(6, 10, 6), (14, 20, 14)]),
+    ("example 10", [(3, 12, 1)], [], [], [(5, 12, 5)]),
     ("example 11, the 401 moved, with a contact", [(10, 18, 1), (19, 32, 2)], [],
-     [(15, 15, 14), (24, 24, 23)]),
+     [(15, 15, 14), (24, 24, 23)], [(13, 18, 13), (22, 32, 22)]),
 ]
+EXAMPLE_LABELS = [label for label, *_ in EXAMPLES]
 
 # One day in each entry, in every spelling that is read; first the one that is
 # written. The ends of the day type and of every era.
@@ -243,29 +246,232 @@ def at_line(ranges, line):
     return sum(value for first, last, value in ranges if first <= line <= last)
 
 
-def entries(content, groups, doctors=(), drugs=()):
+def entries(content, groups, doctors=(), drugs=(), clinics=()):
     """The index, with these ranges of lines for what a line alone does not tell."""
     found, offset = [], 0
     for line, text in enumerate(content.split(b"\r\n")[:-1], 1):
         if line > 1:
-            found += [int(text.partition(b",")[0]), offset, len(text),
-                      at_line(groups, line), at_line(doctors, line), at_line(drugs, line)]
+            found += [int(text.partition(b",")[0]), offset, len(text)]
+            found += [at_line(ranges, line) for ranges in (groups, doctors, drugs, clinics)]
         offset += len(text) + 2
     return found
 
 
-def index():
-    def given(label, content, groups, doctors=(), drugs=(), each=in_buffers):
-        result = entries(content, groups, doctors, drugs)
-        each("index", label, content, "%d" % (len(result) // 6), result)
+def clinics(given):
+    """02 (v): "the line of the group's 51, or 0 where none has yet stood in that group"."""
+    rp = [drug(), note(281), note(291), usage(), note(311), note(391)]
+    after = ["401,x,1", ADVICE, "501,x,1", "601,x,"]
+    head = [PATIENT, GOOD[2], GOOD[3], GOOD[4]]
 
-    in_buffers("index", "37 bytes", SMALL, "1", [1, 13, 21, 0, 0, 0])
-    in_buffers("index", "35 bytes", SMALL_CANONICAL, "1", [1, 13, 20, 0, 0, 0])
+    # Every number by hand: the 51 itself, and a 281 with doctor, drug and clinic.
+    in_buffers("index", "a 51 at the end", to_provider(PATIENT, DATE, PRESCRIBER), "3",
+               [1, 13, 21, 0, 0, 0, 0, 5, 36, 12, 1, 0, 0, 0, 51, 50, 12, 1, 0, 0, 4])
+    in_buffers("index", "a clinic, its doctor and its drug",
+               to_provider(PATIENT, DATE, PRESCRIBER, DOCTOR, drug(), note(281)), "6",
+               [1, 13, 21, 0, 0, 0, 0, 5, 36, 12, 1, 0, 0, 0, 51, 50, 12, 1, 0, 0, 4,
+                55, 64, 7, 1, 0, 0, 4, 201, 73, 16, 1, 5, 0, 4, 281, 91, 9, 1, 5, 6, 4])
+
+    # In one group: 0 before the 51, its line from there on, whatever the record.
+    given("5, 11 and 15 before the 51",
+          to_provider(PATIENT, DATE, PHARMACY, GOOD[15], PRESCRIBER, *after),
+          [(3, 10, 1)], clinics=[(6, 10, 6)])
+    given("5, 11 and 15 before a 51 at the end",
+          to_provider(PATIENT, DATE, PHARMACY, GOOD[15], PRESCRIBER),
+          [(3, 6, 1)], clinics=[(6, 6, 6)])
+    given("every record of an RP, with a 51 and a doctor",
+          to_provider(PATIENT, DATE, PRESCRIBER, DOCTOR, *rp),
+          [(3, 11, 1)], [(6, 11, 5)], [(7, 8, 6)], [(4, 11, 4)])
+    given("every record of an RP, with a 51 and no doctor",
+          to_provider(PATIENT, DATE, PRESCRIBER, *rp),
+          [(3, 10, 1)], [], [(6, 7, 5)], [(4, 10, 4)])
+    given("every record of an RP, with an 11 and no 51",
+          to_provider(PATIENT, DATE, PHARMACY, DOCTOR, *rp),
+          [(3, 11, 1)], [(6, 11, 5)], [(7, 8, 6)])
+    given("after the prescriptions, with a 51",
+          to_provider(PATIENT, DATE, PRESCRIBER, DOCTOR, drug(), *after),
+          [(3, 10, 1)], [(6, 6, 5)], clinics=[(4, 10, 4)])
+    for line in after:
+        given("51 then %s twice" % line.partition(",")[0],
+              to_provider(PATIENT, DATE, PRESCRIBER, line, line),
+              [(3, 6, 1)], clinics=[(4, 6, 4)], each=accepted)
+    given("further doctors keep the clinic",
+          to_provider(PATIENT, DATE, PRESCRIBER, DOCTOR, drug(1), usage(1), drug(2), DOCTOR,
+                      drug(3), note(281, 3), DOCTOR, drug(4), "601,x,"),
+          [(3, 14, 1)], [(6, 8, 5), (10, 11, 9), (13, 13, 12)], [(11, 11, 10)], [(4, 14, 4)])
+    given("all that stands before the groups", to_provider(*head, DATE, PRESCRIBER),
+          [(6, 7, 1)], clinics=[(7, 7, 7)])
+    given("no groups", to_provider(*head, KEEPER, KEEPER), [])
+    given("51 as a text",
+          to_provider("1,51,1,19890108,,,51,,51,,", "2,1,51,2", "3,51,,,2", "4,51,,2", DATE,
+                      "11,51,,,,,,51,1", "15,51,51,1", "55,51,51,1", "201,1,51,51,51,2,51,1",
+                      "501,51,1", "601,51,", "701,51,51,51,,,1"),
+          [(6, 12, 1)], [(10, 10, 9)])
+
+    # From group to group: a 5 begins with 0 again, and so does a 701.
+    given("a 51 in group 1 only", to_provider(PATIENT, DATE, PRESCRIBER, *rp, DATE, *rp),
+          [(3, 10, 1), (11, 17, 2)], [], [(6, 7, 5), (13, 14, 12)], [(4, 10, 4)])
+    given("a 51 in group 2 only", to_provider(PATIENT, DATE, *rp, DATE, PRESCRIBER, *rp),
+          [(3, 9, 1), (10, 17, 2)], [], [(5, 6, 4), (13, 14, 12)], [(11, 17, 11)])
+    given("a 51 in groups 1 and 3",
+          to_provider(PATIENT, DATE, PRESCRIBER, DATE, "601,x,", DATE, PHARMACY, PRESCRIBER,
+                      "601,x,"),
+          [(3, 4, 1), (5, 6, 2), (7, 10, 3)], clinics=[(4, 4, 4), (9, 10, 9)])
+    given("a 51 in each group",
+          to_provider(PATIENT, DATE, PRESCRIBER, drug(), DATE, PHARMACY, GOOD[15], PRESCRIBER,
+                      drug(), note(281), DATE, PRESCRIBER),
+          [(3, 5, 1), (6, 11, 2), (12, 13, 3)], [], [(11, 11, 10)],
+          [(4, 5, 4), (9, 11, 9), (13, 13, 13)])
+    given("a 51 at the end of a group", to_provider(PATIENT, DATE, PRESCRIBER, DATE),
+          [(3, 4, 1), (5, 5, 2)], clinics=[(4, 4, 4)])
+    given("a doctor in group 1, a 51 in group 2",
+          to_provider(PATIENT, DATE, DOCTOR, drug(), DATE, PRESCRIBER, drug()),
+          [(3, 5, 1), (6, 8, 2)], [(5, 5, 4)], clinics=[(7, 8, 7)])
+    given("a 51 in group 1, a doctor in group 2",
+          to_provider(PATIENT, DATE, PRESCRIBER, drug(), DATE, DOCTOR, drug()),
+          [(3, 5, 1), (6, 8, 2)], [(8, 8, 7)], clinics=[(4, 5, 4)])
+    given("groups with nothing in them after a 51",
+          to_provider(PATIENT, DATE, PRESCRIBER, DATE, DATE, KEEPER),
+          [(3, 4, 1), (5, 5, 2), (6, 6, 3)], clinics=[(4, 4, 4)])
+    given("701s right after a 51", to_provider(PATIENT, DATE, PRESCRIBER, KEEPER, KEEPER),
+          [(3, 4, 1)], clinics=[(4, 4, 4)])
+    given("701s after a group with clinic and doctor",
+          to_provider(PATIENT, DATE, PRESCRIBER, DOCTOR, drug(), "601,x,", KEEPER, KEEPER),
+          [(3, 7, 1)], [(6, 6, 5)], clinics=[(4, 7, 4)])
+    given("701s after a group without, after one with a 51",
+          to_provider(PATIENT, DATE, PRESCRIBER, DATE, "601,x,", KEEPER),
+          [(3, 4, 1), (5, 6, 2)], clinics=[(4, 4, 4)])
+
+    # Direction 1, where a 51 is followed by 55 or 201.
+    given("a pharmacy's group with every record",
+          to_patient(PATIENT, DATE, PHARMACY, GOOD[15], PRESCRIBER, DOCTOR, *rp, *after, KEEPER),
+          [(3, 17, 1)], [(8, 13, 7)], [(9, 10, 8)], [(6, 17, 6)])
+    given("a pharmacy, then a hospital",
+          to_patient(DATE, PHARMACY, PRESCRIBER, drug(), usage(), DATE, HOSPITAL, drug(),
+                     usage()),
+          [(2, 6, 1), (7, 10, 2)], clinics=[(4, 6, 4)])
+    given("a hospital, then a pharmacy",
+          to_patient(DATE, HOSPITAL, drug(), usage(), DATE, PHARMACY, PRESCRIBER, drug(),
+                     usage()),
+          [(2, 5, 1), (6, 10, 2)], clinics=[(8, 10, 8)])
+    given("a pharmacy's group without RP between two",
+          to_patient(DATE, PHARMACY, PRESCRIBER, drug(), usage(), DATE, PHARMACY, ADVICE,
+                     DATE, PHARMACY, PRESCRIBER, DOCTOR, drug(), usage(), KEEPER),
+          [(2, 6, 1), (7, 9, 2), (10, 15, 3)], [(14, 15, 13)], [], [(4, 6, 4), (12, 15, 12)])
+
+    # Lines of one to four digits, on both sides of a byte; and with 1A.
+    for line in (4, 9, 10, 99, 100, 255, 256, 257, 999, 1000, 1001, 1700):
+        content = to_provider(PATIENT, *["4,x,,2"] * (line - 4), DATE, PRESCRIBER, DOCTOR,
+                              drug(), note(281))
+        ranges = ([(line - 1, line + 3, 1)], [(line + 2, line + 3, line + 1)],
+                  [(line + 3, line + 3, line + 2)], [(line, line + 3, line)])
+        given("a 51 in line %d" % line, content, *ranges, each=accepted)
+        given("a 51 in line %d, 1A" % line, content + b"\x1a", *ranges, each=accepted)
+    for label, lines in [("a 51 at the end", [PRESCRIBER]),
+                         ("a 701 after a 51", [PRESCRIBER, KEEPER])]:
+        given(label + ", with 1A", to_provider(PATIENT, DATE, *lines) + b"\x1a",
+              [(3, 4, 1)], clinics=[(4, 4, 4)], each=accepted)
+
+    # Many records after one 51, and many 51s.
+    given("1000 remarks after a 51",
+          to_provider(PATIENT, DATE, PRESCRIBER, DOCTOR, drug(), *[note(281)] * 500,
+                      *[note(291)] * 500),
+          [(3, 1006, 1)], [(6, 1006, 5)], [(7, 1006, 6)], [(4, 1006, 4)])
+    given("500 groups of a 51 alone", to_provider(PATIENT, *[DATE, PRESCRIBER] * 500),
+          [(2 * g + 1, 2 * g + 2, g) for g in range(1, 501)],
+          clinics=[(2 * g + 2, 2 * g + 2, 2 * g + 2) for g in range(1, 501)], each=accepted)
+    # A group of three lines with a 51, then one of two without; the first is line 3.
+    starts = range(3, 3 + 5 * 150, 5)
+    given("300 groups, every other with a 51",
+          to_provider(PATIENT, *[DATE, PRESCRIBER, drug(), DATE, drug()] * 150),
+          [(at, at + 2, 2 * pair + 1) for pair, at in enumerate(starts)]
+          + [(at + 3, at + 4, 2 * pair + 2) for pair, at in enumerate(starts)],
+          clinics=[(at + 1, at + 2, at + 1) for at in starts], each=accepted)
+
+
+def rooms_of_four_records():
+    """02 (v): "The index buffer needs seven numbers a record": 28 for four."""
+    content = to_provider(PATIENT, DATE, PRESCRIBER, "601,x,")
+    result = [1, 13, 21, 0, 0, 0, 0, 5, 36, 12, 1, 0, 0, 0,
+              51, 50, 12, 1, 0, 0, 4, 601, 64, 6, 1, 0, 0, 4]
+    for room in range(28):
+        refused("index", "four records, %d numbers" % room, content, "no 20 0", room=room)
+    for room in (28, 29, 34, 35, 199, 200, 201, 12000):
+        accepted("index", "four records, %d numbers" % room, content, "4", result,
+                 spare=room - 28)
+    # The most records with a 51, which is the last line: 24 bytes are the group's, 65,531 in all.
+    most = to_provider("1,A,1,H010108,,,,,,,", *["4,x,,2"] * 8184, "5,H280411,1", "51,x,,,,1")
+    assert len(most) == 65531
+    result = [1, 13, 20, 0, 0, 0, 0]
+    for at in range(8184):
+        result += [4, 35 + 8 * at, 6, 0, 0, 0, 0]
+    result += [5, 65507, 11, 1, 0, 0, 0, 51, 65520, 9, 1, 0, 0, 8188]
+    assert len(result) == 57309
+    accepted("index", "8187 records, exactly", most, "8187", result, spare=0)
+    refused("index", "8187 records, one short", most, "no 20 0", room=57308)
+    # The last of so many records, a 4 after the 51, is refused.
+    stray = to_provider("1,A,1,H010108,,,,,,,", *["4,x,,2"] * 8183, "5,H280411,1", "51,x,,,,1", "4,x,,2")
+    refused("index", "13 after 8186 records", stray, "no 13 8188", room=57344)
+
+
+def around_64_records():
+    """Counts of records around 64, 128 and 192: clinic, doctor and drug go on to the last record, and
+    a refusal after it leaves the whole buffer."""
+    for count in (62, 63, 64, 65, 66, 127, 128, 129, 130, 191, 192, 193):
+        # 1, 5, 51, 55, 201, then 281s up to the count.
+        remarks = count - 5
+        content = to_provider(PATIENT, DATE, PRESCRIBER, DOCTOR, drug(), *[note(281)] * remarks)
+        last = count + 1
+        result = entries(content, [(3, last, 1)], [(6, last, 5)], [(7, last, 6)], [(4, last, 4)])
+        in_buffers("index", "%d records" % count, content, "%d" % count, result)
+        # With one more, which may not stand there.
+        refused("index", "13 after %d records" % count, content + b"4,x,,2\r\n",
+                "no 13 %d" % (count + 2), room=7 * count + 30)
+        # The group's 5, 51, 55 and 201 as the last of so many records.
+        for behind, name in enumerate(["5", "51", "55", "201"]):
+            fours = count - 2 - behind
+            content = to_provider(PATIENT, *["4,x,,2"] * fours, DATE, PRESCRIBER, DOCTOR, drug(),
+                                  note(291))
+            at = fours + 3
+            result = entries(content, [(at, at + 4, 1)], [(at + 3, at + 4, at + 2)],
+                             [(at + 4, at + 4, at + 3)], [(at + 1, at + 4, at + 1)])
+            accepted("index", "a %s as record %d" % (name, count), content,
+                     "%d" % (fours + 6), result)
+
+
+def refused_with_clinics():
+    """A fault of the file comes before 20, and no number of the buffer is changed."""
+    for label, content, answer in [
+        ("16 after a group with a 51",
+         to_provider(PATIENT, "5,20160410,1", PRESCRIBER, drug(), "5,20160411,1", PRESCRIBER),
+         "no 16 6"),
+        ("15 after a 51", to_provider(PATIENT, DATE, PRESCRIBER, drug(2)), "no 15 5"),
+        ("14, a 51 at the end, direction 1", to_patient(DATE, PHARMACY, PRESCRIBER), "no 14 5"),
+        ("14, a 51 and a 55 at the end", to_provider(PATIENT, DATE, PRESCRIBER, DOCTOR),
+         "no 14 6"),
+        ("13, a second 51", to_provider(PATIENT, DATE, PRESCRIBER, PRESCRIBER), "no 13 5"),
+        ("13, a 51 after a 201", to_provider(PATIENT, DATE, drug(), PRESCRIBER), "no 13 5"),
+        ("13, a 51 before the groups", to_provider(PATIENT, PRESCRIBER, DATE), "no 13 3"),
+        ("13, a 51 after a 701", to_provider(PATIENT, DATE, KEEPER, PRESCRIBER), "no 13 5"),
+        ("13, an 11 after a 51", to_provider(PATIENT, DATE, PRESCRIBER, PHARMACY), "no 13 5"),
+        ("11 in a 51", to_provider(PATIENT, DATE, "51,x,48,1,,1", DOCTOR, drug()), "no 11 4"),
+    ]:
+        records = content.count(b"\n") - 1
+        for room in (6 * records, 7 * records - 1, 7 * records, 7 * records + 30):
+            refused("index", "%s, %d numbers" % (label, room), content, answer, room=room)
+
+
+def index():
+    def given(label, content, groups, doctors=(), drugs=(), clinics=(), each=in_buffers):
+        result = entries(content, groups, doctors, drugs, clinics)
+        each("index", label, content, "%d" % (len(result) // 7), result)
+
+    in_buffers("index", "37 bytes", SMALL, "1", [1, 13, 21, 0, 0, 0, 0])
+    in_buffers("index", "35 bytes", SMALL_CANONICAL, "1", [1, 13, 20, 0, 0, 0, 0])
     in_buffers("index", "three records", to_provider(PATIENT, DATE, "601,x,"), "3",
-               [1, 13, 21, 0, 0, 0, 5, 36, 12, 1, 0, 0, 601, 50, 6, 1, 0, 0])
-    for label, groups, doctors, drugs in EXAMPLES:
-        given(label, check_case(label), groups, doctors, drugs)
-    for room in (1, 5, 6, 7, 11):
+               [1, 13, 21, 0, 0, 0, 0, 5, 36, 12, 1, 0, 0, 0, 601, 50, 6, 1, 0, 0, 0])
+    for label, *ranges in EXAMPLES:
+        given(label, check_case(label), *ranges)
+    for room in (1, 6, 7, 8, 11, 12, 13):
         refused("index", "two records, %d numbers" % room,
                 to_provider(PATIENT, "4,x,,2"), "no 20 0", room=room)
 
@@ -303,12 +509,16 @@ def index():
     for direction in (1, 2):
         given("every record, direction %d" % direction,
               file(direction, *(GOOD[number] for number in NUMBERS)),
-              [(6, 20, 1)], [(11, 16, 10)], [(12, 13, 11)])
+              [(6, 20, 1)], [(11, 16, 10)], [(12, 13, 11)], [(9, 20, 9)])
     given("direction 1 without record 1", to_patient(DATE, HOSPITAL, ADVICE), [(2, 4, 1)])
     given("a pharmacy's groups",
           to_patient(DATE, PHARMACY, PRESCRIBER, DOCTOR, drug(), usage(), DATE, PHARMACY,
                      PRESCRIBER, drug(), usage(), KEEPER),
-          [(2, 7, 1), (8, 12, 2)], [(6, 7, 5)])
+          [(2, 7, 1), (8, 12, 2)], [(6, 7, 5)], [], [(4, 7, 4), (10, 12, 10)])
+    clinics(given)
+    rooms_of_four_records()
+    around_64_records()
+    refused_with_clinics()
 
     # Spellings: offsets and lengths are the file's own.
     for one in itertools.chain(*DAYS):
@@ -321,11 +531,10 @@ def index():
     for rp in ("1", "01", "001"):
         given("every RP is %s" % rp, every_value(rp, "5"), [(3, 9, 1)], [], [(5, 6, 4)],
               each=accepted)
-    given("items that look like days", ALIKE, [(6, 20, 1)], [(11, 16, 10)], [(12, 13, 11)])
-    for content, label in [(ALIKE, "with"), (to_provider(PATIENT, DATE), "small, with")]:
-        groups = [(6, 20, 1)] if content == ALIKE else [(3, 3, 1)]
-        doctors, drugs = ([(11, 16, 10)], [(12, 13, 11)]) if content == ALIKE else ([], [])
-        given(label + " 1A", content + b"\x1a", groups, doctors, drugs, each=accepted)
+    of_alike = [(6, 20, 1)], [(11, 16, 10)], [(12, 13, 11)], [(9, 20, 9)]
+    given("items that look like days", ALIKE, *of_alike)
+    given("with 1A", ALIKE + b"\x1a", *of_alike, each=accepted)
+    given("small, with 1A", to_provider(PATIENT, DATE) + b"\x1a", [(3, 3, 1)], each=accepted)
     for size in (1, 2, 61, 62):
         given("%d bytes of wide text" % (2 * size),
               to_provider(PATIENT, "4," + "薬" * size + ",,2", "4,x,,2"), [], each=accepted)
@@ -343,7 +552,7 @@ def index():
 
     of_check("index")
     for label, content, _ in spread(check_cases()["ok"], 160):
-        told("index", "check's %s" % label, content, 6 * content.count(b"\n"))
+        told("index", "check's %s" % label, content, 7 * content.count(b"\n"))
 
 
 # =============================================================================
@@ -412,7 +621,7 @@ def canonical():
         accepted("canonical", "37 bytes, buffer of %d" % room, SMALL, "35", SMALL_CANONICAL,
                  spare=room - 35)
     # The examples have these two spellings that are not canonical.
-    for label, _, _, _ in EXAMPLES:
+    for label in EXAMPLE_LABELS:
         content = check_case(label)
         result = content.replace(b"19580303", b"S330303").replace(b"105-0004", b"1050004")
         given(label, content, result, in_buffers)
@@ -645,7 +854,7 @@ def cut():
     for capacity in (110, 111, 112, 150, 200, 256, 300, 500, 600, 700, 1000, 1200, 1300, 1400,
                      65536):
         told("cut", "example 4, %d" % capacity, fourth, 4000, capacity, ID)
-    for label, _, _, _ in EXAMPLES:
+    for label in EXAMPLE_LABELS:
         content = check_case(label)
         whole = content.replace(b"19580303", b"S330303").replace(b"105-0004", b"1050004")
         given(label + ", whole", content, len(whole), [whole])
@@ -972,7 +1181,7 @@ def join():
         given("check's %s" % label, any_pieces(lines, at), b"\r\n".join(lines) + b"\r\n")
 
     # What cutting makes of the examples, from the last piece to the first.
-    for label, _, _, _ in EXAMPLES:
+    for label in EXAMPLE_LABELS:
         content = check_case(label)
         whole = content.replace(b"19580303", b"S330303").replace(b"105-0004", b"1050004")
         for capacity in (len(whole) - 1, 180):

@@ -1,5 +1,5 @@
 """A plain reading of document 01 with the requests of document 02 that have
-landed ((i), Reiwa), for comparing with the gateway.
+landed ((i), Reiwa; (v), the clinic in the index), for comparing with the gateway.
 
 check(data) answers ("ok", records, groups, drugs) or ("no", number, line).
 Whatever a record's standing depends on is found by looking back over the list
@@ -13,9 +13,10 @@ count no lengths ahead.
 """
 
 import datetime
+import functools
 import re
 import unicodedata
-from collections import namedtuple
+from collections import Counter, namedtuple
 
 LIMIT = 65536
 
@@ -391,6 +392,8 @@ def record_fault(direction, before, line):
     return None, rec
 
 
+# A file is checked once, whatever is then asked of it.
+@functools.cache
 def check(data):
     if len(data) > LIMIT:
         return ("no", 1, 0)
@@ -436,26 +439,30 @@ def lines_of(data):
     return data.split(b"\r\n")[:-1]
 
 
-def last_line(numbers, wanted):
-    """The line of the last record of this number, or 0; record 1 is line 2."""
-    return max([at + 2 for at, number in enumerate(numbers) if number == wanted], default=0)
+# The numbers of an entry, in their order.
+ENTRY = "record offset bytes group doctor drug clinic".split()
+
+
+def in_group(last, number):
+    """The line of the last such record if it is in the open group, which began with the last 5;
+    else 0. 02 (v): "or 0 where none has yet stood in that group". A 701 is in no group."""
+    return last[number] if last[number] > last[5] and not last[701] else 0
 
 
 def entries(data):
-    """Six numbers for each record of an accepted file."""
+    """The numbers of ENTRY for each record of an accepted file."""
     found = []
-    numbers = []  # of the records before this one
+    last = Counter()  # the line of the last record of each number, or 0
+    groups = 0
     offset = len(b"JAHISTC04,1\r\n")
-    for line in lines_of(data)[1:]:
+    for at, line in enumerate(lines_of(data)[1:], 2):
         number = int(line.split(b",")[0])
-        group = (numbers + [number]).count(5) if number != 701 else 0
-        doctor = drug = 0
-        if 201 <= number <= 391 and last_line(numbers, 55) > last_line(numbers, 5):
-            doctor = last_line(numbers, 55)
-        if number in (281, 291):
-            drug = last_line(numbers, 201)
-        found += [number, offset, len(line), group, doctor, drug]
-        numbers.append(number)
+        groups += number == 5
+        doctor = in_group(last, 55) if 201 <= number <= 391 else 0
+        drug = last[201] if number in (281, 291) else 0
+        last[number] = at  # "The record 51 itself shows its own line"
+        group = groups if not last[701] else 0
+        found += [number, offset, len(line), group, doctor, drug, in_group(last, 51)]
         offset += len(line) + 2
     return found
 

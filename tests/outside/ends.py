@@ -43,6 +43,7 @@ COMMAND = [
     ("notebook check visit.csv", "<&- >&- 2>&-", 2, "", ""),
     ("notebook index visit.csv", ">/dev/full", 2, "", NO_OUTPUT),
     ("notebook index visit.csv", ">&-", 2, "", NO_OUTPUT),
+    ("notebook index --clinic 7 visit.csv", ">/dev/full", 2, "", NO_OUTPUT),
     ("notebook canonical visit.csv", ">/dev/full", 2, "", NO_OUTPUT),
     ("notebook canonical visit.csv", ">&-", 2, "", NO_OUTPUT),
     (CUT + " visit.csv", ">/dev/full", 2, "", NO_OUTPUT),

@@ -16,7 +16,8 @@ PIECE_LINES = "".join("%s: %d\n" % (name, len(held)) for name, held in numbered(
 PARTS = {"p%d" % k: held for k, held in enumerate(PIECES, 1)}
 PART_NAMES = " ".join(PARTS)
 DOTTED = {"p.%d" % k: held for k, held in enumerate(PIECES, 1)}
-INDEX = "1 13 21 0 0 0\n4 36 6 0 0 0\n"
+INDEX = "1 13 21 0 0 0 0\n4 36 6 0 0 0 0\n"
+CLINIC = SMALL + b"5,20160411,1\r\n51,x,,,1234567,1\r\n"
 BASE64 = "SkFISVNUQzA0LDINCjEsQSwxLEgwMTAxMDgsLCwsLCwsDQo="
 
 
@@ -70,6 +71,7 @@ READING = [
     Job("notebook check --files0-from list", {"list": b"a.csv\0c.csv\0", "a.csv": SMALL, "c.csv": notes(1)},
         out=b"a.csv: ok 1 0 0\nc.csv: ok 2 0 0\n"),
     Job("notebook index a.csv", {"a.csv": notes(1)}, out=("a.csv: ok 2\n" + INDEX).encode()),
+    Job("notebook index --clinic-code 1234567 a.csv", {"a.csv": CLINIC}, out=b"a.csv: ok 3\n51 50 16 1 0 0 4\n"),
     Job("notebook canonical a.csv", {"a.csv": SMALL}, out=SMALL_CANONICAL),
     Job("notebook canonical -", given=SIX, out=canonical(SIX)),
     Job("notebook canonical b.csv", {"b.csv": REFUSED}, status=1, err=b"b.csv: no 3 1: version\n"),

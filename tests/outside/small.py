@@ -206,7 +206,7 @@ def error_in_json(row, folder):
 def options_in_help(folder):
     done = run("notebook --help", folder)
     has_status(done, 0)
-    for option_name in ("--quiet", "--summary", "--files0-from", "--name", "--output"):
+    for option_name in ("--quiet", "--summary", "--files0-from", "--name", "--output", "--clinic LINE", "--clinic-code CODE"):
         holds("no %s in the help" % option_name, option_name.encode() in done.out)
 
 
