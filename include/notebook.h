@@ -27,10 +27,11 @@ extern "C" {
 
 /*
  * The version of this header: the major, the minor and the patch as text, and as major * 10000 + minor * 100 + patch. notebook_version
- * tells that of the library; a host may compare the two, to see that they are of one version.
+ * tells that of the library. A host should compare the two before other calls: a library of another version may fill an output otherwise
+ * than is said here, as the entries of an index grew with 0.4.0.
  */
-#define NOTEBOOK_VERSION_STRING "0.3.0"
-#define NOTEBOOK_VERSION_NUMBER 300
+#define NOTEBOOK_VERSION_STRING "0.4.0"
+#define NOTEBOOK_VERSION_NUMBER 400
 
 /* Limits. */
 enum {
@@ -42,9 +43,9 @@ enum {
 
 /* Outputs of these sizes are never too short (NOTEBOOK_REFUSED_SHORT is then not given). */
 enum {
-    NOTEBOOK_ENTRY_NUMBERS = 6,     /* numbers of a record in an index */
+    NOTEBOOK_ENTRY_NUMBERS = 7,     /* numbers of a record in an index */
     NOTEBOOK_RECORDS_MAX = 8192,    /* no record is shorter than 8 bytes, its line end included */
-    NOTEBOOK_INDEX_MAX = 6 * 8192,  /* numbers of an index, of 4 bytes each */
+    NOTEBOOK_INDEX_MAX = 7 * 8192,  /* numbers of an index, of 4 bytes each */
     NOTEBOOK_CANONICAL_MAX = 65536, /* bytes: a canonical file is never longer than the file */
     NOTEBOOK_CUT_MAX = 106482,      /* bytes: the records, and at most 41 more in each of 999 pieces */
     NOTEBOOK_JOIN_MAX = 65536       /* bytes: the joined file is within the limit of a file */
@@ -111,11 +112,12 @@ struct notebook_reply {
 struct notebook_reply notebook_check(const uint8_t *file, size_t file_length);
 
 /*
- * Writes the index of a file, six numbers for each record in the file's order: record number; offset of its line in the file, from 0; its
- * bytes without the line end; ordinal of its group, 0 outside groups; for 201 to 391 the line of the last 55 before it in its group, or
- * 0; for 281 and 291 the line of the last 201 before it, or 0. out_length counts numbers, not bytes.
- * Result: a records; out[0] to out[6 * a - 1] are the index, the numbers after them are as they were.
- * Refusals: 1 to 16; then 20 if out_length is less than six times the records. out is as it was.
+ * Writes the index of a file, seven numbers for each record in the file's order: record number; offset of its line in the file, from 0; its
+ * bytes without the line end; ordinal of its group, 0 outside groups; for 201 to 391 the line of the last 55 before it in its group (the
+ * doctor), or 0; for 281 and 291 the line of the last 201 before it (the drug), or 0; from the group's 51 on, itself included, the line of
+ * that 51 (the clinic), or 0 where none has yet stood in the group, and outside groups. out_length counts numbers, not bytes.
+ * Result: a records; out[0] to out[7 * a - 1] are the index, the numbers after them are as they were.
+ * Refusals: 1 to 16; then 20 if out_length is less than seven times the records. out is as it was.
  */
 struct notebook_reply notebook_index(const uint8_t *file, size_t file_length, uint32_t *out, size_t out_length);
 

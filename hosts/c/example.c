@@ -1,6 +1,7 @@
 /*
  * example [FILE [CAPACITY]]: checks a file, lists its drugs, makes it canonical, cuts it into pieces for a capacity, shuffles them and
- * joins them back. Ends with 0; with 1 where the gateway refuses the file; with 2 where the file cannot be read or the answer not written.
+ * joins them back. Ends with 0; with 1 where the gateway refuses the file; with 2 where the file cannot be read or the answer not written,
+ * or the library is of another version than its header.
  */
 #include <inttypes.h>
 #include <stdio.h>
@@ -77,8 +78,9 @@ static void list_drugs(uint64_t records)
     for (i = 0; i < records; i++) {
         const uint32_t *entry = entries + NOTEBOOK_ENTRY_NUMBERS * i;
         if (entry[0] == 201) {
-            printf("index: a drug in line %" PRIu64 ", bytes %" PRIu32 " to %" PRIu32 ", group %" PRIu32 ", doctor's line %" PRIu32 "\n",
-                   i + 2, entry[1], entry[1] + entry[2], entry[3], entry[4]);
+            printf("index: a drug in line %" PRIu64 ", bytes %" PRIu32 " to %" PRIu32 ", group %" PRIu32 ", doctor's line %" PRIu32
+                   ", clinic's line %" PRIu32 "\n",
+                   i + 2, entry[1], entry[1] + entry[2], entry[3], entry[4], entry[6]);
         }
     }
 }
@@ -127,8 +129,14 @@ static int visit(size_t length, uint64_t capacity)
 
 int main(int count, char **words)
 {
-    size_t length = read_file(1 < count ? words[1] : "samples/visit.csv");
-    int status = visit(length, 2 < count ? strtoull(words[2], NULL, 10) : 160);
+    size_t length;
+    int status;
+    if (notebook_version() != NOTEBOOK_VERSION_NUMBER) {
+        fprintf(stderr, "the library is of version %" PRIu64 ", its header of %d\n", notebook_version(), NOTEBOOK_VERSION_NUMBER);
+        return 2;
+    }
+    length = read_file(1 < count ? words[1] : "samples/visit.csv");
+    status = visit(length, 2 < count ? strtoull(words[2], NULL, 10) : 160);
     if (fflush(stdout) != 0 || ferror(stdout)) {
         perror("standard output");
         return 2;

@@ -92,7 +92,10 @@ static size_t add(const char *line)
     return length;
 }
 
-/* The inputs: memos to the limit; groups with prescriptions to the limit; a file over the limit; a file that is refused at its end. */
+/*
+ * The inputs: memos to the limit; groups with prescriptions to the limit; such groups, refused at the end; a file over the limit; memos to
+ * the limit, refused in a group after them.
+ */
 static void memos(size_t limit)
 {
     file_length = 0;
@@ -171,6 +174,9 @@ int main(void)
     add("601,p,\r\n601, p,\r\n");
     measure(nothing);
     memos(NOTEBOOK_FILE_MAX + 8);
+    measure(nothing);
+    memos(NOTEBOOK_FILE_MAX - 22);
+    add("5,20160411,1\r\n601, p,\r\n");
     measure(nothing);
 
     printf("a thread without a call: %lu bytes of stack; besides these:\n", (unsigned long)nothing);

@@ -201,7 +201,7 @@ static void small_file(void)
 {
     struct bytes file = text(LINE_1 PATIENT "\x1a");
     struct bytes canonical = text(LINE_1 CANONICAL_PATIENT);
-    uint32_t numbers[8];
+    uint32_t numbers[9];
     uint8_t *out = lend(40);
 
     HOLD(file.length == 37);
@@ -225,14 +225,81 @@ static void small_file(void)
     give_back(out);
 
     memset(numbers, 0x5a, sizeof numbers);
-    HOLD(refused(notebook_index(file.at, file.length, numbers, 5), NOTEBOOK_REFUSED_SHORT, 0));
-    HOLD(numbers[0] == 0x5a5a5a5a && numbers[5] == 0x5a5a5a5a);
-    HOLD(result(notebook_index(file.at, file.length, numbers, 7), 1, 0, 0));
+    HOLD(refused(notebook_index(file.at, file.length, numbers, 6), NOTEBOOK_REFUSED_SHORT, 0));
+    HOLD(numbers[0] == 0x5a5a5a5a && numbers[6] == 0x5a5a5a5a);
+    HOLD(result(notebook_index(file.at, file.length, numbers, 8), 1, 0, 0));
     HOLD(numbers[0] == 1 && numbers[1] == 13 && numbers[2] == 21);
-    HOLD(numbers[3] == 0 && numbers[4] == 0 && numbers[5] == 0);
-    HOLD(numbers[6] == 0x5a5a5a5a && numbers[7] == 0x5a5a5a5a);
+    HOLD(numbers[3] == 0 && numbers[4] == 0 && numbers[5] == 0 && numbers[6] == 0);
+    HOLD(numbers[7] == 0x5a5a5a5a && numbers[8] == 0x5a5a5a5a);
 
     free(canonical.at);
+    free(file.at);
+}
+
+/* Whether the numbers from an index on to the end are as they were filled. */
+static int numbers_kept(const uint32_t *numbers, size_t from, size_t to)
+{
+    size_t i;
+    for (i = from; i < to; i++) {
+        if (numbers[i] != 0x5a5a5a5a) {
+            return 0;
+        }
+    }
+    return 1;
+}
+
+/* Document 02's seventh number. The first record stands in line 2. */
+static void clinics(void)
+{
+    static const struct {
+        const char *record;
+        uint32_t entry[NOTEBOOK_ENTRY_NUMBERS];
+    } cases[] = {
+        {"1,A,1,19890108,,,,,,,\r\n", {1, 13, 21, 0, 0, 0, 0}},
+        {"5,20160411,2\r\n", {5, 36, 12, 1, 0, 0, 0}},
+        {"11,P,,,,,,,2\r\n", {11, 50, 12, 1, 0, 0, 0}},
+        {"15,N,,2\r\n", {15, 64, 7, 1, 0, 0, 0}},
+        {"51,H,,,,2\r\n", {51, 73, 9, 1, 0, 0, 6}},
+        {"55,D,,2\r\n", {55, 84, 7, 1, 0, 0, 6}},
+        {"201,1,X,1,g,,,2\r\n", {201, 93, 15, 1, 7, 0, 6}},
+        {"281,1,s,2\r\n", {281, 110, 9, 1, 7, 8, 6}},
+        {"301,1,u,,,,,,2\r\n", {301, 121, 14, 1, 7, 0, 6}},
+        {"55,E,,2\r\n", {55, 137, 7, 1, 0, 0, 6}},
+        {"201,2,X,1,g,,,2\r\n", {201, 146, 15, 1, 11, 0, 6}},
+        {"401,r,2\r\n", {401, 163, 7, 1, 0, 0, 6}},
+        {"601,p,\r\n", {601, 172, 6, 1, 0, 0, 6}},
+        /* A group without a 51 after one with it, and then one with its own. */
+        {"5,20160411,2\r\n", {5, 180, 12, 2, 0, 0, 0}},
+        {"201,1,X,1,g,,,2\r\n", {201, 194, 15, 2, 0, 0, 0}},
+        {"5,20160411,2\r\n", {5, 211, 12, 3, 0, 0, 0}},
+        {"51,H,,,,2\r\n", {51, 225, 9, 3, 0, 0, 18}},
+        {"501,m,2\r\n", {501, 236, 7, 3, 0, 0, 18}},
+        {"701,a,b,c,,,2\r\n", {701, 245, 13, 0, 0, 0, 0}},
+    };
+    enum { RECORDS = sizeof cases / sizeof cases[0], NUMBERS = NOTEBOOK_ENTRY_NUMBERS * RECORDS };
+    struct bytes file = text(LINE_1);
+    uint32_t numbers[NUMBERS + 2];
+    size_t length, i;
+    for (i = 0; i < RECORDS; i++) {
+        file = add(file, cases[i].record, strlen(cases[i].record));
+    }
+
+    /* Too short are six numbers a record, all lengths from there to one number less than seven, and none. */
+    memset(numbers, 0x5a, sizeof numbers);
+    for (length = 6 * RECORDS; length < NUMBERS; length++) {
+        HOLD(refused(notebook_index(file.at, file.length, numbers, length), NOTEBOOK_REFUSED_SHORT, 0));
+    }
+    HOLD(refused(notebook_index(file.at, file.length, numbers, 0), NOTEBOOK_REFUSED_SHORT, 0));
+    HOLD(numbers_kept(numbers, 0, NUMBERS + 2));
+
+    for (length = NUMBERS; length <= NUMBERS + 2; length++) {
+        memset(numbers, 0x5a, sizeof numbers);
+        HOLD(result(notebook_index(file.at, file.length, numbers, length), RECORDS, 0, 0));
+        for (i = 0; i < RECORDS; i++) {
+            HOLD(memcmp(numbers + NOTEBOOK_ENTRY_NUMBERS * i, cases[i].entry, sizeof cases[i].entry) == 0);
+        }
+        HOLD(numbers_kept(numbers, NUMBERS, NUMBERS + 2));
+    }
     free(file.at);
 }
 
@@ -468,7 +535,8 @@ static void limits(void)
     HOLD(file.length == NOTEBOOK_FILE_MAX);
     HOLD(result(notebook_check(file.at, file.length), 8188, 0, 0));
     HOLD(result(notebook_index(file.at, file.length, numbers, NOTEBOOK_INDEX_MAX), 8188, 0, 0));
-    HOLD(numbers[6 * 8187] == 4 && numbers[6 * 8187 + 1] == 65524 && numbers[6 * 8187 + 2] == 10);
+    HOLD(numbers[7 * 8187] == 4 && numbers[7 * 8187 + 1] == 65524 && numbers[7 * 8187 + 2] == 10);
+    HOLD(numbers[7 * 8187 + 6] == 0);
     HOLD(result(notebook_canonical(file.at, file.length, out, NOTEBOOK_CANONICAL_MAX), 65535, 0, 0));
 
     /* The smallest capacity that serves: as many pieces as there can be for this file. */
@@ -532,6 +600,7 @@ static void version(void)
 int main(void)
 {
     small_file();
+    clinics();
     days();
     cuttings();
     refusals();

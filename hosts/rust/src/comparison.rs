@@ -5,10 +5,10 @@ use crate::damage::Damage;
 use crate::division::{join_input, CutInput, MOST_PIECES_BYTES};
 use crate::faults::{faults, Fault};
 use crate::library::{replies, Reply, Told};
-use crate::ordinary;
+use crate::ordinary::{self, ENTRY_NUMBERS};
 use crate::random::Random;
 use crate::trial::{self, Difference, Filling};
-use std::collections::BTreeSet;
+use std::collections::{BTreeMap, BTreeSet};
 use std::fmt::Write;
 
 /// A call, the refusals that it can give, and how often it has given each; 0 counts the inputs that are accepted.
@@ -32,6 +32,7 @@ pub struct Comparison {
     /// How often each reason for 19 has stood alone; beside another one, a missing k does not count.
     faults: [u64; Fault::ALL.len()],
     days: Days,
+    clinics: Clinics,
     differences: u64,
     /// The first differences in words, with the whole inputs.
     pub shown: Vec<String>,
@@ -58,11 +59,12 @@ impl Comparison {
             ],
             faults: [0; Fault::ALL.len()],
             days: Days::default(),
+            clinics: Clinics::default(),
             differences: 0,
             shown: Vec::new(),
             files: Damage::default(),
             large: vec![0; MOST_PIECES_BYTES],
-            entries: vec![0; 6 * 8_192],
+            entries: vec![0; ordinary::MOST_NUMBERS],
         }
     }
 
@@ -102,7 +104,11 @@ impl Comparison {
             self.tell("check", &[file], &Difference { length: 0, ours, theirs, place: None });
         }
 
-        let needed = ordinary::index(file, &mut self.entries).ok().map(|records| 6 * records as usize);
+        let records = ordinary::index(file, &mut self.entries).ok();
+        let needed = records.map(|records| ENTRY_NUMBERS * records as usize);
+        if let Some(numbers) = needed {
+            self.clinics.count(self.entries[..numbers].as_chunks().0);
+        }
         self.call(
             (1, &mut random, needed),
             &[file],
@@ -191,7 +197,8 @@ impl Comparison {
         self.shown.push(text);
     }
 
-    /// What has not occurred though it can: refusals of a call, reasons for 19, and spellings of days.
+    /// What has not occurred though it can: refusals of a call, reasons for 19, spellings of days, and records and groups
+    /// with and without a clinic.
     pub fn missing(&self) -> Vec<String> {
         let mut missing = Vec::new();
         for tally in &self.tallies {
@@ -201,10 +208,12 @@ impl Comparison {
         let faults = Fault::ALL.iter().zip(self.faults).filter(|(_, count)| *count == 0);
         missing.extend(faults.map(|(fault, _)| format!("join: 19 has not occurred by {fault:?} alone")));
         missing.extend(self.days.missing());
+        missing.extend(self.clinics.missing());
         missing
     }
 
-    /// Tables of refusals by call, of the reasons for 19 and of days by letter, and the last line: inputs and differences.
+    /// Tables of refusals by call, of the reasons for 19, of days by letter and of clinics, and the last line: inputs and
+    /// differences.
     pub fn summary(&self) -> String {
         let names: String = self.tallies.iter().map(|tally| format!("{:>10}", tally.call)).collect();
         let mut text = format!("{:<10}{names}\n", "");
@@ -218,6 +227,9 @@ impl Comparison {
         }
         for (letter, [kept, changed]) in ('A'..='Z').zip(self.days.0).filter(|(_, counts)| *counts != [0; 2]) {
             let _ = writeln!(text, "days under {letter} {kept:>17}, and {changed} that are written under another letter");
+        }
+        for (what, [without, with], _) in self.clinics.rows() {
+            let _ = writeln!(text, "{what:<32}{without:>6} without a clinic, {with} with one");
         }
         for missing in self.missing() {
             let _ = writeln!(text, "{missing}");
@@ -268,6 +280,63 @@ fn letters_of_library() -> BTreeSet<(u8, bool)> {
     found
 }
 
+/// How often the index has shown no clinic, and one.
+#[derive(Default)]
+struct Clinics {
+    /// Records of groups, by number.
+    records: BTreeMap<u32, [u64; 2]>,
+    /// Groups after one without a clinic, and after one with a clinic.
+    groups: [[u64; 2]; 2],
+    /// Files with 701s, by what their last group had.
+    notes: [u64; 2],
+}
+
+/// The records of a group: those before its 51 have no clinic.
+const BEFORE_51: [u32; 3] = [5, 11, 15];
+const AFTER_51: [u32; 11] = [55, 201, 281, 291, 301, 311, 391, 401, 411, 501, 601];
+
+impl Clinics {
+    /// Counts what the index of an accepted file shows.
+    fn count(&mut self, entries: &[[u32; ENTRY_NUMBERS]]) {
+        let (group_of, has_clinic) = (|entry: &[u32; ENTRY_NUMBERS]| entry[3], |entry: &[u32; ENTRY_NUMBERS]| entry[6] > 0);
+        for entry in entries.iter().filter(|entry| group_of(entry) > 0) {
+            self.records.entry(entry[0]).or_default()[usize::from(has_clinic(entry))] += 1;
+        }
+        let groups = entries.chunk_by(|one, next| group_of(one) == group_of(next)).filter_map(<[_]>::last);
+        let groups: Vec<usize> =
+            groups.filter(|last| group_of(last) > 0).map(|last| usize::from(has_clinic(last))).collect();
+        for pair in groups.windows(2) {
+            self.groups[pair[0]][pair[1]] += 1;
+        }
+        if let (Some(&last), Some([701, ..])) = (groups.last(), entries.last()) {
+            self.notes[last] += 1;
+        }
+    }
+
+    /// What has been counted, without a clinic and with one, and whether each of the two can occur.
+    fn rows(&self) -> Vec<(String, [u64; 2], [bool; 2])> {
+        let records = |numbers: &[u32], possible| -> Vec<_> {
+            let counts = |number| self.records.get(number).copied().unwrap_or_default();
+            numbers.iter().map(|number| (format!("{number} in groups"), counts(number), possible)).collect()
+        };
+        let [after_none, after_one] = self.groups;
+        let others = [
+            ("group after one without a clinic".to_string(), after_none, [true; 2]),
+            ("group after one with a clinic".to_string(), after_one, [true; 2]),
+            ("701 after groups".to_string(), self.notes, [true; 2]),
+        ];
+        let before = records(&BEFORE_51, [true, false]);
+        [before, records(&[51], [false, true]), records(&AFTER_51, [true; 2]), others.to_vec()].concat()
+    }
+
+    fn missing(&self) -> impl Iterator<Item = String> + '_ {
+        self.rows().into_iter().flat_map(|(what, counts, possible)| {
+            let absent = [0, 1].into_iter().filter(move |&clinic| possible[clinic] && counts[clinic] == 0);
+            absent.map(move |clinic| format!("index: {what}: none {} a clinic", ["without", "with"][clinic]))
+        })
+    }
+}
+
 /// Bytes in hexadecimal, each row after its offset.
 fn hexadecimal(text: &mut String, bytes: &[u8]) {
     for (row, bytes) in bytes.chunks(16).enumerate() {
@@ -280,7 +349,8 @@ fn hexadecimal(text: &mut String, bytes: &[u8]) {
 
 #[cfg(test)]
 mod tests {
-    use super::{Comparison, Days};
+    use super::{Clinics, Comparison, Days};
+    use crate::ordinary::{index, MOST_NUMBERS};
     use std::fs;
     use std::path::Path;
 
@@ -288,7 +358,8 @@ mod tests {
     const INPUTS: u64 = 12_000;
 
     /// The gate's bounded comparison. Every refusal that a call can give, every reason for 19 and every era's letter must occur,
-    /// and one that is read after its era's end must occur there: a comparison that misses one shows nothing of it.
+    /// and one that is read after its era's end must occur there; so must every record of a group with and without a clinic,
+    /// and groups with and without one after each other: a comparison that misses one shows nothing of it.
     #[test]
     fn the_library_and_the_ordinary_implementation_answer_alike() {
         let mut comparison = Comparison::new(SEED);
@@ -311,6 +382,38 @@ mod tests {
         assert!(!missing(&days, newest) && missing(&days, late));
         days.count(b"5,H310501,1\r\n", b"5,R010501,1\r\n");
         assert!(!missing(&days, late));
+    }
+
+    #[test]
+    fn clinics_that_have_not_occurred_are_missing() {
+        let mut clinics = Clinics::default();
+        let mut missing_after = |records: &[&str]| {
+            let file = ["JAHISTC04,2", "1,A,1,19890108,,,,,,,"].iter().chain(records).map(|line| format!("{line}\r\n"));
+            let mut out = vec![0; MOST_NUMBERS];
+            let records = index(file.collect::<String>().as_bytes(), &mut out).expect("the file is accepted") as usize;
+            clinics.count(&out.as_chunks().0[..records]);
+            clinics.missing().map(|missing| missing.replace("index: ", "")).collect::<Vec<_>>()
+        };
+        let (day, clinic, report, note) = ("5,20160411,1", "51,b,,,,1", "501,x,1", "701,a,b,c,,,1");
+        let [own, same, other, none, last] = [
+            "51 in groups: none with a clinic",
+            "501 in groups: none with a clinic",
+            "group after one with a clinic: none with a clinic",
+            "group after one with a clinic: none without a clinic",
+            "701 after groups: none with a clinic",
+        ]
+        .map(String::from);
+
+        let missing = missing_after(&[day, report, note]);
+        assert!([&own, &same, &other, &none, &last].iter().all(|what| missing.contains(what)), "{missing:?}");
+        assert!(!missing.iter().any(|what| what == "501 in groups: none without a clinic"));
+
+        let missing = missing_after(&[day, clinic, report, day, clinic, note]);
+        assert!(![&own, &same, &other, &last].iter().any(|what| missing.contains(what)), "{missing:?}");
+        assert!(missing.contains(&none));
+
+        let missing = missing_after(&[day, clinic, day]);
+        assert!(!missing.contains(&none) && missing.iter().any(|what| what == "601 in groups: none with a clinic"));
     }
 
     /// The inputs that `fuzz/run` starts with.

@@ -35,6 +35,7 @@ impl Damage {
             1 => self.large.clone(),
             2..=9 => groups(&mut random),
             10..=31 => walk(&mut random),
+            32..=36 => clinics(&mut random),
             _ => self.small[random.below(self.small.len())].clone(),
         };
         if random.once_in(3) {
@@ -268,11 +269,43 @@ fn walk(random: &mut Random) -> Vec<u8> {
 
 /// Direction 2: a patient, and groups of nothing but their days.
 fn groups(random: &mut Random) -> Vec<u8> {
+    let numbers = [&[1][..], &[5].repeat(2 + random.below(9))].concat();
+    in_direction_2(random, &numbers)
+}
+
+/// Direction 2: a patient, groups with and without a clinic and any other record, and notes after them.
+fn clinics(random: &mut Random) -> Vec<u8> {
+    let mut numbers = vec![1];
+    for _ in 0..2 + random.below(5) {
+        numbers.push(5);
+        numbers.extend(some_of(random, &[11, 15, 51]));
+        if random.once_in(2) {
+            numbers.extend(some_of(random, &[55]));
+            numbers.push(201);
+            numbers.extend(some_of(random, &[281, 291]));
+            // A 311 stands only after a 301.
+            numbers.extend([&[][..], &[301], &[301, 311]][random.below(3)]);
+            numbers.extend(some_of(random, &[391]));
+        }
+        numbers.extend(some_of(random, &[401, 411, 501, 601]));
+    }
+    numbers.extend([701].repeat(random.below(3)));
+    in_direction_2(random, &numbers)
+}
+
+fn some_of(random: &mut Random, numbers: &[u16]) -> Vec<u16> {
+    numbers.iter().copied().filter(|_| random.once_in(2)).collect()
+}
+
+/// The records of these numbers in direction 2; the groups' days follow each other, and every RP is its group's first.
+fn in_direction_2(random: &mut Random, numbers: &[u16]) -> Vec<u8> {
     let mut day = near_a_beginning(random);
     let mut file = b"JAHISTC04,2\r\n".to_vec();
-    for number in [1].into_iter().chain([5].repeat(2 + random.below(9))) {
-        day = next_day(random, day);
-        file.extend_from_slice(&short_record(random, number, 0, day, &[]));
+    for &number in numbers {
+        if number == 5 {
+            day = next_day(random, day);
+        }
+        file.extend_from_slice(&short_record(random, number, 1, day, &["1", "3", "4", ""]));
         file.extend_from_slice(b"\r\n");
     }
     file

@@ -1,6 +1,7 @@
 //! `visit FILE`: checks a file, lists its drugs, makes it canonical, cuts it into pieces of 160 bytes and joins them from the
 //! last to the first.
 
+use notebook::Entry;
 use std::error::Error;
 use std::io::{self, Write};
 use std::process::ExitCode;
@@ -27,7 +28,8 @@ fn visit(out: &mut impl Write) -> Result<(), Box<dyn Error>> {
 
     // Record i stands in line i + 2: line 1 is the version.
     for (line, entry) in (2..).zip(notebook::index(&file)?).filter(|(_, entry)| entry.record == 201) {
-        writeln!(out, "index: a drug in line {line}, group {}, doctor's line {}", entry.group, entry.doctor)?;
+        let Entry { group, doctor, clinic, .. } = entry;
+        writeln!(out, "index: a drug in line {line}, group {group}, doctor's line {doctor}, clinic's line {clinic}")?;
     }
 
     let canonical = notebook::canonical(&file)?;

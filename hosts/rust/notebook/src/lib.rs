@@ -84,6 +84,9 @@ pub struct Entry {
     pub doctor: u32,
     /// For 281 and 291 the line of the last 201 before it, the drug; else 0.
     pub drug: u32,
+    /// From the group's 51 on, itself included, the line of that 51, the clinic; 0 where none has yet stood in the group,
+    /// and outside groups.
+    pub clinic: u32,
 }
 
 impl Entry {
@@ -152,6 +155,24 @@ pub fn check(file: &[u8]) -> Result<Checked, Refusal> {
 }
 
 /// The entries of a file's records, in order.
+///
+/// ```
+/// // A dispensing for the clinic of line 4, and one that names no clinic.
+/// let file = b"JAHISTC04,2\r\n1,A,1,19890108,,,,,,,\r\n\
+///     5,R060411,1\r\n51,B,13,1,7654321,1\r\n201,1,C,1,g,,,1\r\n501,D,1\r\n\
+///     5,R060410,1\r\n201,1,E,1,g,,,1\r\n";
+/// let entries = notebook::index(file)?;
+/// assert_eq!(entries.iter().map(|entry| entry.clinic).collect::<Vec<_>>(), [0, 0, 4, 4, 4, 0, 0]);
+///
+/// // The drugs of that clinic.
+/// let drugs = entries.iter().filter(|entry| entry.record == 201 && entry.clinic == 4);
+/// assert_eq!(drugs.filter_map(|drug| drug.of(file)).collect::<Vec<_>>(), [b"201,1,C,1,g,,,1"]);
+///
+/// // The clinic's own record.
+/// let clinic = notebook::at_line(&entries, 4).and_then(|clinic| clinic.of(file));
+/// assert_eq!(clinic, Some(&b"51,B,13,1,7654321,1"[..]));
+/// # Ok::<(), notebook::Refusal>(())
+/// ```
 pub fn index(file: &[u8]) -> Result<Vec<Entry>, Refusal> {
     // A file has fewer records than line ends.
     let mut entries = vec![Entry::default(); lines(file)];
@@ -163,6 +184,12 @@ pub fn index(file: &[u8]) -> Result<Vec<Entry>, Refusal> {
 /// Writes the entries of a file's records to the front of `out` and answers their count.
 pub fn index_into(file: &[u8], out: &mut [Entry]) -> Result<usize, Refusal> {
     written(raw::index(file, raw::numbers(out)))
+}
+
+/// The entry of the record in a line, as [`Entry::doctor`], [`Entry::drug`] and [`Entry::clinic`] name it, out of all entries
+/// of a file; `None` for 0 and for line 1, which is no record.
+pub fn at_line(entries: &[Entry], line: u32) -> Option<&Entry> {
+    entries.get(usize::try_from(line).ok()?.checked_sub(2)?)
 }
 
 /// The canonical file: days in the form of the newest era that has begun, postal codes without hyphen, RP numbers and
@@ -230,7 +257,7 @@ pub fn join_into(pieces: &[u8], out: &mut [u8]) -> Result<usize, Refusal> {
     written(raw::join(pieces, out))
 }
 
-/// The version of the library that is linked, as 10,000 times the major, 100 times the minor, and the patch: 200 is 0.2.0.
+/// The version of the library that is linked, as 10,000 times the major, 100 times the minor, and the patch: 400 is 0.4.0.
 #[inline]
 pub fn version() -> u64 {
     raw::version()
@@ -272,12 +299,40 @@ mod tests {
     fn entries_name_their_records() {
         let entries = index(FILE).expect("the file is accepted");
         assert_eq!(entries.len(), 4);
-        assert_eq!(entries[3], Entry { record: 4, offset: 52, bytes: 6, group: 0, doctor: 0, drug: 0 });
+        assert_eq!(entries[3], Entry { record: 4, offset: 52, bytes: 6, group: 0, doctor: 0, drug: 0, clinic: 0 });
         assert_eq!(entries[3].of(FILE), Some(&b"4,z,,2"[..]));
         assert_eq!(entries[3].of(b""), None);
         let mut three = [Entry { record: 7, ..Entry::default() }; 3];
         assert_eq!(index_into(FILE, &mut three).unwrap_err().reason, Reason::Short);
         assert!(three.iter().all(|entry| entry.record == 7));
+    }
+
+    #[test]
+    fn entries_lead_to_doctors_drugs_and_clinics() {
+        let file = b"JAHISTC04,2\r\n1,A,1,19890108,,,,,,,\r\n5,20160411,2\r\n51,B,,,,2\r\n55,C,,2\r\n201,1,D,1,g,,,2\r\n\
+                     281,1,E,2\r\n5,20160411,2\r\n501,F,2\r\n701,G,H,I,,,2\r\n";
+        let entries = index(file).expect("the file is accepted");
+        let numbers: Vec<[u32; 4]> =
+            entries.iter().map(|entry| [entry.record, entry.doctor, entry.drug, entry.clinic]).collect();
+        let expected = [
+            [1, 0, 0, 0],
+            [5, 0, 0, 0],
+            [51, 0, 0, 4],
+            [55, 0, 0, 4],
+            [201, 5, 0, 4],
+            [281, 5, 6, 4],
+            [5, 0, 0, 0],
+            [501, 0, 0, 0],
+            [701, 0, 0, 0],
+        ];
+        assert_eq!(numbers, expected);
+        let record = |line| at_line(&entries, line).and_then(|entry| entry.of(file));
+        let Entry { doctor, drug, clinic, .. } = entries[5];
+        assert_eq!(record(doctor), Some(&b"55,C,,2"[..]));
+        assert_eq!(record(drug), Some(&b"201,1,D,1,g,,,2"[..]));
+        assert_eq!(record(clinic), Some(&b"51,B,,,,2"[..]));
+        assert_eq!([0, 1, 11, u32::MAX].map(record), [None; 4]);
+        assert_eq!((record(2), record(10)), (Some(&b"1,A,1,19890108,,,,,,,"[..]), Some(&b"701,G,H,I,,,2"[..])));
     }
 
     #[test]

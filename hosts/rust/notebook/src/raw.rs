@@ -41,7 +41,10 @@ pub fn check(file: &[u8]) -> Reply {
     unsafe { notebook_check(file.as_ptr(), file.len()) }
 }
 
-/// `a` records; six numbers of each in `out`.
+/// The numbers of an index for one record, in the order of the fields of [`Entry`].
+pub const ENTRY_NUMBERS: usize = 7;
+
+/// `a` records; [`ENTRY_NUMBERS`] numbers of each in `out`.
 #[inline]
 pub fn index(file: &[u8], out: &mut [u32]) -> Reply {
     // SAFETY: the pointers are good for reading and writing their lengths, and a `&mut` overlaps with nothing.
@@ -79,12 +82,12 @@ pub fn version() -> u64 {
 
 /// Entries as the numbers that they consist of.
 pub(crate) fn numbers(entries: &mut [Entry]) -> &mut [u32] {
-    let length = entries.len() * 6;
-    // SAFETY: an entry is six u32 without padding (`repr(C)`), and any six numbers are an entry. A slice of entries has at
-    // most isize::MAX bytes, so the length does not overflow.
+    let length = entries.len() * ENTRY_NUMBERS;
+    // SAFETY: an entry is seven u32 without padding (`repr(C)`), and any seven numbers are an entry. A slice of entries has
+    // at most isize::MAX bytes, so the length does not overflow.
     unsafe { std::slice::from_raw_parts_mut(entries.as_mut_ptr().cast(), length) }
 }
 
-// It does not compile where an entry is anything else than six numbers.
-const _: [(); 6 * size_of::<u32>()] = [(); size_of::<Entry>()];
+// It does not compile where an entry is anything else than seven numbers.
+const _: [(); ENTRY_NUMBERS * size_of::<u32>()] = [(); size_of::<Entry>()];
 const _: [(); align_of::<u32>()] = [(); align_of::<Entry>()];

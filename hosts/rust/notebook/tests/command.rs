@@ -32,11 +32,128 @@ fn check_reads_no_more_than_it_needs() {
 #[test]
 fn index_a_file() {
     let (status, out, err) = run(&["index", "-"], &notes(1));
-    assert_eq!((status, &out[..], &err[..]), (0, "-: ok 2\n1 13 21 0 0 0\n4 36 6 0 0 0\n", ""));
-    let json = "{\"file\":\"-\",\"ok\":true,\"records\":2,\"index\":[[1,13,21,0,0,0],[4,36,6,0,0,0]]}\n";
+    assert_eq!((status, &out[..], &err[..]), (0, "-: ok 2\n1 13 21 0 0 0 0\n4 36 6 0 0 0 0\n", ""));
+    let json = "{\"file\":\"-\",\"ok\":true,\"records\":2,\"index\":[[1,13,21,0,0,0,0],[4,36,6,0,0,0,0]]}\n";
     assert_eq!(run(&["index", "--json", "-"], &notes(1)), (0, json.into(), "".into()));
     let refused = "samples/refused.csv: no 11 10: form\n";
     assert_eq!(run(&["index", "samples/refused.csv"], b""), (1, refused.into(), "".into()));
+}
+
+/// Groups of the clinics in the lines 4, 11, 13 and 16, two of them with one institution code and the last without, and a
+/// group without a clinic.
+const CLINICS: &str = "JAHISTC04,2
+1,A,1,19890108,,,,,,,
+5,20160411,2
+51,B,13,1,7654321,2
+55,C,,2
+201,1,D,1,g,,,2
+501,E,2
+5,20160410,2
+201,1,F,1,g,,,2
+5,20160409,2
+51,G,27,1,0412345,2
+5,20160408,2
+51,H,13,1,7654321,2
+401,I,2
+5,20160407,2
+51,J,,,,2
+701,K,L,M,,,2
+";
+
+const INDEX_OF_CLINICS: [&str; 16] = [
+    "1 13 21 0 0 0 0",
+    "5 36 12 1 0 0 0",
+    "51 50 19 1 0 0 4",
+    "55 71 7 1 0 0 4",
+    "201 80 15 1 5 0 4",
+    "501 97 7 1 0 0 4",
+    "5 106 12 2 0 0 0",
+    "201 120 15 2 0 0 0",
+    "5 137 12 3 0 0 0",
+    "51 151 19 3 0 0 11",
+    "5 172 12 4 0 0 0",
+    "51 186 19 4 0 0 13",
+    "401 207 7 4 0 0 13",
+    "5 216 12 5 0 0 0",
+    "51 230 9 5 0 0 16",
+    "701 241 13 0 0 0 0",
+];
+
+#[test]
+fn index_of_a_clinic() {
+    let file = CLINICS.replace('\n', "\r\n");
+    // The entries that each choice leaves, by their places.
+    let cases: [(&[&str], &[usize]); 11] = [
+        (&[], &[0, 1, 2, 3, 4, 5, 6, 7, 8, 9, 10, 11, 12, 13, 14, 15]),
+        (&["--clinic", "4"], &[2, 3, 4, 5]),
+        (&["--clinic=004"], &[2, 3, 4, 5]),
+        (&["--clinic", "13"], &[11, 12]),
+        (&["--clinic", "16"], &[14]),
+        (&["--clinic", "3"], &[]),
+        (&["--clinic", "8193"], &[]),
+        (&["--clinic-code", "7654321"], &[2, 3, 4, 5, 11, 12]),
+        (&["--clinic-code=0412345"], &[9]),
+        (&["--clinic-code", "0000000"], &[]),
+        (&["--clinic-code", "7654320"], &[]),
+    ];
+    for (options, places) in cases {
+        let entries: Vec<&str> = places.iter().map(|&place| INDEX_OF_CLINICS[place]).collect();
+        let text: String = entries.iter().map(|entry| format!("{entry}\n")).collect();
+        let words = [&["index"], options, &["-"]].concat();
+        assert_eq!(run(&words, file.as_bytes()), (0, format!("-: ok 16\n{text}"), "".into()), "{options:?}");
+        let arrays: Vec<String> = entries.iter().map(|entry| format!("[{}]", entry.replace(' ', ","))).collect();
+        let json = format!("{{\"file\":\"-\",\"ok\":true,\"records\":16,\"index\":[{}]}}\n", arrays.join(","));
+        assert_eq!(run(&[&words[..], &["--json"]].concat(), file.as_bytes()), (0, json, "".into()), "{options:?}");
+    }
+}
+
+#[test]
+fn index_of_a_clinic_in_many_files() {
+    let folder = folder("clinics");
+    write(folder.join("a.csv"), CLINICS.replace('\n', "\r\n"));
+    write(folder.join("b.csv"), SMALL);
+    write(folder.join("c.csv"), "JAHISTC03,2\r\n");
+    let told_of = |words: &[&str]| told(run_in(&folder, b"", &[&["index"], words, &["."]].concat()));
+    let answer = "./a.csv: ok 16\n51 151 19 3 0 0 11\n./b.csv: ok 1\n./c.csv: no 3 1: version\n";
+    assert_eq!(told_of(&["--clinic-code", "0412345"]), (1, answer.into(), "".into()));
+    assert_eq!(told_of(&["--clinic", "11"]), (1, answer.into(), "".into()));
+    let (status, out, _) = told_of(&["--clinic", "11", "--quiet", "--summary"]);
+    assert_eq!(status, 1);
+    assert!(out.starts_with("./c.csv: no 3 1: version\n3 files: 2 accepted, 1 refused, 0 failed\n"), "{out}");
+}
+
+#[test]
+fn clinics_that_can_not_be_asked_for() {
+    let lines = "--clinic is a line from 2 to 8193";
+    let code = "--clinic-code is seven digits";
+    let together = "--clinic and --clinic-code do not go together";
+    let cases: [(&[&str], &str); 19] = [
+        (&["index", "--clinic", "0"], lines),
+        (&["index", "--clinic", "1"], lines),
+        (&["index", "--clinic", "8194"], lines),
+        (&["index", "--clinic", "18446744073709551620"], lines),
+        (&["index", "--clinic", ""], lines),
+        (&["index", "--clinic", "+4"], lines),
+        (&["index", "--clinic=4x"], lines),
+        (&["index", "--clinic-code="], code),
+        (&["index", "--clinic-code", "765432"], code),
+        (&["index", "--clinic-code", "76543210"], code),
+        (&["index", "--clinic-code", "+654321"], code),
+        (&["index", "--clinic-code", "765432x"], code),
+        // Seven bytes, the last three of which are a digit of another script.
+        (&["index", "--clinic-code", "7654１"], code),
+        (&["index", "--clinic", "4", "--clinic-code", "7654321"], together),
+        (&["index", "--clinic-code", "7", "--clinic", "4"], together),
+        (&["index", "--clinic", "4", "--clinic", "4"], "--clinic is given twice"),
+        (&["check", "--clinic", "4"], "check has no option --clinic"),
+        (&["canonical", "--clinic-code", "7654321"], "canonical has no option --clinic-code"),
+        (&["join", "--clinic-code", "7654321"], "join has no option --clinic-code"),
+    ];
+    for (words, message) in cases {
+        let expected = format!("notebook: {message}\nTry `notebook --help`.\n");
+        assert_eq!(run(&[words, &["-"]].concat(), SMALL), (2, "".into(), expected), "{words:?}");
+    }
+    assert_eq!(run(&["index", "-", "--clinic"], SMALL).0, 2);
 }
 
 #[test]

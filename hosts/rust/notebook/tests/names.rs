@@ -148,7 +148,7 @@ fn a_name_in_place_of_the_path() {
             "{\"file\":\"sent.csv\",\"ok\":true,\"records\":1,\"groups\":0,\"drugs\":0}\n",
             "",
         ),
-        ("index --name sent.csv secret-path", 0, "sent.csv: ok 1\n1 13 21 0 0 0\n", ""),
+        ("index --name sent.csv secret-path", 0, "sent.csv: ok 1\n1 13 21 0 0 0 0\n", ""),
         ("canonical --name sent.csv secret-path", 0, &canonical, ""),
         ("canonical --name sent.csv secret-pat", 2, "", "notebook: sent.csv: No such file or directory (os error 2)\n"),
         ("check --name sent.csv .", 2, "", "notebook: sent.csv: Is a directory (os error 21)\n"),

@@ -17,7 +17,7 @@ fn every_call_on_every_case() {
         join: |pieces, out| join(pieces, out).reply(),
     };
     let cases = cases(b"vickj");
-    assert!(cases.len() >= 5_145 + 3_255);
+    assert!(cases.len() >= 5_145 + 3_588);
     let differences: Vec<String> = cases
         .iter()
         .map(|case| (case.told_by(&calls), &case.answer))

@@ -26,7 +26,7 @@ mod tests;
 pub use canonical::canonical;
 pub use check::check;
 pub use cut::cut;
-pub use index::index;
+pub use index::{index, ENTRY_NUMBERS, MOST_NUMBERS};
 pub use join::join;
 
 /// What check counts in an accepted file: records after line 1, groups (5) and drugs (201).

@@ -1,5 +1,5 @@
-//! Index, canonical, cut and join once more, word by word after document 01 and without regard to time or space, to find
-//! errors of the fast ones. Both take acceptance of a file from check.
+//! Index, canonical, cut and join once more, word by word after documents 01 and 02 and without regard to time or space, to
+//! find errors of the fast ones. Both take acceptance of a file from check.
 
 use super::{canonical, check, cut, index, join, Pieces, Refusal};
 use crate::damage::Damage;
@@ -58,16 +58,22 @@ fn reference_index(file: &[u8]) -> Result<Vec<u32>, Refusal> {
             let last = |wanted: u32| before.iter().rposition(|&number| number == wanted);
             let group = if matches!(number, 5..=601) { numbers[..=at].iter().filter(|&&n| n == 5).count() } else { 0 };
             // The record with index 0 stands on line 2.
-            let doctor = last(55).filter(|&doctor| last(5).is_some_and(|group| group < doctor)).map_or(0, |at| at + 2);
-            let drug = last(201).map_or(0, |at| at + 2);
+            let line_of = |found: Option<usize>| found.map_or(0, |at| at as u32 + 2);
+            let doctor = line_of(last(55).filter(|&doctor| last(5).is_some_and(|group| group < doctor)));
+            let drug = line_of(last(201));
+            // "the line of the group's 51, or 0 where none has yet stood in that group": this record is counted too.
+            let so_far = &numbers[..=at];
+            let in_group = |place: &usize| group > 0 && !so_far[*place..].contains(&5);
+            let clinic = line_of(so_far.iter().rposition(|&number| number == 51).filter(in_group));
             let offset: usize = lines[..=at].iter().map(|line| line.len() + 2).sum();
             entries.extend([
                 number,
                 offset as u32,
                 lines[at + 1].len() as u32,
                 group as u32,
-                if (201..=391).contains(&number) { doctor as u32 } else { 0 },
-                if number == 281 || number == 291 { drug as u32 } else { 0 },
+                if (201..=391).contains(&number) { doctor } else { 0 },
+                if number == 281 || number == 291 { drug } else { 0 },
+                clinic,
             ]);
         }
         entries
@@ -262,8 +268,8 @@ fn the_fast_calls_agree_with_the_reference() {
     for number in 0..2_000 {
         let file = files.file(11, number);
 
-        let (expected, mut out) = (reference_index(&file), vec![9; 6 * 8_192]);
-        assert_eq!(index(&file, &mut out), expected.clone().map(|entries| entries.len() as u64 / 6), "index {number}");
+        let (expected, mut out) = (reference_index(&file), vec![9; 7 * 8_192]);
+        assert_eq!(index(&file, &mut out), expected.clone().map(|entries| entries.len() as u64 / 7), "index {number}");
         assert!(out == left(&expected.unwrap_or_default(), out.len(), 9), "index {number}");
 
         let (expected, mut out) = (reference_canonical(&file), vec![b'?'; 65_536]);

@@ -103,7 +103,7 @@ fn measure_calls(newest: Day, wanted: &[&str]) -> Result<(), String> {
                 "index" => compare(
                     call,
                     &file,
-                    6 * 8_192,
+                    ordinary::MOST_NUMBERS,
                     |file, out: &mut [u32]| ordinary::index(file, out).reply(),
                     replies::index,
                 ),

@@ -9,8 +9,8 @@ pub const CALLS: [&str; 5] = ["check", "index", "canonical", "cut", "join"];
 pub const MOST_PIECES: [&str; 2] = ["cut-999", "join-999"];
 
 /// The greatest ratio that is asked of a call, as docs/BENCHMARKS.md says.
-const BOUNDS: [(&str, f64); 6] =
-    [("check", 2.0), ("canonical", 1.2), ("cut", 2.0), ("join", 2.0), ("cut-999", 2.0), ("join-999", 2.0)];
+const BOUNDS: [(&str, f64); 7] =
+    [("check", 2.0), ("index", 1.1), ("canonical", 1.2), ("cut", 2.0), ("join", 2.0), ("cut-999", 2.0), ("join-999", 2.0)];
 
 const BEGIN: &str = "<!-- begin: hosts/rust/benchmark writes from here -->\n";
 const END: &str = "<!-- end: hosts/rust/benchmark writes to here -->\n";
@@ -50,7 +50,7 @@ pub fn renewed(document: &str, machine: &str, plot: &str, rows: &[Row]) -> Resul
     let lacking = || format!("it lacks the lines\n{BEGIN}{END}");
     let (before, rest) = document.split_once(BEGIN).ok_or_else(lacking)?;
     let (_, after) = rest.split_once(END).ok_or_else(lacking)?;
-    let tables = [times(rows), growth(rows), bounds(rows), parts(rows)].concat();
+    let tables = [times(rows), growth(rows), bounds(rows), added(rows), parts(rows)].concat();
     Ok(format!("{before}{BEGIN}\n{machine}.\n\n![Time of each call by bytes, and ratios]({plot})\n{tables}\n{END}{after}"))
 }
 
@@ -120,6 +120,22 @@ fn bounds(rows: &[Row]) -> String {
     table("Where that stands at the greatest length:", "| call | ratio of medians | bound |", &lines)
 }
 
+/// The time of index less that of check on the same file: every index has a check in it.
+fn added(rows: &[Row]) -> String {
+    let mut lines = Vec::new();
+    for index in pairs(rows, "index") {
+        let Some(check) = pairs(rows, "check").into_iter().find(|check| check.bytes() == index.bytes()) else { continue };
+        let less = |index: &Row, check: &Row| index.times.median - check.times.median;
+        let (ordinary, library) = (less(&index.ordinary, &check.ordinary), less(&index.library, &check.library));
+        lines.push(format!("| {} | {ordinary:.2} | {library:.2} |\n", index.bytes()));
+    }
+    if lines.is_empty() {
+        return String::new();
+    }
+    let title = "What index adds to check: the median of index less that of check on the same file, both of this run:";
+    table(title, "| bytes | ordinary, us | library, us |", &lines)
+}
+
 /// The others' times, each beside the check that was measured in the same rounds.
 fn parts(rows: &[Row]) -> String {
     let [splits, decodes, checks] = ["csv-core", "encoding_rs", "check"].map(|code| of(rows, "parts", code));
@@ -165,7 +181,28 @@ mod tests {
         assert!(once.starts_with("before\n") && once.ends_with("after\n") && !once.contains("old"));
         assert!(once.contains("| check | 1000 | 1.00 | 1.50 | 1.50 | 1.50 | 1.00 | 1.50 |\n"));
         assert!(once.contains("| check | 1.50 | 2.0: met |\n"));
+        assert!(!once.contains("What index adds"));
         assert_eq!(renewed(&once, "today, here", "plot.svg", &rows).as_ref(), Ok(&once));
         assert!(renewed("no marks\n", "", "", &rows).is_err());
+    }
+
+    #[test]
+    fn what_index_adds_to_check() {
+        let at = |bytes: usize, times: [f64; 4]| {
+            let [check, index, library_check, library_index] = times;
+            [
+                row("check", bytes, "ordinary", check),
+                row("check", bytes, "library", library_check),
+                row("index", bytes, "ordinary", index),
+                row("index", bytes, "library", library_index),
+            ]
+        };
+        let rows = [at(1_000, [1.0, 1.25, 2.0, 3.5]), at(4_000, [4.0, 4.5, 8.0, 12.0])].concat();
+        assert!(added(&rows).ends_with(
+            "| bytes | ordinary, us | library, us |\n|---|---|---|\n| 1000 | 0.25 | 1.50 |\n| 4000 | 0.50 | 4.00 |\n"
+        ));
+        assert!(bounds(&rows).contains("| index | 2.67 | 1.1: not met |\n"));
+        // An index without a check on the same file tells nothing.
+        assert_eq!(added(&rows[2..4]), "");
     }
 }

@@ -1,8 +1,10 @@
 //! The command line.
 
 use crate::names;
+use notebook::MOST_FILE_BYTES;
 use std::collections::BTreeMap;
 use std::ffi::{OsStr, OsString};
+use std::ops::RangeInclusive;
 use std::os::unix::ffi::OsStrExt;
 use std::path::PathBuf;
 
@@ -17,8 +19,17 @@ pub enum Call {
 /// The calls on any number of files.
 pub enum Many {
     Check,
-    Index,
+    Index(Wanted),
     CanonicalTo(PathBuf),
+}
+
+/// The entries of an index that are asked for.
+pub enum Wanted {
+    All,
+    /// Those whose clinic is the 51 of this line.
+    Clinic(u32),
+    /// Those whose clinic's 51 has this institution code.
+    ClinicCode(OsString),
 }
 
 /// The calls on one file.
@@ -57,13 +68,15 @@ pub enum Parsed {
 const SUBCOMMANDS: [&str; 5] = ["check", "index", "canonical", "cut", "join"];
 
 /// The options, whether they have a value, and the subcommands that take each.
-const OPTIONS: [(&str, bool, &[&str]); 11] = [
+const OPTIONS: [(&str, bool, &[&str]); 13] = [
     ("--json", false, &SUBCOMMANDS),
     ("--quiet", false, &["check", "index", "canonical"]),
     ("--summary", false, &["check", "index", "canonical"]),
     ("--jobs", true, &["check", "index", "canonical"]),
     ("--files0-from", true, &["check", "index", "canonical", "join"]),
     ("--name", true, &["check", "index", "canonical", "cut"]),
+    ("--clinic", true, &["index"]),
+    ("--clinic-code", true, &["index"]),
     ("--to", true, &["canonical"]),
     ("--output", true, &["canonical", "join"]),
     ("--capacity", true, &["cut"]),
@@ -74,6 +87,9 @@ const OPTIONS: [(&str, bool, &[&str]); 11] = [
 /// The options that canonical has only for many files, and those that it has only for one.
 const FOR_MANY: [&str; 3] = ["--quiet", "--summary", "--files0-from"];
 const FOR_ONE: [&str; 2] = ["--name", "--output"];
+
+/// Of a file's records the first stands on line 2. There are at most 8,192: none is shorter than 8 bytes.
+const RECORD_LINES: RangeInclusive<u64> = 2..=(MOST_FILE_BYTES as u64 / 8 + 1);
 
 pub const STDIN_TWICE: &str = "standard input can be read only once";
 
@@ -178,12 +194,22 @@ impl Given {
         let output = self.value("--output").map(PathBuf::from);
         Ok(match (self.subcommand, self.value("--to")) {
             ("check", _) => Call::Many(Many::Check, self.paths()?),
-            ("index", _) => Call::Many(Many::Index, self.paths()?),
+            ("index", _) => Call::Many(Many::Index(self.wanted()?), self.paths()?),
             ("join", _) => Call::Join { output, paths: self.paths()? },
             ("canonical", Some(folder)) => Call::Many(Many::CanonicalTo(folder.into()), self.paths()?),
             ("canonical", None) => Call::One(One::Canonical { output }, self.path("canonical without --to")?),
             _ => Call::One(One::Cut(self.cutting()?), self.path("cut")?),
         })
+    }
+
+    fn wanted(&mut self) -> Result<Wanted, String> {
+        match (self.value("--clinic"), self.value("--clinic-code")) {
+            (None, None) => Ok(Wanted::All),
+            (Some(_), Some(_)) => Err("--clinic and --clinic-code do not go together".to_string()),
+            (Some(line), None) => clinic_line(&line).map(Wanted::Clinic),
+            (None, Some(code)) if is_code(&code) => Ok(Wanted::ClinicCode(code)),
+            (None, Some(_)) => Err("--clinic-code is seven digits".to_string()),
+        }
     }
 
     fn cutting(&mut self) -> Result<Cutting, String> {
@@ -215,6 +241,16 @@ impl Given {
         let jobs = number(&jobs).and_then(|jobs| usize::try_from(jobs).ok()).filter(|jobs| (1..=64).contains(jobs));
         jobs.ok_or_else(|| "--jobs is a number from 1 to 64".to_string())
     }
+}
+
+fn clinic_line(word: &OsStr) -> Result<u32, String> {
+    let line = number(word).filter(|line| RECORD_LINES.contains(line)).and_then(|line| u32::try_from(line).ok());
+    line.ok_or_else(|| format!("--clinic is a line from {} to {}", RECORD_LINES.start(), RECORD_LINES.end()))
+}
+
+/// Whether a word is of kind C of document 01, as institution codes are.
+fn is_code(word: &OsStr) -> bool {
+    word.len() == 7 && word.as_bytes().iter().all(u8::is_ascii_digit)
 }
 
 /// A number in digits alone.

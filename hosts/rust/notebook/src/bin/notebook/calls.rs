@@ -1,6 +1,6 @@
 //! The calls on one file, and join.
 
-use crate::arguments::Cutting;
+use crate::arguments::{Cutting, Wanted};
 use crate::inputs::{self, Found, Input};
 use crate::json::{self, Object};
 use crate::tell::{line, Teller, Told};
@@ -22,29 +22,41 @@ pub fn check(teller: Teller, name: &OsStr, file: &[u8]) -> Told {
     }
 }
 
-pub fn index(teller: Teller, name: &OsStr, file: &[u8]) -> Told {
+/// The count of all records, and the entries that are wanted.
+pub fn index(teller: Teller, name: &OsStr, file: &[u8], wanted: &Wanted) -> Told {
     let entries = match notebook::index(file) {
         Err(refusal) => return teller.refused(name, refusal),
         Ok(entries) => entries,
     };
+    let chosen = entries.iter().filter(|entry| match wanted {
+        Wanted::All => true,
+        Wanted::Clinic(line) => entry.clinic == *line,
+        Wanted::ClinicCode(code) => clinic_code(&entries, entry, file) == Some(code.as_bytes()),
+    });
     if !teller.json {
         let mut out = line(name, &format!("ok {}", entries.len()));
-        out.extend_from_slice(rows(&entries, ["", " ", "\n", ""]).as_bytes());
+        out.extend_from_slice(rows(chosen, ["", " ", "\n", ""]).as_bytes());
         return Told::accepted(out);
     }
     let told = Object::of(name).flag("ok", true).number("records", entries.len() as u64);
-    Told::accepted(told.raw("index", &format!("[{}]", rows(&entries, ["[", ",", "]", ","]))).line())
+    Told::accepted(told.raw("index", &format!("[{}]", rows(chosen, ["[", ",", "]", ","]))).line())
+}
+
+/// The institution code of an entry's clinic, if it has a clinic: the fourth item of that record 51, which may be empty.
+fn clinic_code<'a>(entries: &[Entry], entry: &Entry, file: &'a [u8]) -> Option<&'a [u8]> {
+    // No character's second byte is a comma.
+    notebook::at_line(entries, entry.clinic)?.of(file)?.split(|&byte| byte == b',').nth(4)
 }
 
 /// The numbers of the entries, with what stands before, between and after those of one, and between two entries.
-fn rows(entries: &[Entry], [before, comma, after, between]: [&str; 4]) -> String {
+fn rows<'a>(entries: impl Iterator<Item = &'a Entry>, [before, comma, after, between]: [&str; 4]) -> String {
     let mut rows = String::new();
-    for Entry { record, offset, bytes, group, doctor, drug } in entries {
+    for Entry { record, offset, bytes, group, doctor, drug, clinic } in entries {
         if !rows.is_empty() {
             rows.push_str(between);
         }
-        let _ =
-            write!(rows, "{before}{record}{comma}{offset}{comma}{bytes}{comma}{group}{comma}{doctor}{comma}{drug}{after}");
+        let _ = write!(rows, "{before}{record}{comma}{offset}{comma}{bytes}{comma}{group}{comma}");
+        let _ = write!(rows, "{doctor}{comma}{drug}{comma}{clinic}{after}");
     }
     rows
 }

@@ -55,7 +55,13 @@ fn main() -> ExitCode {
     let words: Vec<OsString> = std::env::args_os().skip(1).collect();
     let json = system::JSON.load(Ordering::Relaxed);
     let status = match arguments::parse(words) {
-        Ok(Parsed::Run(arguments)) => run(&arguments),
+        Ok(Parsed::Run(arguments)) => match other_version(notebook::version(), env!("CARGO_PKG_VERSION")) {
+            Some(message) => {
+                tell::complain(json, &message);
+                Ok(tell::FAILED)
+            }
+            None => run(&arguments),
+        },
         Ok(Parsed::Say(text)) => tell::write_out(text.as_bytes()).map(|()| tell::ACCEPTED),
         Err(message) => Ok(misused(json, &message)),
     };
@@ -68,6 +74,12 @@ fn main() -> ExitCode {
     }))
 }
 
+/// What there is to say where the library is of another version than this command: its results may have another form.
+fn other_version(library: u64, own: &str) -> Option<String> {
+    let library = format!("{}.{}.{}", library / 10_000, library / 100 % 100, library % 100);
+    (library != own).then(|| format!("the library is of version {library}, this command of {own}"))
+}
+
 fn misused(json: bool, message: &str) -> u8 {
     tell::complain(json, message);
     if !json {
@@ -78,7 +90,7 @@ fn misused(json: bool, message: &str) -> u8 {
 
 /// Does what the arguments ask for and answers the exit status. An error is one of standard output.
 fn run(arguments: &Arguments) -> io::Result<u8> {
-    let results = matches!(arguments.call, Call::Many(Many::Check | Many::Index, _));
+    let results = matches!(arguments.call, Call::Many(Many::Check | Many::Index(_), _));
     let teller = Teller { json: arguments.json, results };
     let with_paths = |paths, call: &dyn Fn(&[OsString]) -> io::Result<u8>| match inputs::paths(paths) {
         Ok(paths) => call(&paths),
@@ -99,5 +111,21 @@ fn one_file(teller: Teller, call: &One, input: &Input) -> Told {
     match call {
         One::Canonical { output } => calls::canonical(teller, &input.name, &file, output.as_deref()),
         One::Cut(cutting) => calls::cut(teller, &input.name, &file, cutting),
+    }
+}
+
+#[cfg(test)]
+mod tests {
+    use super::*;
+
+    #[test]
+    fn a_library_of_another_version_is_told() {
+        assert_eq!(other_version(400, "0.4.0"), None);
+        assert_eq!(other_version(120_345, "12.3.45"), None);
+        let message =
+            |library: &str, own: &str| Some(format!("the library is of version {library}, this command of {own}"));
+        assert_eq!(other_version(300, "0.4.0"), message("0.3.0", "0.4.0"));
+        assert_eq!(other_version(400, "0.4.1"), message("0.4.0", "0.4.1"));
+        assert_eq!(other_version(10_400, "0.4.0"), message("1.4.0", "0.4.0"));
     }
 }

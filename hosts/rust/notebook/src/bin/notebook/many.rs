@@ -58,7 +58,7 @@ fn tell(teller: Teller, call: &Many, input: &Input, folders: &Folders) -> Told {
     };
     match call {
         Many::Check => calls::check(teller, &input.name, &file),
-        Many::Index => calls::index(teller, &input.name, &file),
+        Many::Index(wanted) => calls::index(teller, &input.name, &file, wanted),
         Many::CanonicalTo(folder) => canonical_to(teller, input, &file, &folder.join(&input.below), folders),
     }
 }

@@ -9,7 +9,7 @@ use std::thread;
 /// Results that may wait for an earlier one, for each job. It bounds the memory when one input takes long.
 const AHEAD: usize = 64;
 
-/// The stack of a thread; the calls take a fraction of it.
+/// The stack of a thread: the most that a call may take, and index takes about half of it (docs/OPERATING.md).
 const STACK: usize = 512 << 10;
 
 /// More than the work on one input takes.
