@@ -21,6 +21,8 @@ PLACES = [
     ("hosts/rust/notebook/Cargo.toml", 'name = "notebook"\nversion = "', '"', "text"),
     ("hosts/rust/Cargo.lock", 'name = "notebook"\nversion = "', '"', "text"),
     ("hosts/rust/README.md", "    error: notebook@", ": no libgateway.a", "text"),
+    ("hosts/rust/notebook/src/lib.rs", "100 times the minor, and the patch: ", ".\n", "number is text"),
+    ("README.md", "`NOTEBOOK_VERSION_NUMBER` the header's: ", ". ", "number for text"),
 ]
 
 
@@ -35,10 +37,13 @@ def spellings():
     if not found:
         sys.exit("version: the file VERSION is not one line MAJOR.MINOR.PATCH, minor and patch below 100")
     major, minor, patch = (int(part) for part in found.groups())
+    text, number = f"{major}.{minor}.{patch}", str(major * 10000 + minor * 100 + patch)
     return {
-        "text": f"{major}.{minor}.{patch}",
-        "number": str(major * 10000 + minor * 100 + patch),
+        "text": text,
+        "number": number,
         "words": f"{major} {minor} {patch}",
+        "number is text": f"{number} is {text}",
+        "number for text": f"{number} for {text}",
     }
 
 
