@@ -31,7 +31,7 @@ use Rattle.checking.specs.Walking.{Midway}
 use Rattle.checking.proofs.OpenLaws.{opening-refused, opening-records}
 use Rattle.checking.proofs.CheckLaws.{midway-start, check-records}
 use Rattle.notebook.specs.Index.{Entry, entriesFrom, entriesAfterHead, entriesOf, listedFrom, listOf, numbers, numbersOf, indexed, indexResult}
-use Rattle.index.specs.Filling.{listedAt, FullOf, LastOf, BatchMeans, BatchOf, Onward, ExitMeans, Exit}
+use Rattle.index.specs.Filling.{numbersAt, FullOf, LastOf, BatchMeans, BatchOf, Onward, ExitMeans, Exit}
 use Rattle.index.specs.declared.Batch.{Batch}
 use Rattle.index.specs.declared.Batch.the-variants.{Full, Last}
 use Rattle.notebook.proofs.Answered.{Counted, answer-refused, answer-accepted}
@@ -84,7 +84,7 @@ module _ {s : List ℕ} {provider : Bool} {from : ℕ} (o : OpensAt s provider f
       let n : length (headRow provider) ≡ from = ap length (sym (o .first)) ∙ length-take-le (from - 0) s (omega (arith, o .behind .high)) ∙ omega arith in
       ap entriesAfterHead (o .cut) ∙ entries-behind provider (rows (drop from s)) ∙ ap (λ (j : ℕ). entriesFrom (start provider) j (rows (drop from s))) n
 
-  file-numbers : numbersOf s ≡ listedAt s (start provider) from 0
+  file-numbers : numbersOf s ≡ numbersAt s (start provider) from 0
   unfolding numbersOf listOf
   file-numbers =
       ap (λ (es : List Entry). numbers (listedFrom 2 0 es)) file-entries
@@ -112,9 +112,9 @@ module _ {s : List ℕ} {k : Opening} (w : OpeningOf s k) where
     pub index-whole : {d d′ : List ℕ} {r : Answer} → Exit s st from 0 d d′ r → Gives (indexResult s) d d′ r
     index-whole {d} {d′} {r} x = record { answer = x .answer; output = go r (x .answer) (x .output) }
       where
-        all : sets d ((st .line - 1) * 7) (listedAt s st from 0) ≡ sets d 0 (numbersOf s)
+        all : sets d ((st .line - 1) * 7) (numbersAt s st from 0) ≡ sets d 0 (numbersOf s)
         all =
-            ap (λ (t : State). sets d ((t .line - 1) * 7) (listedAt s t from 0)) e
+            ap (λ (t : State). sets d ((t .line - 1) * 7) (numbersAt s t from 0)) e
             ∙ ap₂ (λ (j : ℕ) (v : List ℕ). sets d j v) {x = (start provider .line - 1) * 7} {y = 0} (omega (arith, line-start provider)) (sym (file-numbers (opening-records w q)))
 
         go : (r : Answer) → r ≡ answerIn (indexResult s) d → ExitMeans s st from 0 d d′ r → d′ ≡ outputOf (indexResult s) d
@@ -163,8 +163,8 @@ module _ {s : List ℕ} {st : State} {at clinic : ℕ} (v : Onward s st at clini
       last-short h = record { answer = gives-20 d given (omega (arith, size)) .answer; output = refl; size = refl }
 
       module _ (h : n * 7 ≤ length d) where
-        room : (st .line - 1) * 7 + length (listedAt s st at clinic) ≤ length d
-        room = omega (arith, size, ap length (v .listed) ∙ length-append (v .before) (listedAt s st at clinic), v .count)
+        room : (st .line - 1) * 7 + length (numbersAt s st at clinic) ≤ length d
+        room = omega (arith, size, ap length (v .listed) ∙ length-append (v .before) (numbersAt s st at clinic), v .count)
 
         done : Done n 0 0 ≡ answerIn (indexResult s) d
         done = subst (λ (k : ℕ). Done k 0 0 ≡ answerIn (indexResult s) d) (by-count .count) (gives-result d given (omega (arith, size)) .answer)
@@ -187,7 +187,7 @@ module _ {s : List ℕ} {st : State} {at clinic : ℕ} (v : Onward s st at clini
     full-onward = record {
       checked = v .checked ∙ b .answer;
       before = v .before ++ entries;
-      listed = v .listed ∙ ap (λ (r : List ℕ). v .before ++ r) (b .list) ∙ sym (append-assoc (v .before) entries (listedAt s after end kept));
+      listed = v .listed ∙ ap (λ (r : List ℕ). v .before ++ r) (b .list) ∙ sym (append-assoc (v .before) entries (numbersAt s after end kept));
       count = length-append (v .before) entries ∙ omega (arith, v .count, z, b .lines, v .midway .low);
       midway = b .midway;
     }
@@ -207,23 +207,23 @@ module _ {s : List ℕ} {st : State} {at clinic : ℕ} (v : Onward s st at clini
         whole-room : length (numbersOf s) ≤ length d
         whole-room = accepts .room
 
-        parts : length (numbersOf s) ≡ (st .line - 1) * 7 + 448 + length (listedAt s after end kept)
+        parts : length (numbersOf s) ≡ (st .line - 1) * 7 + 448 + length (numbersAt s after end kept)
         parts =
-            ap length (v .listed ∙ ap (λ (r : List ℕ). v .before ++ r) (b .list)) ∙ length-append (v .before) (entries ++ listedAt s after end kept)
-            ∙ omega (arith, length-append entries (listedAt s after end kept), z, v .count)
+            ap length (v .listed ∙ ap (λ (r : List ℕ). v .before ++ r) (b .list)) ∙ length-append (v .before) (entries ++ numbersAt s after end kept)
+            ∙ omega (arith, length-append entries (numbersAt s after end kept), z, v .count)
 
         pub full-room : Room d₁ ((st .line - 1) * 7) entries
         full-room = omega (arith, z, x .size, whole-room, parts)
 
         pub full-written : {d′ : List ℕ} {r : ℕ} → Wrote d₁ d′ ((st .line - 1) * 7) r entries → Exit s st at clinic d d′ (Done n 0 0)
         full-written {d′} u =
-            let behind : d₁ ≡ sets d ((after .line - 1) * 7) (listedAt s after end kept) = subst (ExitMeans s after end kept d d₁) e (x .output) in
+            let behind : d₁ ≡ sets d ((after .line - 1) * 7) (numbersAt s after end kept) = subst (ExitMeans s after end kept d d₁) e (x .output) in
             let place : (after .line - 1) * 7 ≡ (st .line - 1) * 7 + length entries = omega (arith, b .lines, z, v .midway .low) in
             record {
               answer = accepts .done;
               output =
-                  u .list ∙ ap (λ (y : List ℕ). sets y ((st .line - 1) * 7) entries) (behind ∙ ap (λ (k : ℕ). sets d k (listedAt s after end kept)) place)
-                  ∙ sets-behind entries (listedAt s after end kept) d ((st .line - 1) * 7) (omega (arith, z, whole-room, parts))
+                  u .list ∙ ap (λ (y : List ℕ). sets y ((st .line - 1) * 7) entries) (behind ∙ ap (λ (k : ℕ). sets d k (numbersAt s after end kept)) place)
+                  ∙ sets-behind entries (numbersAt s after end kept) d ((st .line - 1) * 7) (omega (arith, z, whole-room, parts))
                   ∙ ap (sets d ((st .line - 1) * 7)) (sym (b .list));
               size = u .size ∙ x .size;
             }

@@ -38,7 +38,7 @@ use Rattle.checking.proofs.TurnLaws.{turn-over, turn-refused, turn-step}
 use Rattle.checking.proofs.LineFacts.{whole-line, whole-length}
 use Rattle.checking.proofs.CheckLaws.{Reading, reading-over, reading-stopped}
 use Rattle.notebook.specs.Index.{Entry, entryOf, entered, entriesFrom, clinicAfter, clinicOf, listedFrom, numbers}
-use Rattle.index.specs.Filling.{Spanned, answerAt, listedAt, BatchOf}
+use Rattle.index.specs.Filling.{Spanned, answerAt, numbersAt, BatchOf}
 use Rattle.index.specs.declared.Batch.the-variants.{Full, Last}
 
 -- ---- the clinic
@@ -84,7 +84,7 @@ entry-written st a b doctor clinic g h i w = rw (g, h, i) at w
 
 -- from a state at a position on, with this clinic
 pub record Filling (st₀ : State) (s : List ℕ) (from clinic₀ : ℕ) (st : State) (at : ℕ) (d : List ℕ) (next clinic : ℕ) : Type 0 where
-  pub left : listedAt s st₀ from clinic₀ ≡ take next d ++ listedAt s st at clinic
+  pub left : numbersAt s st₀ from clinic₀ ≡ take next d ++ numbersAt s st at clinic
   pub count : next + st₀ .line * 7 ≡ st .line * 7
   pub size : length d ≡ 448
   pub few : next ≤ 448
@@ -101,7 +101,7 @@ module _ {st₀ : State} {s : List ℕ} {from clinic₀ : ℕ} {st : State} {at 
   filling-full h = record {
     means = record {
       answer = o .left;
-      list = v .left ∙ ap (λ (w : List ℕ). w ++ listedAt s st at clinic) (take-all next d (omega (arith, v .size)));
+      list = v .left ∙ ap (λ (w : List ℕ). w ++ numbersAt s st at clinic) (take-all next d (omega (arith, v .size)));
       midway = o .midway;
       lines = omega (arith, v .count, v .few);
       less = v .more (omega arith);
@@ -196,7 +196,7 @@ module _ {st₀ : State} {s : List ℕ} {from clinic₀ : ℕ} {st : State} {at 
         own = sevenNumbers (after .place) at (e - at) (groupOf after) doctor (drugOf after) (clinicOf (after .place) kept)
 
         -- the record's own numbers, and those after it
-        written : listedAt s st at clinic ≡ own ++ listedAt s after (e + 2) kept
+        written : numbersAt s st at clinic ≡ own ++ numbersAt s after (e + 2) kept
         unfolding numbers listedFrom here entered entryOf own
         written =
             ap (λ (es : List Entry). numbers (listedFrom (st .line + 1) clinic es)) (line-entries (found .line) ∙ ap (here (found .line)) (sym (found .step)))
@@ -210,8 +210,8 @@ module _ {st₀ : State} {s : List ℕ} {from clinic₀ : ℕ} {st : State} {at 
             let n = seven-length (after .place) at (e - at) (groupOf after) doctor (drugOf after) (clinicOf (after .place) kept) in
             record {
               left =
-                  v .left ∙ ap (λ (r : List ℕ). take next d ++ r) written ∙ sym (append-assoc (take next d) own (listedAt s after (e + 2) kept))
-                  ∙ ap (λ (r : List ℕ). r ++ listedAt s after (e + 2) kept) (sym (front-more x));
+                  v .left ∙ ap (λ (r : List ℕ). take next d ++ r) written ∙ sym (append-assoc (take next d) own (numbersAt s after (e + 2) kept))
+                  ∙ ap (λ (r : List ℕ). r ++ numbersAt s after (e + 2) kept) (sym (front-more x));
               count = omega (arith, x .next, n, v .count, next-here);
               size = x .size ∙ v .size;
               few = omega (arith, x .high, v .size);

@@ -29,23 +29,23 @@ abbrev pub answerAt : List ℕ → State → ℕ → Answer
 answerAt s st at = tally st (recordsFrom st (rows (drop at s)))
 
 -- the numbers of the records
-abbrev pub listedAt : List ℕ → State → ℕ → ℕ → List ℕ
-listedAt s st at clinic = numbers (listedFrom (st .line + 1) clinic (entriesFrom st at (rows (drop at s))))
+abbrev pub numbersAt : List ℕ → State → ℕ → ℕ → List ℕ
+numbersAt s st at clinic = numbers (listedFrom (st .line + 1) clinic (entriesFrom st at (rows (drop at s))))
 
 -- ---- a batch
 
 -- 64 records, whose entries fill the array
 pub record FullOf (s : List ℕ) (st : State) (at clinic : ℕ) (entries : List ℕ) (after : State) (kept end : ℕ) : Type 0 where
   pub answer : answerAt s st at ≡ answerAt s after end
-  pub list : listedAt s st at clinic ≡ entries ++ listedAt s after end kept
+  pub list : numbersAt s st at clinic ≡ entries ++ numbersAt s after end kept
   pub midway : Midway s after end
   pub lines : after .line ≡ st .line + 64
   pub less : at < end
 
--- the last records
+-- the last records; `&entries[0..n]` is read as `take (n - 0) (drop 0 entries)`
 pub record LastOf (s : List ℕ) (st : State) (at clinic : ℕ) (entries : List ℕ) (answer : Answer) (n : ℕ) : Type 0 where
   pub answer-is : answer ≡ answerAt s st at
-  pub list : take (n - 0) (drop 0 entries) ≡ listedAt s st at clinic
+  pub list : take (n - 0) (drop 0 entries) ≡ numbersAt s st at clinic
   pub high : n ≤ 448
 
 abbrev pub BatchMeans : List ℕ → State → ℕ → ℕ → List ℕ → Batch → Type 0
@@ -61,13 +61,13 @@ pub record BatchOf (s : List ℕ) (st : State) (at clinic : ℕ) (entries : List
 pub record Onward (s : List ℕ) (st : State) (at clinic : ℕ) : Type 0 where
   pub checked : answerIn (checkResult s) [] ≡ answerAt s st at
   pub before : List ℕ
-  pub listed : numbersOf s ≡ before ++ listedAt s st at clinic
+  pub listed : numbersOf s ≡ before ++ numbersAt s st at clinic
   pub count : length before ≡ (st .line - 1) * 7
   pub midway : Midway s st at
 
 -- the output became d′: the entries from here on, after those of the records before; or nothing is written
 abbrev pub ExitMeans : List ℕ → State → ℕ → ℕ → List ℕ → List ℕ → Answer → Type 0
-ExitMeans s st at clinic d d′ (Done n g x) = d′ ≡ sets d ((st .line - 1) * 7) (listedAt s st at clinic)
+ExitMeans s st at clinic d d′ (Done n g x) = d′ ≡ sets d ((st .line - 1) * 7) (numbersAt s st at clinic)
 ExitMeans s st at clinic d d′ (Refused n line) = d′ ≡ d
 
 pub record Exit (s : List ℕ) (st : State) (at clinic : ℕ) (d d′ : List ℕ) (r : Answer) : Type 0 where

@@ -32,10 +32,14 @@ use Rattle.notebook.proofs.IndexLaws.{kept-before}
 abbrev pub none : Entry
 none = record { number = 0; offset = 0; bytes = 0; group = 0; doctor = 0; drug = 0 }
 
--- the entry i, and as it is listed
+-- the entry i; and as it is listed
 abbrev pub entryAt : List Entry → ℕ → Entry
 entryAt es i = getD es i none
 
+abbrev pub listedAt : List Listed → ℕ → Listed
+listedAt xs i = getD xs i (record { entry = none; clinic = 0 })
+
+-- the same, without the walk
 listedEntry : ℕ → ℕ → List Entry → ℕ → Listed
 listedEntry line k es i =
     let e = entryAt es i in
@@ -81,7 +85,7 @@ module _ (s : List ℕ) (b : Notebook) (r : readFile s ≡ ok b) (before : List 
 
 -- ---- by the place of an entry
 
-listed-get : (line k : ℕ) (es : List Entry) (i : ℕ) → i < length es → getD (listedFrom line k es) i (record { entry = none; clinic = 0 }) ≡ listedEntry line k es i
+listed-get : (line k : ℕ) (es : List Entry) (i : ℕ) → i < length es → listedAt (listedFrom line k es) i ≡ listedEntry line k es i
 unfolding listedFrom listedEntry keptAfter kept clinicAfter
 listed-get line k [] i h = absurd (omega arith)
 listed-get line k (e ∷ es) zero h = ap (λ (j : ℕ). record { entry = e; clinic = clinicOf (e .number) (clinicAfter j k (e .number)) }) (sym (add-zero line))
@@ -91,10 +95,6 @@ listed-get line k (e ∷ es) (suc i) h =
       entry = entryAt es i;
       clinic = clinicOf (entryAt es i .number) (clinicAfter j (keptAfter 51 (line + 1) (clinicAfter line k (e .number)) (take i es)) (entryAt es i .number));
     }) {x = line + 1 + i} {y = line + suc i} (omega arith)
-
--- the entry i as it is listed
-abbrev pub listedAt : List Listed → ℕ → Listed
-listedAt xs i = getD xs i (record { entry = none; clinic = 0 })
 
 module _ (s : List ℕ) (b : Notebook) (r : readFile s ≡ ok b) (i : ℕ) (h : i < length (entriesOf s)) where
   -- the clinic of the record i: in a group the line of the last 51 of that group, up to the record itself; the first record stands at line 2
@@ -146,7 +146,7 @@ get-take (e ∷ es) (suc n) (suc k) h g = get-take es n k (omega arith) (omega a
 
 -- ---- by the place of a number
 
-listed-numbers : (xs : List Listed) (i j : ℕ) → i < length xs → j < 7 → getD (numbers xs) (7 * i + j) 0 ≡ getD (entryNumbers (getD xs i (record { entry = none; clinic = 0 }))) j 0
+listed-numbers : (xs : List Listed) (i j : ℕ) → i < length xs → j < 7 → getD (numbers xs) (7 * i + j) 0 ≡ getD (entryNumbers (listedAt xs i)) j 0
 unfolding numbers sevenNumbers
 listed-numbers [] i j h g = absurd (omega arith)
 listed-numbers (x ∷ xs) zero j h g =

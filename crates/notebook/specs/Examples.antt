@@ -1,6 +1,7 @@
 -- Examples, computed.
 -- A small notebook in direction 2 with what specs/Groups.antt says of it: a 1 and a 4, a group with an 11, a group without one, and 701s.
--- Written from document 01; proofs/AllExamples.antt computes it by the definitions.
+-- And the records of three groups with the clinics that specs/Index.antt gives them. Written from documents 01 and 02; proofs/AllExamples.antt
+-- computes both by the definitions.
 use Prim.Native.Nat.{ℕ}
 use mathlib.Core.Bool.{false}
 use mathlib.Core.List.{List, [], _∷_}
@@ -9,6 +10,7 @@ use Rattle.records.specs.Items.{Value, raw, num, day}
 use Rattle.records.specs.Records.{Record}
 use Rattle.notebook.specs.Notebook.{Notebook}
 use Rattle.notebook.specs.Groups.{Parts}
+use Rattle.notebook.specs.Index.{Entry}
 
 -- ---- records, each with the items that the example needs
 
@@ -54,3 +56,17 @@ theirDays = 20160411 ∷ 20160410 ∷ []
 
 abbrev pub theirInstitutions : List (List ℕ)
 theirInstitutions = bytes "1234567" ∷ [] ∷ []
+
+-- ---- document 02, (v): records by number and group, and the clinic of each; the first stands at line 2
+
+abbrev pub entry : ℕ → ℕ → Entry
+entry n g = record { number = n; offset = 0; bytes = 0; group = g; doctor = 0; drug = 0 }
+
+-- a 1; a group with a 51 at line 5; one without; one with a 51 at line 12; a 701
+abbrev pub threeGroups : List Entry
+threeGroups =
+    entry 1 0 ∷ entry 5 1 ∷ entry 11 1 ∷ entry 51 1 ∷ entry 55 1 ∷ entry 201 1 ∷ entry 601 1 ∷ entry 5 2 ∷ entry 201 2 ∷ entry 5 3 ∷ entry 51 3
+    ∷ entry 701 0 ∷ []
+
+abbrev pub theirClinics : List ℕ
+theirClinics = 0 ∷ 0 ∷ 0 ∷ 5 ∷ 5 ∷ 5 ∷ 5 ∷ 0 ∷ 0 ∷ 0 ∷ 12 ∷ 0 ∷ []

@@ -1,6 +1,6 @@
 -- A second statement, proved equal.
 -- What the laws of the index (proofs/IndexLaws.antt, ClinicLaws.antt) say of its entries, without the reader's state: how many have a number, which line
--- an entry cuts out of the file, and the last entry of a number and group among those before another.
+-- an entry cuts out of the file, and the last entry of a number and group among those before another, or up to it.
 use Prim.Native.Nat.{ℕ, _+_}
 use mathlib.Core.Path.{_≡_}
 use mathlib.Core.Bool.{Bool, true, cond, _&&_}

@@ -98,6 +98,7 @@ fn in_rest(p: u32) -> bool
     (p == 401) | (p == 411) | (p == 501) | (p == 601)
 }
 
+// Whether a record of this number stands in a group.
 pub fn in_group(p: u32) -> bool
     ensures { λ r. ⌜ r ≡ inGroup p ⌝ }
 {
