@@ -39,7 +39,7 @@ entryAt es i = getD es i none
 abbrev pub listedAt : List Listed → ℕ → Listed
 listedAt xs i = getD xs i (record { entry = none; clinic = 0 })
 
--- the same, without the walk
+-- the same, by what is kept of the entries before it
 listedEntry : ℕ → ℕ → List Entry → ℕ → Listed
 listedEntry line k es i =
     let e = entryAt es i in
