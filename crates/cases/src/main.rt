@@ -3,7 +3,8 @@
 //
 // A frame, numbers big-endian: one byte, the call (v check, i index, c canonical, k cut, j join, p all pairs of bytes); one byte, the
 // length of the label; the label; four bytes, the elements of the buffer that is lent; eight bytes, the capacity; one byte, the length of
-// the ID; the ID; four bytes, the length of the input; the input. What a call does not take is not given to it.
+// the ID; the ID; four bytes, the length of the run of used IDs; the run; four bytes, the length of the input; the input. What a call does not take is not
+// given to it.
 //
 // An answer starts with the label, a colon and a space.
 // - Check: its reply as notecheck writes it.
@@ -193,10 +194,17 @@ fn lend_numbers(input: &[u8], room: usize) {
     }
 }
 
-fn reply_of(call: u8, input: &[u8], capacity: u64, id: &[u8], out: &mut [u8]) -> replies::Reply {
+fn reply_of(
+    call: u8,
+    input: &[u8],
+    capacity: u64,
+    id: &[u8],
+    used: &[u8],
+    out: &mut [u8],
+) -> replies::Reply {
     match call {
         b'c' => gateway::notebook_canonical(input, out),
-        b'k' => gateway::notebook_cut(input, capacity, id, out),
+        b'k' => gateway::notebook_cut(input, capacity, id, used, out),
         _ => gateway::notebook_join(input, out),
     }
 }
@@ -208,27 +216,35 @@ fn values_of(call: u8) -> usize {
     }
 }
 
-fn rewrite(call: u8, input: &[u8], capacity: u64, id: &[u8], space: &mut [u8], room: usize) {
+fn rewrite(
+    call: u8,
+    input: &[u8],
+    capacity: u64,
+    id: &[u8],
+    used: &[u8],
+    space: &mut [u8],
+    room: usize,
+) {
     let start = 0;
     if space.len() < room {
         return;
     }
     let out = &mut space[start..room];
     fill_bytes(out);
-    let r = reply_of(call, input, capacity, id, out);
+    let r = reply_of(call, input, capacity, id, used, out);
     write_reply(values_of(call), r);
     write_bytes(out);
 }
 
-// Room for every input and every result. It is a function of its own so that a proof has the length from the type: where the zeros
+// Room for every input, every run of used IDs and every result. It is a function of its own so that a proof has the length from the type: where the zeros
 // stand beside the part that is lent, the prover counts them, for seconds.
 fn bytes() -> [u8; 140000] {
     [0u8; 140000]
 }
 
-fn lend_bytes(call: u8, input: &[u8], capacity: u64, id: &[u8], room: usize) {
+fn lend_bytes(call: u8, input: &[u8], capacity: u64, id: &[u8], used: &[u8], room: usize) {
     let mut space = bytes();
-    rewrite(call, input, capacity, id, &mut space, room);
+    rewrite(call, input, capacity, id, used, &mut space, room);
 }
 
 // --- all pairs of bytes ---
@@ -265,12 +281,12 @@ fn write_pairs() {
 
 // --- frames ---
 
-fn answer(call: u8, room: u64, capacity: u64, id: &[u8], input: &[u8]) {
+fn answer(call: u8, room: u64, capacity: u64, id: &[u8], used: &[u8], input: &[u8]) {
     match call {
         b'v' => answers::write_reply(STDOUT_FILENO, 3, gateway::notebook_check(input)),
         b'i' => lend_numbers(input, room as usize),
         b'p' => write_pairs(),
-        _ => lend_bytes(call, input, capacity, id, room as usize),
+        _ => lend_bytes(call, input, capacity, id, used, room as usize),
     }
 }
 
@@ -283,13 +299,21 @@ fn copy_label(label: &mut [u8]) {
 }
 
 // The part of a frame after its label.
-fn answer_rest(call: u8, id: &mut [u8], input: &mut [u8]) {
+fn answer_rest(call: u8, id: &mut [u8], used: &mut [u8], input: &mut [u8]) {
     let start = 0;
     let room = read_four();
     let capacity = read_eight();
     let i = read_run(id, read_byte() as u64);
+    let u = read_run(used, read_four());
     let n = read_run(input, read_four());
-    answer(call, room, capacity, &id[start..i], &input[start..n]);
+    answer(
+        call,
+        room,
+        capacity,
+        &id[start..i],
+        &used[start..u],
+        &input[start..n],
+    );
 }
 
 // One frame: whether there was one.
@@ -299,9 +323,10 @@ fn next_frame() -> bool {
         return false;
     }
     let mut short = [0u8; 255];
+    let mut run = bytes();
     let mut long = bytes();
     copy_label(&mut short);
-    answer_rest(call, &mut short, &mut long);
+    answer_rest(call, &mut short, &mut run, &mut long);
     true
 }
 

@@ -2,7 +2,7 @@
 use Prim.Native.Nat.{ℕ, suc, _-_, _≤_}
 use native.Mathlib.Omega.{arith}
 use mathlib.Core.Path.{_≡_, refl, sym, ap, _∙_, subst}
-use mathlib.Core.Bool.{Bool, true, false, cond}
+use mathlib.Core.Bool.{Bool, true, false, not}
 use mathlib.Core.Option.{some}
 use mathlib.Core.List.{List, [], _∷_, _++_}
 use borrow.Author.Tests.{eqb-true}
@@ -10,7 +10,7 @@ use lib.Dec.{eqb}
 use lib.ListN.{length, take}
 use Rattle.lists.specs.Lists.{all, Res, ok, refused, mapRes, andThen}
 use Rattle.lists.specs.Searching.{part}
-use Rattle.lists.proofs.Tests.{both}
+use Rattle.lists.proofs.Tests.{both, not-true′, not-false′}
 use Rattle.digits.specs.Digits.{isDigit}
 use Rattle.characters.specs.Rows.{flat}
 use Rattle.notebook.specs.Notebook.{Notebook, readFile}
@@ -24,8 +24,9 @@ use Rattle.notebook.specs.Canonical.{headRow, recordRows, canonicalBytes, canon
 use Rattle.canonical.specs.Writing.{MadeMeans, MadeOf}
 use Rattle.notebook.proofs.CanonicalLaws.{canonical-head, canonical-rows, canonical-small, canonical-long}
 use Rattle.packing.specs.Widths.{Plan, inOne, inRuns, noPlan, plan}
+use Rattle.ids.specs.Used.{unused}
 use Rattle.division.specs.Marks.{validID, markRow}
-use Rattle.division.specs.Cut.{pieceBytes, numbered, planned, cutting, listed, listFor, cutList, writesPieces, cutResult}
+use Rattle.division.specs.Cut.{pieceBytes, numbered, planned, cutting, listed, forID, listFor, cutList, writesPieces, cutResult}
 use Rattle.cut.specs.Loops.{numberedAs, plannedAs, cuttingOf, Given, cutOfBytes}
 
 -- ---- the pieces of a notebook are those of its canonical bytes
@@ -71,12 +72,14 @@ id-length : (id : List ℕ) → validID id ≡ true → length id ≡ 14
 unfolding validID
 id-length id e = eqb-true (length id) 14 (both (eqb (length id) 14) (all isDigit id) e .0)
 
-module _ (f : List ℕ) (c : ℕ) (id d : List ℕ) {buf : List ℕ} {l : ℕ} {m : Answer} (p : MadeOf l (canonicalFile f) buf m) where
-  pub cut-refused : {n line : ℕ} → m ≡ Refused n line → Gives (cutResult f c id) d d (Refused n line)
+-- ---- the ways through cut_by
+
+module _ (f : List ℕ) (c : ℕ) (id used d : List ℕ) {buf : List ℕ} {l : ℕ} {m : Answer} (p : MadeOf l (canonicalFile f) buf m) where
+  pub cut-refused : {n line : ℕ} → m ≡ Refused n line → Gives (cutResult f c id used) d d (Refused n line)
   unfolding canonicalFile cutResult cutList
   cut-refused {n} {line} e =
       let q : readFile f ≡ refused n line = refused-of n line (readFile f) (subst (MadeMeans (mapRes canonicalBytes (readFile f)) buf) e (p .means)) in
-      gives-refusal d (ap (λ (r : Res Notebook). mapRes writesPieces (andThen r (listFor id c))) q)
+      gives-refusal d (ap (λ (r : Res Notebook). mapRes writesPieces (andThen r (listFor id used c))) q)
 
   module _ {t i j : ℕ} (e : m ≡ Done t i j) where
     means : (canonicalFile f ≡ ok (take t buf)) × (t ≤ length buf)
@@ -89,30 +92,43 @@ module _ (f : List ℕ) (c : ℕ) (id d : List ℕ) {buf : List ℕ} {l : ℕ} {
     unfolding canonicalFile
     made = let z : t - 0 ≡ t = omega arith in made-of f (part buf 0 t) (readFile f) refl (rw z (means .0))
 
-    list-is : cutList f c id ≡ cond (validID id) (listed (cutting id c (arrange (made .book)))) (refused 17 0)
-    unfolding cutList
-    list-is = ap (λ (r : Res Notebook). andThen r (listFor id c)) (made .read)
-
+    -- x, y: what the tests of the ID said
     module _ {x : Bool} (q : x ≡ validID id) where
-      pub cut-no-id : x ≡ false → Gives (cutResult f c id) d d (Refused 17 0)
-      unfolding cutResult
-      cut-no-id z =
-          let y : cutList f c id ≡ refused 17 0 = list-is ∙ rw (sym q ∙ z) in
-          gives-refusal d (ap (mapRes writesPieces) y)
+      list-is : (v u : Bool) → v ≡ validID id → u ≡ unused id used → cutList f c id used ≡ forID v u (listed (cutting id c (arrange (made .book))))
+      unfolding cutList
+      list-is v u e₁ e₂ = ap (λ (r : Res Notebook). andThen r (listFor id used c)) (made .read) ∙ rw (← e₁, ← e₂)
 
-      module _ (z : x ≡ true) where
+      pub cut-no-id : not x ≡ true → Gives (cutResult f c id used) d d (Refused 17 0)
+      unfolding cutResult
+      cut-no-id z = gives-refusal d (ap (mapRes writesPieces) (list-is false (unused id used) (sym (not-true′ x z) ∙ q) refl))
+
+      module _ (z : not x ≡ false) where
+        digits : true ≡ validID id
+        digits = sym (not-false′ x z) ∙ q
+
+        pub cut-long : length id ≡ 14
+        cut-long = id-length id (sym digits)
+
         pub cut-given : Given (part buf 0 t) id
         cut-given = record {
           bytes = rw (← made .bytes) (canonical-small f (made .book) (made .read));
           header = rw (← made .bytes) (canonical-long f (made .book) (made .read));
-          ident = id-length id (sym q ∙ z);
+          ident = cut-long;
         }
 
-        pieces-are : cutList f c id ≡ listed (cuttingOf id c (part buf 0 t))
-        pieces-are = list-is ∙ rw (sym q ∙ z) (ap listed (sym (cutting-as f (made .book) (made .read) id c) ∙ ap (cuttingOf id c) (made .bytes)))
+        module _ {y : Bool} (p₁ : y ≡ unused id used) where
+          pub cut-used : not y ≡ true → Gives (cutResult f c id used) d d (Refused 24 0)
+          unfolding cutResult
+          cut-used w = gives-refusal d (ap (mapRes writesPieces) (list-is true false digits (sym (not-true′ y w) ∙ p₁)))
 
-        pub cut-gives : {d′ : List ℕ} {r : Answer} → Gives (cutOfBytes (part buf 0 t) c id) d d′ r → Gives (cutResult f c id) d d′ r
-        unfolding cutResult cutOfBytes
-        cut-gives {d′} {r} v = subst (λ (x : Res Result). Gives x d d′ r) (ap (mapRes writesPieces) (sym pieces-are)) v
+          module _ (w : not y ≡ false) where
+            pieces-are : cutList f c id used ≡ listed (cuttingOf id c (part buf 0 t))
+            pieces-are =
+                list-is true true digits (sym (not-false′ y w) ∙ p₁)
+                ∙ ap listed (sym (cutting-as f (made .book) (made .read) id c) ∙ ap (cuttingOf id c) (made .bytes))
 
-pub ruleset cut-laws = (cut-refused, cut-inside, cut-no-id, cut-given, cut-gives)
+            pub cut-gives : {d′ : List ℕ} {r : Answer} → Gives (cutOfBytes (part buf 0 t) c id) d d′ r → Gives (cutResult f c id used) d d′ r
+            unfolding cutResult cutOfBytes
+            cut-gives {d′} {r} v = subst (λ (x : Res Result). Gives x d d′ r) (ap (mapRes writesPieces) (sym pieces-are)) v
+
+pub ruleset cut-laws = (cut-refused, cut-inside, cut-no-id, cut-long, cut-used, cut-given, cut-gives)

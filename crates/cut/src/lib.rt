@@ -200,38 +200,48 @@ fn cut_bytes(s: &[u8], capacity: u64, id: &[u8], out: &mut [u8]) -> Answer
     }
 }
 
-// Cuts a file into pieces of at most the capacity, one after another from the output's start on; or the one refusal. bytes: an array for the
-// canonical file.
-fn cut_by(file: &[u8], bytes: &mut [u8], capacity: u64, id: &[u8], out: &mut [u8]) -> Answer
+// Cuts a file into pieces of at most the capacity, one after another from the output's start on; or the one refusal. used: the run of used IDs.
+// bytes: an array for the canonical file.
+fn cut_by(
+    file: &[u8],
+    bytes: &mut [u8],
+    capacity: u64,
+    id: &[u8],
+    used: &[u8],
+    out: &mut [u8],
+) -> Answer
     requires { ⌜ Holds (now file) (now bytes) ⌝ }
-    ensures { λ r. ⌜ Gives (cutResult (now (file .entry)) capacity (now (id .entry))) (now (out .entry)) (now (out .exit)) r ⌝ }
+    ensures { λ r. ⌜ Gives (cutResult (now (file .entry)) capacity (now (id .entry)) (now (used .entry))) (now (out .entry)) (now (out .exit)) r ⌝ }
 {
     match canonical::canonical_into(file, bytes) {
         Answer::Refused(number, line) => Answer::Refused(number, line),
         Answer::Done(count, _, _) => {
-            if pieces::valid_id(id) {
-                let start = 0;
-                let end = count as usize;
-                return cut_bytes(&bytes[start..end], capacity, id, out);
+            if !pieces::valid_id(id) {
+                return Answer::Refused(17, 0);
             }
-            Answer::Refused(17, 0)
+            if !used::is_unused(id, used) {
+                return Answer::Refused(24, 0);
+            }
+            let start = 0;
+            let end = count as usize;
+            cut_bytes(&bytes[start..end], capacity, id, out)
         }
     }
 }
 
 // The same with an array of its own.
-pub fn cut(file: &[u8], capacity: u64, id: &[u8], out: &mut [u8]) -> Answer
-    ensures { λ r. ⌜ Gives (cutResult (now (file .entry)) capacity (now (id .entry))) (now (out .entry)) (now (out .exit)) r ⌝ }
+pub fn cut(file: &[u8], capacity: u64, id: &[u8], used: &[u8], out: &mut [u8]) -> Answer
+    ensures { λ r. ⌜ Gives (cutResult (now (file .entry)) capacity (now (id .entry)) (now (used .entry))) (now (out .entry)) (now (out .exit)) r ⌝ }
 {
     let len = file.len();
     if len <= canonical::SHORT {
         let mut bytes = [0u8; canonical::SHORT];
-        return cut_by(file, &mut bytes, capacity, id, out);
+        return cut_by(file, &mut bytes, capacity, id, used, out);
     }
     if len <= canonical::MIDDLING {
         let mut bytes = [0u8; canonical::MIDDLING];
-        return cut_by(file, &mut bytes, capacity, id, out);
+        return cut_by(file, &mut bytes, capacity, id, used, out);
     }
     let mut bytes = [0u8; canonical::ANY];
-    cut_by(file, &mut bytes, capacity, id, out)
+    cut_by(file, &mut bytes, capacity, id, used, out)
 }

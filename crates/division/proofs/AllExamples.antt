@@ -26,6 +26,7 @@ use Rattle.notebook.proofs.Accepted.{no-refusal}
 use Rattle.notebook.specs.Same.{arrange}
 use Rattle.notebook.specs.Canonical.{recordRows, writeFile, canonicalBytes}
 use Rattle.notebook.proofs.CanonicalLaws.{canonical-same}
+use Rattle.ids.specs.Used.{firstIDs, idsIn, unused}
 use Rattle.packing.specs.Packing.{total, put, pack}
 use Rattle.packing.specs.Widths.{over, serves, tries, plan}
 use Rattle.division.specs.Marks.{validID, markLine, markRow, readMark}
@@ -49,8 +50,8 @@ pub joins-hold : map joinFile inputs ≡ theirFiles
 unfolding bytes value number spell isLine leap monthLength isReal isDay gregorian eraOf inEra fromEra readDay table edge oneWidth isDecimal sized fault valueOf itemFault itemValue itemsFault itemsValue rowIn tableRow pairs t911 isMark recordFrom faultFrom lineFault recordOf header inGroup mayFollow pairBroken misplaced closesRp lacking missing valueWrong newerGroup orderRefusal unfinished nothingYet start hadAfter advance refusalOf stepOf finishOf factsOf stepLine closed onward recordsFrom readRows readFile validID readMark kindOf brokenFrom brokenLine bodyOf piecesIn splitRows split fileOf unmarked partOf allParts agree findPart gather joinPieces joinedFile joinFile
 joins-hold = refl
 
-pub cuts-hold : map (λ (a : Asked). answerIn (cutResult (a .file) (a .capacity) (a .id)) (replicate (a .room) 0)) asked ≡ theirAnswers
-unfolding bytes spell isLine value leap monthLength isReal isDay gregorian eraOf eraOn inEra fromEra readDay writeDay table edge oneWidth isDecimal sized fault valueOf itemFault itemValue itemsFault itemsValue rowIn tableRow pairs t911 recordFrom faultFrom lineFault recordOf header inGroup mayFollow pairBroken misplaced closesRp lacking missing valueWrong newerGroup orderRefusal unfinished nothingYet start hadAfter advance refusalOf stepOf finishOf factsOf stepLine closed onward recordsFrom readRows readFile joined write recordRows arrange writeFile canonicalBytes total put pack digitCount over serves tries plan validID markLine markRow pieceBytes numbered cutting cutList cutResult answerIn
+pub cuts-hold : map (λ (a : Asked). answerIn (cutResult (a .file) (a .capacity) (a .id) (a .used)) (replicate (a .room) 0)) asked ≡ theirAnswers
+unfolding bytes spell isLine value leap monthLength isReal isDay gregorian eraOf eraOn inEra fromEra readDay writeDay table edge oneWidth isDecimal sized fault valueOf itemFault itemValue itemsFault itemsValue rowIn tableRow pairs t911 recordFrom faultFrom lineFault recordOf header inGroup mayFollow pairBroken misplaced closesRp lacking missing valueWrong newerGroup orderRefusal unfinished nothingYet start hadAfter advance refusalOf stepOf finishOf factsOf stepLine closed onward recordsFrom readRows readFile joined write recordRows arrange writeFile canonicalBytes total put pack digitCount over serves tries plan validID firstIDs idsIn unused markLine markRow pieceBytes numbered cutting cutList cutResult answerIn
 cuts-hold = refl
 
 -- ---- sound lists

@@ -28,11 +28,12 @@ use Rattle.printing.specs.Printed.{digitList as decimalDigits, decimal as decim
 use Rattle.packing.specs.Packing.{total, put}
 use Rattle.packing.specs.Widths.{Plan, over, serves}
 use Rattle.packing.proofs.Computed.{packed, tried, planned, plan-is}
+use Rattle.ids.specs.Used.{firstIDs, idsIn, unused}
 use Rattle.division.specs.Marks.{validID, markLine, markRow}
 use Rattle.replies.specs.declared.Answer.{Answer}
 use Rattle.replies.specs.declared.Answer.the-variants.{Done, Refused}
 use Rattle.replies.specs.Results.{answerOf, fitting, answerIn}
-use Rattle.division.specs.Cut.{pieceBytes, numbered, planned as piecesOf, cutting, listed, listFor, cutList, writesPieces, cutResult}
+use Rattle.division.specs.Cut.{pieceBytes, numbered, planned as piecesOf, cutting, listed, forID, listFor, cutList, writesPieces, cutResult}
 use Rattle.division.specs.Cases.{withNotes, Case, cases, thousand, answer}
 
 -- ---- the files of the cases of cutting, read
@@ -68,25 +69,25 @@ abbrev answering : Res (List (List ℕ)) → Answer
 answering x = answerOf (fitting (mapRes writesPieces x) thousand)
 
 abbrev planning : Notebook → Plan (List ℕ) → Answer
-planning b p = answering (cond (validID ident) (listed (piecesOf ident b p)) (refused 17 0))
+planning b p = answering (forID (validID ident) (unused ident []) (listed (piecesOf ident b p)))
 
 abbrev computed : ℕ → Notebook → Answer
 computed c b = planning (arrange b) (planned length c (recordRows (arrange b .records)))
 
-answered : (s : List ℕ) (b : Notebook) (c : ℕ) → readFile s ≡ ok b → answerIn (cutResult s c ident) thousand ≡ computed c b
+answered : (s : List ℕ) (b : Notebook) (c : ℕ) → readFile s ≡ ok b → answerIn (cutResult s c ident []) thousand ≡ computed c b
 unfolding answerIn cutResult cutList cutting
 answered s b c e =
-    ap (λ (r : Res Notebook). answering (andThen r (listFor ident c))) e
+    ap (λ (r : Res Notebook). answering (andThen r (listFor ident [] c))) e
     ∙ ap (planning (arrange b)) (plan-is length c (recordRows (arrange b .records)))
 
 abbrev Cut : ℕ → ℕ → Answer → Type 0
-Cut n c r = answerIn (cutResult (withNotes n) c ident) thousand ≡ r
+Cut n c r = answerIn (cutResult (withNotes n) c ident []) thousand ≡ r
 
 cut : (n c : ℕ) → Read n → Cut n c (computed c (book n))
 cut n c e = answered (withNotes n) (book n) c e
 
 cuts : Cut 20 69 (Done 6 404 0) × Cut 18 60 (Done 10 547 0) × Cut 18 59 (Refused 18 0) × Cut 2 51 (Done 1 51 0) × Cut 2 50 (Refused 18 0)
-unfolding notes book bytes spell eraOn inEra writeDay joined header write recordRows arrange writeFile canonicalBytes total put packed digitCount over serves tried planned validID markLine markRow pieceBytes numbered t911
+unfolding notes book bytes spell eraOn inEra writeDay joined header write recordRows arrange writeFile canonicalBytes total put packed digitCount over serves tried planned validID firstIDs idsIn unused markLine markRow pieceBytes numbered t911
 cuts = (cut 20 69 (reads .0), cut 18 60 (reads .1), cut 18 59 (reads .1), cut 2 51 (reads .2), cut 2 50 (reads .2))
 
 -- ---- ALL CASES

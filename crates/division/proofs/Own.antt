@@ -5,7 +5,7 @@ use native.Mathlib.Omega.{arith}
 use mathlib.Core.Path.{_≡_, refl, sym, ap, _∙_, subst}
 use mathlib.Core.Bool.{Bool, true, false}
 use mathlib.Core.Option.{some}
-use mathlib.Core.List.{List, [], _∷_, _++_, map, append-nil}
+use mathlib.Core.List.{List, [], _∷_, _++_, map, append-nil, append-assoc}
 use borrow.Author.Tests.{le-leb}
 use lib.ListN.{length, length-append}
 use Rattle.lists.specs.Lists.{All, ok}
@@ -25,14 +25,14 @@ use Rattle.packing.specs.Widths.{over, Plan, inOne, inRuns as divided, noPlan, 
 use Rattle.packing.proofs.Widths.{Divides, Planned, plan-good}
 use Rattle.division.specs.Marks.{validID, markRow, markLine, readMark}
 use Rattle.division.specs.Pieces.{Piece, split, fileOf}
-use Rattle.division.proofs.Chunks.{Chunk, chunkBytes, pieceOf, Body, Good, flat-append, split-bytes, split-one}
+use Rattle.division.proofs.Chunks.{Chunk, mark, chunkBytes, pieceOf, Body, Good, flat-append, split-bytes, split-one}
 use Rattle.division.proofs.MarkLaws.{read-written, written-is, mark-text, mark-body, mark-length}
 use Rattle.division.proofs.Bodies.{read-unmarked, read-body}
 use Rattle.division.specs.Cut.{pieceBytes, numbered, planned, cutting}
 use Rattle.division.specs.Join.{unmarked, Part, partOf, allParts, joinParts, joinPieces, joinedFile, joinFile}
 use Rattle.division.specs.Orders.{Perm}
 use Rattle.division.specs.Demand.{OnePiece, Within, Sound}
-use Rattle.division.proofs.Orders.{all-append, all-left, all-right, map-length, perm-refl, perm-all, perm-length, perm-map, perm-flat, perm-unmap, perm-one}
+use Rattle.division.proofs.Orders.{all-append, all-map, all-left, all-right, map-length, perm-refl, perm-all, perm-length, perm-map, perm-flat, perm-unmap, perm-one}
 use Rattle.division.proofs.Parts.{no-none, some-inj, part, parts, parts-distinct, parts-alike, parts-length, Alike, join-alike, gather-perm, gather-parts, part-of}
 
 -- ---- lengths of rows
@@ -121,6 +121,33 @@ map-pieces (p ∷ ps) = let a : bytesOf p ≡ chunkBytes (chunkOf p) = piece-chu
 own-pieces : (ps : List Part) → All Own ps → All OnePiece (map bytesOf ps)
 own-pieces [] h = tt
 own-pieces (p ∷ ps) (h, t) = (record { piece = pieceOf (chunkOf p); is = ap split (piece-chunk p) ∙ split-one (chunkOf p) (own-good p h) }, own-pieces ps t)
+
+-- a piece that, with a 1Ah after it or without, is one piece to joining, whose record 911 has the ID i
+pub record Marked (i p : List ℕ) : Type 0 where
+  pub provider : Bool
+  pub rows : List (List ℕ)
+  pub good : All Body rows
+  pub bytes : (e : Bool) → p ++ mark e ≡ chunkBytes (record { provider = provider; rows = rows; ended = e })
+  pub part : Part
+  pub is : partOf provider rows ≡ some part
+  pub ident : part .mark .ident ≡ i
+
+own-ended : (p : Part) (e : Bool) → bytesOf p ++ mark e ≡ chunkBytes (record { provider = p .provider; rows = p .rows ++ (rowOf p ∷ []); ended = e })
+unfolding chunkBytes
+own-ended p e = ap (λ (t : List ℕ). t ++ mark e) (piece-chunk p) ∙ go e
+  where
+    rs : List (List ℕ)
+    rs = p .rows ++ (rowOf p ∷ [])
+
+    go : (e : Bool) → chunkBytes (chunkOf p) ++ mark e ≡ headRow (p .provider) ++ (flat rs ++ mark e)
+    go e =
+        append-assoc (headRow (p .provider)) (flat rs ++ []) (mark e)
+        ∙ ap (λ (t : List ℕ). headRow (p .provider) ++ (t ++ mark e)) (append-nil (flat rs))
+
+own-marked : (i : List ℕ) (ps : List Part) → All Own ps → All (λ p. p .mark .ident ≡ i) ps → All (Marked i) (map bytesOf ps)
+own-marked i [] h g = tt
+own-marked i (p ∷ ps) (h, t) (g, u) =
+    (record { provider = p .provider; rows = chunkOf p .rows; good = own-good p h; bytes = own-ended p; part = p; is = own-part p h; ident = g }, own-marked i ps t u)
 
 -- cutting's own numbering
 pub numbered-bytes : (d : Bool) (i : List ℕ) (n k : ℕ) (ys : List (List (List ℕ))) → numbered d i n k ys ≡ map bytesOf (parts d i n k ys)
@@ -314,6 +341,16 @@ module _ (f i : List ℕ) (b : Notebook) (c : ℕ) (e : readFile f ≡ ok b) whe
       go noPlan h q = absurd (no-none q)
 
   module _ (v : validID i ≡ true) where
+    -- PIECES OF MORE THAN ONE have the ID
+    pub marked : (ps : List (List ℕ)) → cutting i c b ≡ some ps → 2 ≤ length ps → All (Marked i) ps
+    marked = by-plan (λ ps. 2 ≤ length ps → All (Marked i) ps) (λ h l. absurd (omega (arith, l))) several
+      where
+        several : (xs : List (List (List ℕ))) → Divides length c ls xs → 2 ≤ length (map bytesOf (parts (b .provider) i (length xs) 1 xs))
+            → All (Marked i) (map bytesOf (parts (b .provider) i (length xs) 1 xs))
+        several xs g l =
+            own-marked i (own v xs g) (parts-own (b .provider) i (length xs) 1 xs v (g .most) (omega (arith, g .most)) (runs-free v xs g))
+            (all-map (Alike (b .provider) i (length xs)) (λ p. p .mark .ident ≡ i) (λ p a. a .ident) (own v xs g) (parts-alike (b .provider) i (length xs) 1 xs))
+
     -- WHAT CUTTING FINDS IS SOUND
     pub sound : (g : List ℕ) → CarrySame (writeFile b) g → (ps : List (List ℕ)) → cutting i c b ≡ some ps → Sound g c ps
     sound g s = by-plan (Sound g c) (sound-whole g s) (λ xs d. sound-split v xs d g s)

@@ -10,7 +10,7 @@ use borrow.Author.Tests.{eqb-true, eqb-false, eq-eqb, ne-eqb, leb-true, le-leb}
 use lib.Dec.{leb, eqb}
 use lib.ListN.{length}
 use Rattle.lists.specs.Lists.{same, All}
-use Rattle.lists.proofs.Tests.{both, same-refl, not-true′}
+use Rattle.lists.proofs.Tests.{both, same-refl, same-true, not-true′}
 use Rattle.characters.specs.Text.{text}
 use Rattle.records.specs.Records.{isMark}
 use Rattle.packing.specs.Divisions.{concat}
@@ -314,20 +314,24 @@ parts-are (x ∷ xs) ps e = go (partOf (x .provider) (x .rows)) refl (allParts x
 -- ---- what parts that are joined have in common
 
 pub record Joined (ps : List Part) (w : Piece) : Type 0 where
+  pub ident : List ℕ
   pub count : ℕ
+  pub one-id : All (λ p. p .mark .ident ≡ ident) ps
   pub alike : All (λ p. p .mark .count ≡ count) ps
   pub two : 2 ≤ count
   pub many : length ps ≡ count
   pub gathered : gather ps count 1 ≡ some (w .rows)
 
-agree-counts : (p : Part) (qs : List Part) → agree p qs ≡ true → All (λ q. q .mark .count ≡ p .mark .count) qs
+agree-marks : (p : Part) (qs : List Part) → agree p qs ≡ true
+    → All (λ q. q .mark .ident ≡ p .mark .ident) qs × All (λ q. q .mark .count ≡ p .mark .count) qs
 unfolding agree
-agree-counts p [] e = tt
-agree-counts p (q ∷ qs) e =
+agree-marks p [] e = (tt, tt)
+agree-marks p (q ∷ qs) e =
     let a = both (Bool·beq (p .provider) (q .provider) && (same (p .mark .ident) (q .mark .ident) && eqb (p .mark .count) (q .mark .count))) (agree p qs) e in
     let b = both (Bool·beq (p .provider) (q .provider)) (same (p .mark .ident) (q .mark .ident) && eqb (p .mark .count) (q .mark .count)) (a .0) in
     let c = both (same (p .mark .ident) (q .mark .ident)) (eqb (p .mark .count) (q .mark .count)) (b .1) in
-    (sym (eqb-true _ _ (c .1)), agree-counts p qs (a .1))
+    let t = agree-marks p qs (a .1) in
+    ((sym (same-true _ _ (c .0)), t .0), (sym (eqb-true _ _ (c .1)), t .1))
 
 whole-rows : (d : Bool) (m : Option (List (List ℕ))) (w : Piece) → onePiece d m ≡ some w → m ≡ some (w .rows)
 whole-rows d none w e = absurd (no-none e)
@@ -343,9 +347,12 @@ parts-joined (p ∷ ps) w e = go (agree p ps && (leb 2 (p .mark .count) && eqb (
     go true q e =
         let a = both (agree p ps) (leb 2 (p .mark .count) && eqb (suc (length ps)) (p .mark .count)) q in
         let b = both (leb 2 (p .mark .count)) (eqb (suc (length ps)) (p .mark .count)) (a .1) in
+        let m = agree-marks p ps (a .0) in
         record {
+          ident = p .mark .ident;
           count = p .mark .count;
-          alike = (refl, agree-counts p ps (a .0));
+          one-id = (refl, m .0);
+          alike = (refl, m .1);
           two = leb-true _ _ (b .0);
           many = eqb-true _ _ (b .1);
           gathered = whole-rows (p .provider) (gather (p ∷ ps) (p .mark .count) 1) w e;

@@ -109,12 +109,12 @@ dated NotADate = noDay
 abbrev pub thousand : List ℕ
 thousand = replicate 1000 0
 
--- check has no output; cut has an ID of 14 digits
+-- check has no output; cut has an ID of 14 digits, and none has been used
 abbrev pub answer : Asked → Said
 answer (date s) = dated (readDay (bytes s))
 answer (item k s) = fault (faultOf k (bytes s))
 answer (size s) = count (length s)
 answer (check s) = reply (replyTo (checkResult s) [])
 answer (canonical s) = reply (replyTo (canonicalResult s) thousand)
-answer (cut s c) = reply (replyTo (cutResult s c (bytes "20261115000001")) thousand)
+answer (cut s c) = reply (replyTo (cutResult s c (bytes "20261115000001") []) thousand)
 answer (prints s) = line (printed 3 (replyTo (checkResult s) []))

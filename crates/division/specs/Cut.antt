@@ -1,6 +1,7 @@
 -- Definitions, to be believed.
 -- The call cut. Document 01, "Cutting and joining": "Piece k is line 1, a run of canonical records, and 911,ID,n,k"; "Pieces are written one
--- after another; the result holds their count and total length"; "Cutting: 1–16, 17, 18, 20".
+-- after another; the result holds their count and total length"; "Cutting: 1–16, 17, 18, 20". Document 02 (vii): "Cutting now also takes the used
+-- IDs"; 24 "after 17 and before 18".
 use Prim.Native.Nat.{ℕ, suc}
 use mathlib.Core.Bool.{Bool, cond}
 use mathlib.Core.Option.{Option, none, some}
@@ -11,6 +12,7 @@ use Rattle.characters.specs.Rows.{flat}
 use Rattle.notebook.specs.Notebook.{Notebook, readFile}
 use Rattle.notebook.specs.Same.{arrange}
 use Rattle.notebook.specs.Canonical.{headRow, recordRows, writeFile}
+use Rattle.ids.specs.Used.{unused}
 use Rattle.packing.specs.Widths.{Plan, inOne, inRuns, noPlan, plan}
 use Rattle.division.specs.Marks.{validID, markRow}
 use Rattle.replies.specs.Results.{Result}
@@ -36,22 +38,27 @@ planned id b noPlan = none
 unfoldable pub cutting : List ℕ → ℕ → Notebook → Option (List (List ℕ))
 cutting id c b = planned id b (plan length c (recordRows (b .records)))
 
--- ---- the list that is written, or a refusal: the file's, then 17, then 18
+-- ---- the list that is written, or a refusal: the file's, then 17, then 24, then 18
 
 abbrev pub listed : Option (List (List ℕ)) → Res (List (List ℕ))
 listed none = refused 18 0
 listed (some ps) = ok ps
 
--- "a run of canonical records": in the sequence of the canonical file
-abbrev pub listFor : List ℕ → ℕ → Notebook → Res (List (List ℕ))
-listFor id c b = cond (validID id) (listed (cutting id c (arrange b))) (refused 17 0)
+-- 17, then 24, then what follows; digits: the ID is 14 digits, passes: 24 lets it pass
+abbrev pub forID : {A : Type 0} → Bool → Bool → Res A → Res A
+forID digits passes x = cond digits (cond passes x (refused 24 0)) (refused 17 0)
 
-unfoldable pub cutList : List ℕ → ℕ → List ℕ → Res (List (List ℕ))
-cutList s c id = andThen (readFile s) (listFor id c)
+-- "a run of canonical records": in the sequence of the canonical file
+abbrev pub listFor : List ℕ → List ℕ → ℕ → Notebook → Res (List (List ℕ))
+listFor id used c b = forID (validID id) (unused id used) (listed (cutting id c (arrange b)))
+
+unfoldable pub cutList : List ℕ → ℕ → List ℕ → List ℕ → Res (List (List ℕ))
+cutList s c id used = andThen (readFile s) (listFor id used c)
 
 -- "the result holds their count and total length": a pieces, b bytes
 abbrev pub writesPieces : List (List ℕ) → Result
 writesPieces ps = record { a = length ps; b = length (flat ps); c = 0; written = flat ps }
 
-unfoldable pub cutResult : List ℕ → ℕ → List ℕ → Res Result
-cutResult s c id = mapRes writesPieces (cutList s c id)
+-- a file, a capacity, an ID, and the run of used IDs
+unfoldable pub cutResult : List ℕ → ℕ → List ℕ → List ℕ → Res Result
+cutResult s c id used = mapRes writesPieces (cutList s c id used)

@@ -13,6 +13,7 @@ use Rattle.characters.specs.Rows.{flat}
 use Rattle.notebook.specs.Notebook.{Notebook, readFile}
 use Rattle.notebook.specs.Same.{SameNotebook, CarrySame}
 use Rattle.notebook.specs.Canonical.{canonicalResult}
+use Rattle.ids.specs.Used.{unused}
 use Rattle.division.specs.Marks.{validID}
 use Rattle.division.specs.Pieces.{Piece, split}
 use Rattle.division.specs.Cut.{cutResult}
@@ -68,9 +69,9 @@ pub record ListIn (out : List ℕ) (n t : ℕ) (ps : List (List ℕ)) : Type 0 w
   pub whole : All OnePiece ps
   pub count : length ps ≡ n
 
--- for an accepted file, any capacity, ID and output
-abbrev pub ForFile : (List ℕ → Notebook → ℕ → List ℕ → List ℕ → Type 0) → Type 0
-ForFile P = (f : List ℕ) (b : Notebook) (c : ℕ) (id out : List ℕ) → readFile f ≡ ok b → P f b c id out
+-- for an accepted file, any capacity, ID, run of used IDs and output
+abbrev pub ForFile : (List ℕ → Notebook → ℕ → List ℕ → List ℕ → List ℕ → Type 0) → Type 0
+ForFile P = (f : List ℕ) (b : Notebook) (c : ℕ) (id used out : List ℕ) → readFile f ≡ ok b → P f b c id used out
 
 -- "Whenever our cutting writes a list, that list is sound for its file and capacity, and the result gives its number of pieces. Every other
 -- list sound for them has at least as many." As what is written splits into whole pieces in one way only, the list is told by its bytes.
@@ -85,27 +86,32 @@ pub record Written (f : List ℕ) (c : ℕ) (out : List ℕ) (n t : ℕ) : Type 
 
 abbrev pub Cutting-writes : Type 0
 Cutting-writes =
-    ForFile (λ f b c id out. (n t : ℕ) → replyTo (cutResult f c id) out ≡ result n t 0 → Written f c (outputOf (cutResult f c id) out) n t)
+    ForFile (λ f b c id used out. (n t : ℕ) → replyTo (cutResult f c id used) out ≡ result n t 0 → Written f c (outputOf (cutResult f c id used) out) n t)
 
 -- ---- what cutting finds
+
+-- Document 02 (vii): "For a run and an ID of 14 digits that 24 lets pass, which is now what demand 3 calls a valid ID"
+pub record Valid (id used : List ℕ) : Type 0 where
+  pub digits : validID id ≡ true
+  pub passes : unused id used ≡ true
 
 -- "For an accepted file and a valid ID, whatever the size of the output, cutting finds no list exactly when no sound one exists": "Cutting
 -- finds no list when it answers 18"
 abbrev pub Cutting-finds : Type 0
 Cutting-finds =
-    ForFile (λ f b c id out. validID id ≡ true → (replyTo (cutResult f c id) out ≡ refusal 18 0) ↔ ((qs : List (List ℕ)) → Sound f c qs → ⊥))
+    ForFile (λ f b c id used out. Valid id used → (replyTo (cutResult f c id used) out ≡ refusal 18 0) ↔ ((qs : List (List ℕ)) → Sound f c qs → ⊥))
 
 -- "A list found is withheld exactly when the output can't hold it": it "withholds one when it answers 20"; else it is written. A list is
 -- found if some output is not answered with 18, and it is one list for every output.
-pub record Found (f : List ℕ) (c : ℕ) (id : List ℕ) : Type 0 where
+pub record Found (f : List ℕ) (c : ℕ) (id used : List ℕ) : Type 0 where
   pub list : List (List ℕ)
   pub sound : Sound f c list
-  pub delivered : Delivers (cutResult f c id) (result (length list) (length (flat list)) 0) (flat list)
+  pub delivered : Delivers (cutResult f c id used) (result (length list) (length (flat list)) 0) (flat list)
 
 abbrev pub Cutting-withholds : Type 0
-Cutting-withholds = ForFile (λ f b c id out. validID id ≡ true → (replyTo (cutResult f c id) out ≡ refusal 18 0 → ⊥) → Found f c id)
+Cutting-withholds = ForFile (λ f b c id used out. Valid id used → (replyTo (cutResult f c id used) out ≡ refusal 18 0 → ⊥) → Found f c id used)
 
--- So for an accepted file and a valid ID cutting writes a list, finds none or withholds one, and says nothing else: "Cutting: 1–16, 17, 18, 20"
+-- So for an accepted file cutting writes a list, finds none or withholds one exactly if the ID is valid: "Cutting: 1–16, 17, 18, 20"; the others are 17 and 24
 pub record Writes (r : Reply) : Type 0 where
   pub count : ℕ
   pub size : ℕ
@@ -115,7 +121,7 @@ abbrev pub OneOfThree : Reply → Type 0
 OneOfThree r = Writes r ⊎ ((r ≡ refusal 18 0) ⊎ (r ≡ refusal 20 0))
 
 abbrev pub Cutting-says : Type 0
-Cutting-says = ForFile (λ f b c id out. validID id ≡ true → OneOfThree (replyTo (cutResult f c id) out))
+Cutting-says = ForFile (λ f b c id used out. Valid id used ↔ OneOfThree (replyTo (cutResult f c id used) out))
 
 -- ---- joining and canonical
 
@@ -127,8 +133,8 @@ Joining-accepts = (s : List ℕ) (x : ℕ) (w : List ℕ) → (joinFile s ≡ ok
 -- "Joining our pieces, in whichever order they lie, gives the canonical file of the file that was cut, when the output can hold it."
 abbrev pub Joining-restores : Type 0
 Joining-restores =
-    ForFile (λ f b c id out. (n t : ℕ) → replyTo (cutResult f c id) out ≡ result n t 0
-    → (ps qs : List (List ℕ)) → ListIn (outputOf (cutResult f c id) out) n t ps → Perm ps qs → (w : List ℕ) → CanonicalFile f w → JoinedFile (flat qs) w)
+    ForFile (λ f b c id used out. (n t : ℕ) → replyTo (cutResult f c id used) out ≡ result n t 0
+    → (ps qs : List (List ℕ)) → ListIn (outputOf (cutResult f c id used) out) n t ps → Perm ps qs → (w : List ℕ) → CanonicalFile f w → JoinedFile (flat qs) w)
 
 -- "Two accepted files have equal canonical files exactly when they carry the same notebook, and then neither is shorter than that canonical
 -- file." The canonical file is what the call canonical has to write, and each accepted file has one.

@@ -90,16 +90,21 @@ theirFiles =
     ∷ refused 8 3
     ∷ []
 
--- ---- cutting: "Cutting: 1–16, 17, 18, 20"
+-- ---- cutting: "Cutting: 1–16, 17, 18, 20", and 24 "after 17 and before 18"
 
 pub record Asked : Type 0 where
   pub file : List ℕ
   pub capacity : ℕ
   pub id : List ℕ
+  pub used : List ℕ
   pub room : ℕ
 
+abbrev pub askUsed : List ℕ → ℕ → List ℕ → List ℕ → ℕ → Asked
+askUsed s c i u room = record { file = s; capacity = c; id = i; used = u; room = room }
+
+-- no ID has been used
 abbrev pub ask : List ℕ → ℕ → List ℕ → ℕ → Asked
-ask s c i room = record { file = s; capacity = c; id = i; room = room }
+ask s c i room = askUsed s c i [] room
 
 -- a file that is cut in two: its canonical file has 70 bytes, its pieces 67 and 64
 abbrev pub longer : List ℕ
@@ -120,6 +125,20 @@ asked =
     ∷ ask whole 43 (bytes "2026111500000x") 43
     -- the file comes first
     ∷ ask (lines (bytes "JAHISTC04,2" ∷ [])) 43 (bytes "1") 43
+    -- a run that passes: one piece, two, none
+    ∷ askUsed whole 43 ident (bytes "20261115000002") 43
+    ∷ askUsed longer 67 ident (bytes "20261115000002") 131
+    ∷ askUsed whole 42 ident (bytes "20261115000002") 0
+    -- 24: "one of its IDs is the one given", also where one piece serves; "the run's length isn't a multiple of 14"
+    ∷ askUsed whole 43 ident (bytes "20261115000002" ++ ident) 43
+    ∷ askUsed longer 67 ident ident 131
+    ∷ askUsed whole 43 ident (bytes "2") 43
+    ∷ askUsed whole 43 (bytes "98765432109876") (bytes "98765432109876") 43
+    -- "after 17 and before 18", and so before 20; the file comes first
+    ∷ askUsed whole 42 (bytes "2026111500001") (bytes "2026111500001") 0
+    ∷ askUsed whole 42 ident ident 0
+    ∷ askUsed whole 43 ident ident 42
+    ∷ askUsed (lines (bytes "JAHISTC04,2" ∷ [])) 43 ident ident 43
     ∷ []
 
 abbrev pub theirAnswers : List Answer
@@ -128,4 +147,7 @@ theirAnswers =
     ∷ Refused 18 0 ∷ Done 2 131 0
     ∷ Done 1 43 0 ∷ Refused 17 0 ∷ Refused 17 0
     ∷ Refused 14 2
+    ∷ Done 1 43 0 ∷ Done 2 131 0 ∷ Refused 18 0
+    ∷ Refused 24 0 ∷ Refused 24 0 ∷ Refused 24 0 ∷ Refused 24 0
+    ∷ Refused 17 0 ∷ Refused 24 0 ∷ Refused 24 0 ∷ Refused 14 2
     ∷ []

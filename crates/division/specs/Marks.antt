@@ -12,7 +12,7 @@ use Rattle.records.specs.Split.{itemsOf, joined}
 use Rattle.records.specs.Records.{t911}
 use Rattle.notebook.specs.Canonical.{ended}
 
--- "A valid ID is 14 digits and nothing else."
+-- "A valid ID is 14 digits and nothing else.": what 17 and joining ask. Demand 3 asks of a valid ID also that 24 lets it pass (`Valid`, Demand.antt).
 unfoldable pub validID : List ℕ → Bool
 validID i = eqb (length i) 14 && all isDigit i
 

@@ -39,18 +39,20 @@ pub extern "C" fn notebook_canonical(file: &[u8], out: &mut [u8]) -> replies::Re
 }
 
 // Writes the pieces of the canonical file for a capacity, one after another from the front of the buffer on, and keeps what lies after
-// them: a pieces, b bytes; or the one refusal with its line, and the whole buffer as it was.
+// them: a pieces, b bytes; or the one refusal with its line, and the whole buffer as it was. used: the IDs that have been used, 14 bytes each, one
+// after another.
 #[no_mangle]
 pub extern "C" fn notebook_cut(
     file: &[u8],
     capacity: u64,
     id: &[u8],
+    used: &[u8],
     out: &mut [u8],
 ) -> replies::Reply
-    ensures reply { λ r. ⌜ r ≡ replyTo (cutResult (now (file .entry)) capacity (now (id .entry))) (now (out .entry)) ⌝ }
-    ensures buffer { λ _. ⌜ now (out .exit) ≡ outputOf (cutResult (now (file .entry)) capacity (now (id .entry))) (now (out .entry)) ⌝ }
+    ensures reply { λ r. ⌜ r ≡ replyTo (cutResult (now (file .entry)) capacity (now (id .entry)) (now (used .entry))) (now (out .entry)) ⌝ }
+    ensures buffer { λ _. ⌜ now (out .exit) ≡ outputOf (cutResult (now (file .entry)) capacity (now (id .entry)) (now (used .entry))) (now (out .entry)) ⌝ }
 {
-    replies::reply_of(cut::cut(file, capacity, id, out))
+    replies::reply_of(cut::cut(file, capacity, id, used, out))
 }
 
 // Writes the file that pieces in any order join to, from the front of the buffer on, and keeps what lies after it: a bytes; or the one
@@ -64,7 +66,7 @@ pub extern "C" fn notebook_join(pieces: &[u8], out: &mut [u8]) -> replies::Reply
 }
 
 // The file VERSION as one number (tests/version.py).
-const VERSION: u64 = 400;
+const VERSION: u64 = 500;
 
 // The version of this library: 10,000 times the major, 100 times the minor, and the patch.
 #[no_mangle]

@@ -1,4 +1,4 @@
-// Reading a descriptor into a lent buffer. io::read_full answers a short count both where the input ends and where a read fails; here a
+// Reading a descriptor, or a file that the command line names, into a lent buffer. io::read_full answers a short count both where the input ends and where a read fails; here a
 // failure is an answer of its own, so that no program takes a part of a file for the file.
 ghost use Prim.Native.Nat.{_≤_};
 ghost use lib.ListN.{length};
@@ -56,4 +56,31 @@ pub fn read_all(fd: i32, buf: &mut [u8]) -> Input
     ensures { λ r. ⌜ AtFront r (now (buf .exit)) ⌝ }
 {
     read_from(fd, buf, 0)
+}
+
+// Reads a file after the bytes that are there. The file is closed before a failure is told, since it may have standard error's number.
+fn read_file(name: &[u8], buf: &mut [u8], at: usize) -> Input
+    requires { ⌜ at ≤ length (now buf) ⌝ }
+    ensures { λ r. ⌜ AtFront r (now (buf .exit)) ⌝ }
+{
+    let fd = os::open_read(name);
+    if fd < 0 {
+        return Input::Failed;
+    }
+    let read = read_from(fd, buf, at);
+    libc::close(fd);
+    read
+}
+
+// Reads the file that a word of the command line names, after the bytes that are there. A word that is longer than the buffer is longer than any path.
+pub fn read_word(word: usize, buf: &mut [u8], at: usize) -> Input
+    requires { ⌜ at ≤ length (now buf) ⌝ }
+    ensures { λ r. ⌜ AtFront r (now (buf .exit)) ⌝ }
+{
+    let mut name = io::buffer();
+    let n = os::arg(word, &mut name);
+    if os::errno() != 0 {
+        return Input::Failed;
+    }
+    read_file(&name[..n], buf, at)
 }

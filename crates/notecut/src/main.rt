@@ -1,11 +1,13 @@
-// notecut CAPACITY ID [PREFIX]: cuts the file on standard input and writes its pieces one after another to standard output or, with a
-// third word, each to a file of its own, PREFIX.1, PREFIX.2, .., all of them or none; then `ok`, the count of pieces and their bytes to
-// standard error. A refusal goes to standard error, as `no` and its number and line, and then nothing is written and no file is made. Where
-// reading or writing fails, a line `error` with the word that says which goes to standard error in place of `ok`, with the number of the piece
-// where it is about one. One byte more than the limit is read, which is enough to refuse a longer file. 999 pieces have at most 106,482 bytes,
-// so the output is never too short.
+// notecut CAPACITY ID [PREFIX [USED]]: cuts the file on standard input and writes its pieces one after another to standard output or, with a
+// third word that is not empty, each to a file of its own, PREFIX.1, PREFIX.2, .., all of them or none; then `ok`, the count of pieces and their
+// bytes to standard error. The fourth word names a file of used IDs, which is read and never written (crate id_file). A refusal goes to standard error, as
+// `no` and its number and line, and then nothing is written and no file is made. Where reading or writing fails, a line `error` with the word that says
+// which goes to standard error in place of `ok`, with the number of the piece where it is about one, and of the line or ID of a bad file of used IDs.
+// One byte more than the limit is read, which is enough to refuse a longer file. 999 pieces have at most 106,482 bytes, so the output is never too
+// short.
 ghost use Prim.Native.Nat.{_≤_};
 use files::Outcome;
+use id_file::Ids;
 use inputs::Input;
 use libc::STDERR_FILENO;
 use libc::STDIN_FILENO;
@@ -13,7 +15,7 @@ use libc::STDIN_FILENO;
 // --- the words ---
 
 fn usage() {
-    answers::write_error(b"usage: notecut CAPACITY ID [PREFIX]");
+    answers::write_error(b"usage: notecut CAPACITY ID [PREFIX [USED]]");
 }
 
 enum Capacity {
@@ -82,20 +84,19 @@ fn tell(outcome: Outcome) -> bool {
 }
 
 // The third word is the prefix. One that is longer than the buffer is longer than any path.
-fn to_files(pieces: &[u8]) -> Outcome {
+fn write_pieces(pieces: &[u8], words: usize) -> bool {
+    if words < 4 {
+        return answers::write_output(pieces);
+    }
     let mut prefix = io::buffer();
     let n = os::arg(3, &mut prefix);
     if os::errno() != 0 {
-        return Outcome::Unwritten(1);
+        return tell(Outcome::Unwritten(1));
     }
-    files::write_pieces(&prefix[..n], pieces)
-}
-
-fn write_pieces(pieces: &[u8], words: usize) -> bool {
-    if words == 4 {
-        return tell(to_files(pieces));
+    if n == 0 {
+        return answers::write_output(pieces);
     }
-    answers::write_output(pieces)
+    tell(files::write_pieces(&prefix[..n], pieces))
 }
 
 // --- the program ---
@@ -114,11 +115,11 @@ fn write_result(out: &[u8], words: usize, r: replies::Reply) {
 }
 
 // An ID that is longer than the buffer comes as an empty one, which is refused as well.
-fn cut(file: &[u8], capacity: u64, words: usize) {
+fn cut(file: &[u8], capacity: u64, used: &[u8], words: usize) {
     let mut id = io::buffer();
     let mut out = [0u8; 131072];
     let digits = os::arg(2, &mut id);
-    let r = gateway::notebook_cut(file, capacity, &id[..digits], &mut out);
+    let r = gateway::notebook_cut(file, capacity, &id[..digits], used, &mut out);
     if r.refusal == 0 {
         write_result(&out, words, r);
     } else {
@@ -126,11 +127,51 @@ fn cut(file: &[u8], capacity: u64, words: usize) {
     }
 }
 
+fn cut_with_ids(file: &[u8], capacity: u64, ids: &mut [u8], words: usize) {
+    let start: usize = 0;
+    let run = id_file::run_of(ids);
+    match run {
+        Ids::Run(end) => cut(file, capacity, &ids[start..end], words),
+        Ids::Bad(k) => answers::write_error_at(b"used", k as u64),
+    }
+}
+
+// Room for 100,000 IDs in lines that end in 0Dh 0Ah, and for one byte more, which tells that there are others. A function of its own so that a proof has the
+// length from the type: where the zeros stand beside the part that is lent, the prover counts them, for seconds.
+fn id_room() -> [u8; 1600001] {
+    [0u8; 1600001]
+}
+
+// The fourth word is the file of used IDs.
+fn cut_with_used(file: &[u8], capacity: u64, words: usize) {
+    let start: usize = 0;
+    let mut ids = id_room();
+    let read = inputs::read_word(4, &mut ids, 0);
+    match read {
+        Input::Bytes(end) => {
+            if 1600000 < end {
+                answers::write_error(b"used");
+            } else {
+                cut_with_ids(file, capacity, &mut ids[start..end], words);
+            }
+        }
+        Input::Failed => answers::write_error(b"used"),
+    }
+}
+
+fn cut_file(file: &[u8], capacity: u64, words: usize) {
+    if words == 5 {
+        cut_with_used(file, capacity, words);
+    } else {
+        cut(file, capacity, b"", words);
+    }
+}
+
 fn cut_input(capacity: u64, words: usize) {
     let mut file = [0u8; 65537];
     let read = inputs::read_all(STDIN_FILENO, &mut file);
     match read {
-        Input::Bytes(n) => cut(&file[..n], capacity, words),
+        Input::Bytes(n) => cut_file(&file[..n], capacity, words),
         Input::Failed => answers::write_error(b"read"),
     }
 }
@@ -148,7 +189,7 @@ fn cut_with_words(words: usize) {
 // The program's own name is among the words.
 fn main() {
     let words = os::arg_count();
-    if words == 3 || words == 4 {
+    if (3 <= words) & (words <= 5) {
         cut_with_words(words);
     } else {
         usage();

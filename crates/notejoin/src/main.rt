@@ -2,8 +2,6 @@
 // file to standard output. A refusal goes to standard error, as `no` and its number and line, and nothing to standard output. One byte more
 // than the limit is read, which is enough to refuse longer pieces. Where reading or writing fails, a line `error` with the word that says
 // which goes to standard error, and `error read K` of the Kth file named.
-ghost use Prim.Native.Nat.{_≤_};
-ghost use lib.ListN.{length};
 ghost use Rattle.inputs.specs.AtFront.{AtFront};
 use inputs::Input;
 use libc::STDERR_FILENO;
@@ -33,33 +31,6 @@ fn join(pieces: &[u8]) {
 
 // --- reading ---
 
-// Each reads a file after the bytes that are there. The file is closed before a failure is told, since it may have standard error's number.
-fn read_file(name: &[u8], pieces: &mut [u8], at: usize) -> Input
-    requires { ⌜ at ≤ length (now pieces) ⌝ }
-    ensures { λ r. ⌜ AtFront r (now (pieces .exit)) ⌝ }
-{
-    let fd = os::open_read(name);
-    if fd < 0 {
-        return Input::Failed;
-    }
-    let read = inputs::read_from(fd, pieces, at);
-    libc::close(fd);
-    read
-}
-
-// A word that is longer than the buffer is longer than any path.
-fn read_word(word: usize, pieces: &mut [u8], at: usize) -> Input
-    requires { ⌜ at ≤ length (now pieces) ⌝ }
-    ensures { λ r. ⌜ AtFront r (now (pieces .exit)) ⌝ }
-{
-    let mut name = io::buffer();
-    let n = os::arg(word, &mut name);
-    if os::errno() != 0 {
-        return Input::Failed;
-    }
-    read_file(&name[..n], pieces, at)
-}
-
 // Reads until the buffer is full, and tells which file cannot be read.
 fn read_files(words: usize, pieces: &mut [u8]) -> Input
     ensures { λ r. ⌜ AtFront r (now (pieces .exit)) ⌝ }
@@ -70,7 +41,7 @@ fn read_files(words: usize, pieces: &mut [u8]) -> Input
         if pieces.len() <= at {
             return Input::Bytes(at);
         }
-        let read = read_word(word, pieces, at);
+        let read = inputs::read_word(word, pieces, at);
         match read {
             Input::Bytes(end) => at = end,
             Input::Failed => {

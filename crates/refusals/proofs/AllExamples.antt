@@ -27,6 +27,7 @@ use Rattle.notebook.specs.Check.{checkResult}
 use Rattle.notebook.specs.Index.{entryOf, entered, entriesFrom, entriesAfterHead, entriesOf, clinicAfter, clinicOf, listedFrom, listOf, numbers, numbersOf, indexResult}
 use Rattle.notebook.specs.Same.{arrange}
 use Rattle.notebook.specs.Canonical.{recordRows, writeFile, canonicalBytes, canonicalFile, canonicalResult}
+use Rattle.ids.specs.Used.{firstIDs, idsIn, unused}
 use Rattle.packing.specs.Packing.{total, put, pack}
 use Rattle.packing.specs.Widths.{over, serves, tries, plan}
 use Rattle.division.specs.Marks.{validID, markLine, readMark}
@@ -40,7 +41,7 @@ pub examples-reach : allReached ≡ true
 examples-reach = refl
 
 pub examples-hold : allHold (checks ++ (indexes ++ (canonicals ++ (cuts ++ joins)))) ≡ true
-unfolding answerIn sevenNumbers entryOf entered entriesFrom entriesAfterHead entriesOf clinicAfter clinicOf listedFrom listOf numbers numbersOf bytes value number spell isLine leap monthLength isReal isDay gregorian eraOf eraOn inEra fromEra readDay writeDay joined table edge oneWidth isDecimal sized fault valueOf seven postal prefecture itemFault itemValue itemsFault itemsValue rowIn tableRow pairs codePair t911 isMark recordFrom faultFrom lineFault recordOf header write inGroup mayFollow pairBroken misplaced continues closesRp lacking missing valueWrong newerGroup orderRefusal unfinished nothingYet start hadAfter advance refusalOf stepOf finishOf factsOf stepLine closed onward recordsFrom readRows readFile checkResult indexResult recordRows arrange writeFile canonicalBytes canonicalFile canonicalResult total put pack digitCount over serves tries plan validID markLine readMark kindOf brokenFrom brokenLine bodyOf piecesIn splitRows split fileOf unmarked partOf allParts agree findPart gather joinPieces joinedFile joinFile joinResult pieceBytes numbered cutting cutList cutResult lineEnds
+unfolding answerIn sevenNumbers entryOf entered entriesFrom entriesAfterHead entriesOf clinicAfter clinicOf listedFrom listOf numbers numbersOf bytes value number spell isLine leap monthLength isReal isDay gregorian eraOf eraOn inEra fromEra readDay writeDay joined table edge oneWidth isDecimal sized fault valueOf seven postal prefecture itemFault itemValue itemsFault itemsValue rowIn tableRow pairs codePair t911 isMark recordFrom faultFrom lineFault recordOf header write inGroup mayFollow pairBroken misplaced continues closesRp lacking missing valueWrong newerGroup orderRefusal unfinished nothingYet start hadAfter advance refusalOf stepOf finishOf factsOf stepLine closed onward recordsFrom readRows readFile checkResult indexResult recordRows arrange writeFile canonicalBytes canonicalFile canonicalResult total put pack digitCount over serves tries plan validID firstIDs idsIn unused markLine readMark kindOf brokenFrom brokenLine bodyOf piecesIn splitRows split fileOf unmarked partOf allParts agree findPart gather joinPieces joinedFile joinFile joinResult pieceBytes numbered cutting cutList cutResult lineEnds
 examples-hold = refl
 
 pub index-holds : IndexIn clinicFile (map (λ (n : ℕ). 9) itsOutput) itsOutput 7

@@ -20,8 +20,9 @@ use Rattle.notebook.specs.Same.{arrange}
 use Rattle.notebook.specs.Check.{counted, checkResult}
 use Rattle.notebook.specs.Index.{indexResult}
 use Rattle.notebook.specs.Canonical.{canonicalFile, canonicalResult}
+use Rattle.ids.specs.Used.{unused}
 use Rattle.division.specs.Marks.{validID}
-use Rattle.division.specs.Cut.{cutting, listed, listFor, cutList, cutResult}
+use Rattle.division.specs.Cut.{cutting, listed, forID, listFor, cutList, cutResult}
 use Rattle.division.specs.Join.{joinedFile, joinFile, joinResult}
 use Rattle.refusals.specs.Refusals.{Call, check, index, canonical, cut, join, about, checkNumbers, writingNumbers, cutNumbers, joinNumbers}
 use Rattle.refusals.specs.Refusals.{Given, IsAnswer, gives, refuses, IsResult, Always-answered, Refusal-keeps, Zero-is-a-result, Large-first}
@@ -59,17 +60,20 @@ check-answers s = go (readFile s) (file-refuses checkNumbers refl s)
     go (ok b) h = gives
     go (refused n line) h = refuses h
 
-cut-refuses : (s : List ℕ) (c : ℕ) (id : List ℕ) → Refuses (Given cutNumbers s) (cutList s c id)
+cut-refuses : (s : List ℕ) (c : ℕ) (id used : List ℕ) → Refuses (Given cutNumbers s) (cutList s c id used)
 unfolding cutList below
-cut-refuses s c id = then-refuses (Given cutNumbers s) (listFor id c) (readFile s) (file-refuses cutNumbers refl s) (λ b. valid (validID id) (cutting id c (arrange b)))
+cut-refuses s c id used =
+    then-refuses (Given cutNumbers s) (listFor id used c) (readFile s) (file-refuses cutNumbers refl s)
+    (λ b. valid (validID id) (unused id used) (cutting id c (arrange b)))
   where
     list : (ps : Option (List (List ℕ))) → Refuses (Given cutNumbers s) (listed ps)
     list none = without-line 18 (omega arith) refl refl
     list (some ps) = tt
 
-    valid : (v : Bool) (ps : Option (List (List ℕ))) → Refuses (Given cutNumbers s) (cond v (listed ps) (refused 17 0))
-    valid true ps = list ps
-    valid false ps = without-line 17 (omega arith) refl refl
+    valid : (v u : Bool) (ps : Option (List (List ℕ))) → Refuses (Given cutNumbers s) (forID v u (listed ps))
+    valid true true ps = list ps
+    valid true false ps = without-line 24 (omega arith) refl refl
+    valid false u ps = without-line 17 (omega arith) refl refl
 
 -- ---- EVERY CALL
 
@@ -78,7 +82,7 @@ unfolding indexResult canonicalFile canonicalResult cutResult joinResult below
 always-answered (check f) = check-answers f
 always-answered (index f out) = answers (indexResult f) out refl (mapped _ _ (readFile f) (file-refuses writingNumbers refl f))
 always-answered (canonical f out) = answers (canonicalResult f) out refl (mapped _ _ (canonicalFile f) (mapped _ _ (readFile f) (file-refuses writingNumbers refl f)))
-always-answered (cut f c id out) = answers (cutResult f c id) out refl (mapped _ _ (cutList f c id) (cut-refuses f c id))
+always-answered (cut f c id used out) = answers (cutResult f c id used) out refl (mapped _ _ (cutList f c id used) (cut-refuses f c id used))
 always-answered (join s out) = answers (joinResult s) out refl (mapped _ _ (joinFile s) (join-refuses joinNumbers refl s refl))
 
 pub zero-is-a-result : Zero-is-a-result
@@ -116,7 +120,7 @@ unfolding checkResult indexResult canonicalFile canonicalResult cutResult cutLis
 large-result (check f) h = rw (large f (omega arith))
 large-result (index f out) h = rw (large f (omega arith))
 large-result (canonical f out) h = rw (large f (omega arith))
-large-result (cut f c id out) h = rw (large f (omega arith))
+large-result (cut f c id used out) h = rw (large f (omega arith))
 large-result (join s out) h = rw (large-pieces s (omega arith))
 
 pub large-first : Large-first

@@ -102,13 +102,15 @@ indexes = says (index smallFile []) 20 0 2 ∷ each (λ f. index f []) (onlyFile
 abbrev pub canonicals : List Example
 canonicals = says (canonical smallFile []) 20 0 2 ∷ each (λ f. canonical f []) (onlyFiles ++ anyFiles)
 
--- "Cutting: 1–16, 17, 18, 20": an ID that is no ID, a capacity that holds no record, no room
+-- "Cutting: 1–16, 17, 18, 20", and 24 "after 17 and before 18": an ID that is no ID, a run of one byte, a capacity that holds no record, no room
 abbrev pub cuts : List Example
 cuts =
-    says (cut smallFile 0 [] []) 17 0 2
-    ∷ says (cut smallFile 0 ident []) 18 0 2
-    ∷ says (cut smallFile 35 ident []) 20 0 2
-    ∷ each (λ f. cut f 0 [] []) (onlyFiles ++ anyFiles)
+    says (cut smallFile 0 [] (bytes "2") []) 17 0 2
+    ∷ says (cut smallFile 0 ident (bytes "2") []) 24 0 2
+    ∷ says (cut smallFile 0 ident ident []) 24 0 2
+    ∷ says (cut smallFile 0 ident [] []) 18 0 2
+    ∷ says (cut smallFile 35 ident [] []) 20 0 2
+    ∷ each (λ f. cut f 0 [] (bytes "2") []) (onlyFiles ++ anyFiles)
 
 -- the second piece of two
 abbrev pub second : List ℕ

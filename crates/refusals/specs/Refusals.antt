@@ -24,7 +24,7 @@ pub data Call : Type 0 where
   check : (file : List ℕ) → Call
   index : (file out : List ℕ) → Call
   canonical : (file out : List ℕ) → Call
-  cut : (file : List ℕ) (capacity : ℕ) (id out : List ℕ) → Call
+  cut : (file : List ℕ) (capacity : ℕ) (id used out : List ℕ) → Call
   join : (pieces out : List ℕ) → Call
 
 -- ---- the numbers that a call gives
@@ -37,9 +37,9 @@ checkNumbers = 1 ∷ 2 ∷ 3 ∷ 4 ∷ 5 ∷ 6 ∷ 7 ∷ 8 ∷ 9 ∷ 10 ∷ 11 �
 abbrev pub writingNumbers : List ℕ
 writingNumbers = checkNumbers ++ 20 ∷ []
 
--- "Cutting: 1–16, 17, 18, 20"
+-- "Cutting: 1–16, 17, 18, 20"; document 02 (vii): 24 "after 17 and before 18"
 abbrev pub cutNumbers : List ℕ
-cutNumbers = checkNumbers ++ 17 ∷ 18 ∷ 20 ∷ []
+cutNumbers = checkNumbers ++ 17 ∷ 24 ∷ 18 ∷ 20 ∷ []
 
 -- "Joining: 1 and 2 on the input, 19, then 1–16 on the joined file, then 20". The joined file begins with a line 1 and is "without 911", so that it
 -- never has 3 or 6.
@@ -62,7 +62,7 @@ abbrev pub about : Call → About
 about (check f) = record { result = checkResult f; lent = []; given = f; numbers = checkNumbers; limit = 65536 }
 about (index f out) = record { result = indexResult f; lent = out; given = f; numbers = writingNumbers; limit = 65536 }
 about (canonical f out) = record { result = canonicalResult f; lent = out; given = f; numbers = writingNumbers; limit = 65536 }
-about (cut f c id out) = record { result = cutResult f c id; lent = out; given = f; numbers = cutNumbers; limit = 65536 }
+about (cut f c id used out) = record { result = cutResult f c id used; lent = out; given = f; numbers = cutNumbers; limit = 65536 }
 about (join s out) = record { result = joinResult s; lent = out; given = s; numbers = joinNumbers; limit = 131072 }
 
 -- the reply, and the lent buffer at exit, as the contract promises them
@@ -80,9 +80,9 @@ lineEnds [] = 0
 lineEnds (a ∷ []) = 0
 lineEnds (a ∷ b ∷ s) = cond (eqb a 0x0d && eqb b 0x0a) 1 0 + lineEnds (b ∷ s)
 
--- "Number 1 comes first, with line 0"; "Numbers 17–20 have line 0"
+-- "Number 1 comes first, with line 0"; "Numbers 17–20 have line 0"; document 02 (vii): "(24 used: .. line 0 ..)"
 abbrev pub lineless : List ℕ
-lineless = 1 ∷ 17 ∷ 18 ∷ 19 ∷ 20 ∷ []
+lineless = 1 ∷ 17 ∷ 18 ∷ 19 ∷ 20 ∷ 24 ∷ []
 
 -- "A line's number is one more than the line ends before it; empty input has line 1. Number 14 at the end has the line count plus 1."
 pub record AtLine (s : List ℕ) (line : ℕ) : Type 0 where

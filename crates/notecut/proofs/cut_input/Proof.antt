@@ -6,7 +6,7 @@ use Rattle.notecut.proofs.cut_input.Reads as reads
 use Rattle.notecut.proofs.cut_input.Lts as lts
 use Rattle.answers.proofs.write_error.Reads as write-error-reads
 use Rattle.inputs.proofs.read_all.Reads as read-all-reads
-use Rattle.notecut.proofs.cut.Reads as cut-reads
+use Rattle.notecut.proofs.cut_file.Reads as cut-file-reads
 
 slice-aggregate-read-all : tie.Need-slice-aggregate-read-all
 slice-aggregate-read-all c = search needs
@@ -20,11 +20,11 @@ enum-known-read c = search needs
 array-share-prefix-file : tie.Need-array-share-prefix-file
 array-share-prefix-file c = bytes-at-front _ (c .before .read .given .1) (c .before .before .before .before .read-all .ensures) .0
 
-slice-aggregate-cut : tie.Need-slice-aggregate-cut
-slice-aggregate-cut c = bytes-at-front _ (c .before .before .read .given .1) (c .before .before .before .before .before .read-all .ensures) .1
+slice-aggregate-cut-file : tie.Need-slice-aggregate-cut-file
+slice-aggregate-cut-file c = bytes-at-front _ (c .before .before .read .given .1) (c .before .before .before .before .before .read-all .ensures) .1
 
-cut-requires : tie.Need-cut-requires
-cut-requires c κs = search needs
+cut-file-requires : tie.Need-cut-file-requires
+cut-file-requires c κs = search needs
 
 enum-told : tie.Need-enum-told
 enum-told c = search needs
@@ -49,8 +49,8 @@ cut-input-spec =
     read-all-requires
     enum-known-read
     array-share-prefix-file
-    slice-aggregate-cut
-    cut-requires
+    slice-aggregate-cut-file
+    cut-file-requires
     enum-told
     slice-aggregate-write-error
     write-error-requires

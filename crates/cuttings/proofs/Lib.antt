@@ -1,0 +1,4 @@
+pub mod AllExamples
+pub mod Replies
+pub mod Mixed
+pub mod Promises

@@ -1,0 +1,2 @@
+pub mod AllExamples
+pub mod Runs
