@@ -1,7 +1,8 @@
 """Lists that are told in more than one place: refusals, records, calls, eras and the numbers of an index entry. One place has each, and every
 other must have the same.
 
-    refusals    the table of docs/OPERATING.md; the numbers of each call: refusals/specs/Refusals.antt
+    refusals    the table of docs/OPERATING.md; the numbers of each call: refusals/specs/Refusals.antt. A number that no call gives has no row, and
+                tables that go by number have "unknown" in its place
     calls       the exports of gateway/src/lib.rt, with the definitions that their contracts cite
     records     records/specs/Paper.antt, document 01's own text
     eras        eras/specs/Era.antt; the oracle is also held to these rows day by day. Of the sentences on eras, the ranges in docs/OPERATING.md
@@ -165,9 +166,11 @@ SAID_OF_JOIN = {3, 6}
 def refusals_of(text):
     table = block("| no. | word | given when | whose matter | what to do |\n|---|---|---|---|---|\n", "\n\n", text)
     found = every_line(r"\| (\d+) \| ([^|]+) \| [^|]+ \| the (sender|operator|set)'s \| [^|]+ \|", table)
-    if [int(number) for number, _, _ in found] != list(range(1, len(found) + 1)):
-        raise Unreadable("the numbers of the table are not 1, 2, 3 and so on")
-    return {int(number): Refusal(word, whose) for number, word, whose in found}
+    table = rows((int(number), Refusal(word, whose)) for number, word, whose in found)
+    # A request has its numbers before it lands, so that some may be missing between two of them.
+    if list(table) != sorted(table) or min(table) != 1:
+        raise Unreadable("the numbers of the table do not rise from 1")
+    return table
 
 
 def numbers_in(words):
@@ -202,6 +205,11 @@ def words_of_array(name, first):
     return lambda text: numbered(quoted(block(f"{name}[] = {{", "};", text)), first)
 
 
+def without_gaps(words):
+    """A word for every number up to the last; "unknown" for one that no call gives."""
+    return {number: words.get(number, "unknown") for number in range(1, max(words) + 1)}
+
+
 def refusals_in_help(text):
     return numbers_first(every(r"(\d+) ([\w ]+)", one(r"not the file \(([^)]+)\)", plain(text))))
 
@@ -220,10 +228,11 @@ def compare_words(refusals):
         return lambda text: numbers_first((number, name) for name, number in every(form, text))
 
     compare(HEADER, "NOTEBOOK_REFUSED_..", constants(r"^    NOTEBOOK_REFUSED_(\w+) = (\d+)\b"), in_c)
-    compare(HEADER, "notebook_word", words_of_array("words", 0), {0: "ok", **words})
-    compare(C_TEST, "the table of words", words_of_array("table", 1), words)
+    compare(HEADER, "notebook_word", words_of_array("words", 0), {0: "ok", **without_gaps(words)})
+    compare(C_TEST, "the table of words", words_of_array("table", 1), without_gaps(words))
     compare(REFUSAL, "Reason", reasons, {**in_rust, 255: "Unknown"})
-    compare(REFUSAL, "ALL", lambda text: numbered(every(r"Reason::(\w+),", block("ALL: [Reason;", "];", text))), in_rust)
+    # ALL goes by place: the numbers that no call gives are not in it.
+    compare(REFUSAL, "ALL", lambda text: numbered(every(r"Reason::(\w+),", block("ALL: [Reason;", "];", text))), numbered(in_rust.values()))
     compare(REFUSAL, "word", lambda text: rows(every(r'Reason::(\w+) => "([^"]+)",', block("fn word(self)", "\n    }\n", text))),
             {"Unknown": "unknown", **{in_rust[number]: words[number] for number in words}})
     compare(REFUSAL, "is_operators", lambda text: names(every(r"Reason::(\w+)", one(r"matches!\(self,([^)]+)\)", text))),
@@ -283,10 +292,22 @@ def refusals_in_comments(text):
     return shown(rows(found))
 
 
+def numbers_of_cases(calls):
+    """The refusals that the cases of each call have. A label begins with its call; those of check and the table of pairs, whose lines have signs
+    and no answer, do not."""
+    def read(text):
+        found = {call: set() for call in calls}
+        for call, number in every(rf"^(?:({'|'.join(calls)}): )?.+?: no (\d+) \d+(?:;|$)", text):
+            found[call or "check"].add(int(number))
+        return shown(found)
+    return read
+
+
 def compare_numbers_by_call(refusals, by_call):
     given = set().union(*by_call.values())
     compare(PROMISES, "the numbers of all calls", lambda _: names(given), names(refusals))
     compare(HOSTS + "comparison.rs", "the numbers of each call", tallies, shown(by_call))
+    compare("crates/cases/stdout", "the numbers of each call", numbers_of_cases(list(by_call)), shown(by_call))
     said = {call: numbers | (SAID_OF_JOIN if call == "join" else set()) for call, numbers in by_call.items()}
     compare(HEADER, "the comments' refusals of each call", refusals_in_comments, shown(said))
 

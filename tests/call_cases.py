@@ -27,6 +27,7 @@ ANSWERED = ["index", "canonical", "cut", "join"]
 
 MOST_BYTES = 140000
 MOST_NUMBERS = 57344
+MOST_USED = 140000
 SHOWN = 200
 
 # The buffers before a call.
@@ -37,7 +38,7 @@ ID = b"12345678901234"
 UNBOUNDED = 2**64 - 1
 
 Frame = collections.namedtuple(
-    "Frame", "call label room capacity ident content answer after told")
+    "Frame", "call label room capacity ident used content answer after told")
 FRAMES = []
 
 
@@ -50,14 +51,15 @@ def before(call, room):
     return INTS[:room] if call == "index" else BYTES[:room]
 
 
-def frame(call, label, content, room, answer, after, capacity=0, ident=b"", told=False):
-    FRAMES.append(Frame(call, "%s: %s" % (call, label), room, capacity, ident, content,
+def frame(call, label, content, room, answer, after, capacity=0, ident=b"", used=b"",
+          told=False):
+    FRAMES.append(Frame(call, "%s: %s" % (call, label), room, capacity, ident, used, content,
                         answer, after, told))
 
 
-def by_oracle(call, content, capacity, ident, out):
+def by_oracle(call, content, capacity, ident, used, out):
     if call == "cut":
-        answer, after = oracle.cut(content, capacity, ident, out)
+        answer, after = oracle.cut(content, capacity, ident, used, out)
     else:
         answer, after = getattr(oracle, call)(content, out)
     return " ".join(str(part) for part in answer), after
@@ -85,7 +87,7 @@ def in_buffers(call, label, content, values, result, **rest):
 
 def told(call, label, content, room, capacity=0, ident=b""):
     """A case with the oracle's own answer."""
-    answer, after = by_oracle(call, content, capacity, ident, before(call, room))
+    answer, after = by_oracle(call, content, capacity, ident, b"", before(call, room))
     frame(call, label, content, room, answer, after, capacity, ident, told=True)
 
 
@@ -724,9 +726,9 @@ def memo_runs(memos, size, capacity):
     return None
 
 
-def memo_cut(label, memos, memo, capacity, content=None, each=accepted, expected=None):
+def memo_cut(label, memos, memo, capacity, content=None, each=accepted, expected=None, used=b""):
     """Record 1 and equal memos. `expected` is the count written by hand, 18 for
-    the refusal."""
+    the refusal. The run of used IDs is one that passes."""
     lines = [ONE] + [memo] * memos
     if content is None:
         content = to_provider(*lines)
@@ -737,7 +739,7 @@ def memo_cut(label, memos, memo, capacity, content=None, each=accepted, expected
         counts = memo_runs(memos, size, capacity)
         if counts is None:
             assert expected in (None, "18")
-            refused("cut", label, content, "no 18 0", capacity=capacity, ident=ID)
+            refused("cut", label, content, "no 18 0", capacity=capacity, ident=ID, used=used)
             return
         ends = list(itertools.accumulate(counts, initial=0))
         assert ends[-1] == len(lines)
@@ -745,7 +747,213 @@ def memo_cut(label, memos, memo, capacity, content=None, each=accepted, expected
         assert max(len(one) for one in result) <= capacity
     values = "%d %d" % (len(result), sum(len(one) for one in result))
     assert expected in (None, values, values.split()[0])
-    each("cut", label, content, values, b"".join(result), capacity=capacity, ident=ID)
+    each("cut", label, content, values, b"".join(result), capacity=capacity, ident=ID, used=used)
+
+
+# What is no ID: 17 wherever the file is good.
+WRONG_IDS = [
+    b"", b"1", b"1" * 13, b"1" * 15, b"1" * 28, b"1" * 255, b"1234567890123a",
+    b"a2345678901234", b"1234567 901234", b"12345678901234 ", b" 2345678901234",
+    b"-2345678901234", b"1234567890123/", b"1234567890123:", b"\x00" * 14,
+    b"1234567890123\n", b"1234567890123,", b"12345678901234\r", b"\xb1" * 14,
+    "１２３４５６７".encode("shift_jis"), b"12345678901234\x00", b"1.345678901234"]
+
+
+def shown_id(ident):
+    return ident.hex() if len(ident) < 16 else "of %d" % len(ident)
+
+
+def other_ids(count):
+    """So many IDs, none of them ID and no two the same."""
+    return [b"9%013d" % (9 * 10**11 + number) for number in range(count)]
+
+
+def changed_id(at, byte):
+    """ID with another byte at one place."""
+    return ID[:at] + bytes([byte]) + ID[at + 1 :]
+
+
+def used_ids():
+    """02 (vii): "24 used: the run's length isn't a multiple of 14 or one of its IDs is the
+    one given; line 0, after 17 and before 18"."""
+    # 67 bytes: one piece from 67 on. Below it three, to 59, where record 1 of 22 bytes just
+    # finds room beside the 37 of line 1 and a 911 of one digit each.
+    lines = [ONE] + [MEMO] * 4
+    content = to_provider(PATIENT, *[MEMO] * 4) + b"\x1a"
+    runs = [[ONE], [MEMO, MEMO], [MEMO, MEMO]]
+    assert len(to_provider(*lines)) == 67
+
+    def passes(label, run, ident=ID, capacity=60, each=accepted):
+        """ "the fewest pieces are found as before": those of no run."""
+        result = [to_provider(*lines)] if capacity >= 67 else list_of(2, runs, ident)
+        each("cut", label, content, "%d %d" % (len(result), sum(map(len, result))),
+             b"".join(result), capacity=capacity, ident=ident, used=run)
+
+    def no(label, run, answer="no 24 0", content=content, capacity=60, ident=ID, room=40):
+        refused("cut", label, content, answer, room=room, capacity=capacity, ident=ident, used=run)
+
+    # The empty run has no ID; every other case of cut has it too.
+    passes("used, no IDs", b"", each=in_buffers)
+    passes("used, no IDs, one piece", b"", capacity=67, each=in_buffers)
+
+    # The ID at each place of runs of one to six; twice; and nowhere.
+    for count in range(1, 7):
+        passes("used, %d others" % count, b"".join(other_ids(count)))
+        for place in range(count):
+            run = other_ids(count)
+            run[place] = ID
+            no("used, the ID is %d of %d" % (place + 1, count), b"".join(run))
+    no("used, the ID twice", ID + ID)
+    no("used, the ID first and last", b"".join([ID, *other_ids(3), ID]))
+    no("used, the ID ten times", ID * 10)
+    passes("used, another ID ten times", other_ids(1)[0] * 10)
+    # Places around 128 and 256 IDs.
+    for place in (0, 1, 127, 128, 254, 255, 256, 257, 258):
+        run = other_ids(259)
+        run[place] = ID
+        no("used, the ID is %d of 259" % (place + 1), b"".join(run))
+    passes("used, 259 others", b"".join(other_ids(259)))
+
+    # In three pieces and in one; buffers that are longer, exact, short and empty.
+    for capacity, pieces in ((60, "three pieces"), (67, "one piece"), (UNBOUNDED, "no bound")):
+        passes("used, others, " + pieces, b"".join(other_ids(3)), capacity=capacity,
+               each=in_buffers)
+        length = 67 if capacity >= 67 else sum(map(len, list_of(2, runs)))
+        for label, room in (("", length + 3), (", exactly", length), (", one short", length - 1),
+                            (", one byte", 1), (", no buffer", 0)):
+            no("used, the ID, %s%s" % (pieces, label), b"".join([*other_ids(2), ID]),
+               capacity=capacity, room=room)
+            no("used, 13 bytes, %s%s" % (pieces, label), ID[:13], capacity=capacity, room=room)
+    # One piece has no record 911, and its ID is tested all the same.
+    for ident in (b"0" * 14, b"9" * 14, b"98765432109876"):
+        no("used, %s, one piece" % ident.decode(), ident, ident=ident, capacity=67, room=80)
+        no("used, %s" % ident.decode(), ident, ident=ident, room=200)
+        passes("used, others, %s" % ident.decode(), ID + b"12345678909876", ident)
+
+    # Before 18 and before 20; both as without a run where it passes.
+    for capacity in (0, 1, 13, 58):
+        for room in (200, 0):
+            label = "%d%s" % (capacity, "" if room else ", no buffer")
+            no("used, the ID where no width serves, " + label, ID, capacity=capacity, room=room)
+            no("used, 15 bytes where no width serves, " + label, ID + b"0", capacity=capacity,
+               room=room)
+            no("used, others where no width serves, " + label, b"".join(other_ids(2)), "no 18 0",
+               capacity=capacity, room=room)
+    for capacity in range(40, 199, 3):
+        memo_cut("used, others, 20 memos, %d" % capacity, 20, MEMO, capacity,
+                 used=b"".join(other_ids(2)))
+    memo_cut("used, others, 998 long memos, 61", 998, "4,xxxxx,,2", 61, expected="999",
+             used=b"".join(other_ids(2)))
+    group = ["5,H280411,1", HOSPITAL, ADVICE]
+    visit = to_patient(DATE, HOSPITAL, ADVICE)
+    in_buffers("cut", "used, others, direction 1", visit, "3 153",
+               b"".join(list_of(1, [[line] for line in group])), capacity=54, ident=ID,
+               used=b"".join(other_ids(2)))
+    no("used, the ID, direction 1", ID, content=visit, capacity=54, room=200)
+
+    # Its bytes across two IDs are none of them, wherever they begin; they are where they
+    # begin at an ID's start.
+    for shift in range(15):
+        run = b"0" * shift + ID + b"0" * (14 - shift)
+        among = b"".join(other_ids(3)) + run + b"".join(other_ids(3))
+        tried = no if shift in (0, 14) else passes
+        tried("used, the ID after %d bytes" % shift, run)
+        tried("used, the ID after %d bytes, others" % (42 + shift), among)
+    # An ID that lies at every second place of the run, and at none where an ID begins.
+    passes("used, 2121 and the ID 1212", b"21" * 14, b"12" * 7)
+    no("used, 1212 and the ID 1212", b"12" * 14, ident=b"12" * 7)
+    passes("used, 28 bytes of 0 and the ID of 1", b"0" * 28, b"1" * 14)
+    passes("used, 26 times 1 between two 0s and the ID of 1", b"0" + b"1" * 26 + b"0", b"1" * 14)
+    no("used, 28 times 1 and the ID of 1", b"1" * 28, ident=b"1" * 14)
+    no("used, 14 times 0 and 14 times 1 and the ID of 1", b"0" * 14 + b"1" * 14, ident=b"1" * 14)
+
+    # An ID that differs in one byte, at each of its places.
+    for at in range(14):
+        digit = changed_id(at, ord("0") + (ID[at] - ord("0") + 5) % 10)
+        passes("used, another digit at %d" % (at + 1), digit)
+        passes("used, the next byte at %d" % (at + 1), changed_id(at, ID[at] + 1))
+        passes("used, bit 7 at %d" % (at + 1), changed_id(at, ID[at] ^ 0x80))
+        passes("used, 00 at %d" % (at + 1), changed_id(at, 0))
+        # Only this byte of it is the ID's.
+        passes("used, one byte of the ID at %d" % (at + 1), b"\xff" * at + ID[at : at + 1]
+               + b"\xff" * (13 - at))
+        no("used, another digit at %d, then the ID" % (at + 1), digit + ID)
+    # Fourteen IDs that have each byte of the ID at its place, but never all of one.
+    near = b"".join(changed_id(at, ID[at] ^ 1) for at in range(14))
+    passes("used, fourteen that differ in a bit", near, each=in_buffers)
+    no("used, fourteen that differ in a bit, then the ID", near + ID)
+    passes("used, the ID from its end", ID[::-1])
+    passes("used, the halves of the ID turned", ID[7:] + ID[:7])
+    passes("used, the halves of the ID in two IDs", b"0" * 7 + ID[:7] + ID[7:] + b"0" * 7)
+
+    # Lengths that are no multiple of 14: with the ID in the run, and without it.
+    for length in [*range(1, 14), *range(15, 28), 29, 41, 43, 55, 57, 139, 141, 255, 256, 257, 693,
+                   1399, 1401]:
+        no("used, %d bytes of the ID" % length, (ID * 101)[:length])
+        no("used, %d bytes of others" % length, b"".join(other_ids(101))[:length])
+    for length in (1, 13, 15, 27, 29):
+        no("used, %d bytes of 00" % length, b"\x00" * length)
+        no("used, %d bytes, the ID last" % length, (b"0" * 15 + ID)[-length:])
+    for count in (1, 2, 3, 4, 10, 50, 100):
+        passes("used, %d bytes of others" % (14 * count), b"".join(other_ids(count)))
+        no("used, the ID, others and a byte, %d bytes" % (14 * count + 1),
+           b"".join([ID, *other_ids(count)])[: 14 * count + 1])
+
+    # The run's contents need not be digits.
+    for label, unit in [
+        ("00", b"\x00"), ("FF", b"\xff"), ("commas", b","), ("0A", b"\n"), ("0D", b"\r"),
+        ("line ends", b"\r\n"), ("1A", b"\x1a"), ("spaces", b" "), ("letters", b"abcdefg"),
+        ("wide digits", "１".encode("shift_jis")), ("slashes and colons", b"/:"),
+    ]:
+        run = unit * (28 // len(unit))
+        passes("used, %s" % label, run)
+        no("used, %s, then the ID" % label, run + ID)
+        no("used, the ID, then %s" % label, ID + run)
+        no("used, %s, one byte less" % label, run[:-1])
+    passes("used, 14 times 00 and the ID of 0", b"\x00" * 14, b"0" * 14)
+    # IDs as lines are no run. 14 lines of 15 bytes have the length of one, but of them only
+    # lines 1, 15, 29 .. begin where an ID does; of lines of 16 bytes, lines 1, 8, 15 ..
+    for place, end, count, tried in [
+        (1, b"\n", 14, no), (2, b"\n", 14, passes), (14, b"\n", 14, passes), (15, b"\n", 28, no),
+        (28, b"\n", 28, passes), (1, b"\r\n", 7, no), (2, b"\r\n", 7, passes),
+        (7, b"\r\n", 7, passes), (8, b"\r\n", 14, no), (14, b"\r\n", 14, passes),
+    ]:
+        listed = other_ids(count)
+        listed[place - 1] = ID
+        tried("used, line %d of %d with %s" % (place, count, end.hex()),
+              b"".join(one + end for one in listed))
+    no("used, a line of one ID", ID + b"\n")
+    no("used, a line of another ID", other_ids(1)[0] + b"\r\n")
+
+    # 1 to 16 come first, then 17, whatever the run is.
+    bad_runs = [("the ID", ID), ("13 bytes", b"0" * 13), ("15 bytes", ID + b"0")]
+    by_answer = check_cases()
+    for number in range(2, 17):
+        for (label, run), (_, bad, answer) in zip(bad_runs, spread(by_answer[number], 3)):
+            no("used, %s, %d" % (label, number), run, answer, bad, room=60)
+            no("used, %s, %d, a wrong ID, no buffer" % (label, number), run, answer, bad, 0,
+               b"x" * 14, 0)
+        _, bad, answer = by_answer[number][-1]
+        no("used, others, %d" % number, b"".join(other_ids(2)), answer, bad, room=60)
+    no("used, 15 bytes, 1, no buffer", ID + b"0", "no 1 0", check_case("65536 bytes and 1A"),
+       room=0)
+    for wrong in WRONG_IDS:
+        shown = shown_id(wrong)
+        no("used, the ID %s itself" % shown, wrong, "no 17 0", ident=wrong)
+        no("used, 13 bytes and the ID %s" % shown, b"0" * 13, "no 17 0", ident=wrong, room=0)
+        no("used, others and the ID %s" % shown, b"".join(other_ids(2)), "no 17 0", ident=wrong)
+        no("used, a good ID and the ID %s, one piece" % shown, ID, "no 17 0", capacity=67,
+           ident=wrong)
+        no("used, 15 bytes and the ID %s, no width" % shown, ID + b"0", "no 17 0", capacity=0,
+           ident=wrong)
+
+    # The longest runs: the ID is the last of 10,000; it lies across the last two; a byte is
+    # missing.
+    longest = b"".join(other_ids(10000))
+    assert len(longest) == MOST_USED
+    no("used, the ID is the last of 10000", longest[:-14] + ID, room=200)
+    passes("used, 10000 others, the ID across the last two", longest[:-15] + ID + b"0")
+    no("used, 139999 bytes of others", longest[:-1], room=200)
 
 
 def cut():
@@ -862,13 +1070,8 @@ def cut():
             told("cut", "%s, %d" % (label, capacity), content, 4000, capacity, ID)
 
     # The ID: 17 wherever the file is good, before 18 and 20.
-    wrong = [b"", b"1", b"1" * 13, b"1" * 15, b"1" * 28, b"1" * 255, b"1234567890123a",
-             b"a2345678901234", b"1234567 901234", b"12345678901234 ", b" 2345678901234",
-             b"-2345678901234", b"1234567890123/", b"1234567890123:", b"\x00" * 14,
-             b"1234567890123\n", b"1234567890123,", b"12345678901234\r", b"\xb1" * 14,
-             "１２３４５６７".encode("shift_jis"), b"12345678901234\x00", b"1.345678901234"]
-    for ident in wrong:
-        shown = ident.hex() if len(ident) < 16 else "of %d" % len(ident)
+    for ident in WRONG_IDS:
+        shown = shown_id(ident)
         no("ID %s" % shown, SMALL, UNBOUNDED, "no 17 0", ident)
         no("ID %s, no cutting" % shown, SMALL, 0, "no 17 0", ident)
         no("ID %s, no buffer" % shown, to_provider(ONE, *[MEMO] * 20), 69, "no 17 0", ident, 0)
@@ -877,6 +1080,7 @@ def cut():
         given("ID %s" % ident.decode(), paper(4), 60,
               list_of(2, [[ONE], [MEMO, MEMO], [MEMO, MEMO]], ident), ident, accepted)
 
+    used_ids()
     of_check("cut", capacity=UNBOUNDED, ident=ID)
     by_answer = check_cases()
     for number in range(2, 17):
@@ -920,6 +1124,73 @@ def any_pieces(lines, number):
     orders = list(itertools.permutations(range(n)))
     ends = sorted((number * (3 + 2 * i)) % len(lines) for i in range(n - 1))
     return pieces_at(lines, ends, orders[number % len(orders)])
+
+
+def two_cuttings(given, no):
+    """02 (vii): "Pieces of two cuttings with one ID can be confused". With two IDs they are
+    no set, whichever are taken and however they lie."""
+    other = b"98765432109876"
+
+    def both(runs, more):
+        """The pieces of two cuttings, each with its ID."""
+        return list_of(2, runs), list_of(2, more, other)
+
+    # One piece for each k, from either cutting: of one file, and of two that differ.
+    two = [[PATIENT], [MEMO]]
+    three = [[PATIENT, "2,1,x,2"], [MEMO], [DATE, "601,x,"]]
+    three_more = [["1,B,2,H010109,,,,,,,"], ["4,y,,2", MEMO], []]
+    for label, runs, more in [("one file", two, two), ("one file", three, three),
+                              ("two files", three, three_more)]:
+        cuttings, n = both(runs, more), len(runs)
+        for taken in itertools.product((0, 1), repeat=n):
+            for order in itertools.permutations(range(n)):
+                content = b"".join(cuttings[taken[k]][k] for k in order)
+                name = "two cuttings of %s, %s in order %s" % (
+                    label, "".join("AB"[one] for one in taken), "".join(str(k + 1) for k in order))
+                if len(set(taken)) == 1:
+                    given(name, content, to_provider(*itertools.chain(*(runs, more)[taken[0]])))
+                else:
+                    no(name, content, "no 19 0", room=150)
+    # The same pieces, had the two cuttings one ID: a file that nobody cut.
+    confused = [list_of(2, three)[0], list_of(2, three_more)[1], list_of(2, three)[2]]
+    given("two cuttings with one ID are confused", b"".join(confused),
+          to_provider(*three[0], *three_more[1], *three[2]))
+
+    # IDs that differ in one digit.
+    for at in range(14):
+        near = changed_id(at, ord("0") + (ID[at] - ord("0") + 5) % 10)
+        mixed = [list_of(2, two)[0], list_of(2, two, near)[1]]
+        no("two cuttings, IDs that differ at %d" % (at + 1), b"".join(mixed), "no 19 0", room=150)
+        no("two cuttings, IDs that differ at %d, turned, 1A" % (at + 1),
+           b"\x1a".join(mixed[::-1]) + b"\x1a", "no 19 0", room=0)
+
+    # All of one and some of the other; all of both; numbers of pieces that differ.
+    first, second = both(three, three_more)
+    pair = list_of(2, two, other)
+    for label, content in [
+        ("all of both", first + second), ("all of both, turned", second[::-1] + first[::-1]),
+        ("all of both, in turn", [one for ones in zip(first, second) for one in ones]),
+        ("all of one and the first of the other", first + second[:1]),
+        ("the last of one and all of the other", first[2:] + second),
+        ("all of one twice and one of the other", first + first + second[1:2]),
+        ("3 of one and 2 of the other", first + pair),
+        ("2 of one and 3 of the other", pair + first),
+        ("two of 3 and one of 2", first[:2] + pair[1:]),
+        ("one of 3 and one of 2", first[:1] + pair[1:]),
+        ("one of 2 and two of 3", pair[:1] + first[1:]),
+        ("one piece of each", first[:1] + second[1:2]), ("piece 1 of each", first[:1] + second[:1]),
+        ("one whole file and a cutting", [to_provider(PATIENT, MEMO)] + first),
+    ]:
+        no("two cuttings, " + label, b"".join(content), "no 19 0", room=300)
+        no("two cuttings, %s, 1A, no buffer" % label, b"\x1a".join(content), "no 19 0", room=0)
+    # One strange piece among ten, wherever it lies.
+    ten = [[PATIENT]] + [["4,%d,,2" % k] for k in range(2, 11)]
+    first, second = both(ten, ten)
+    for k in range(10):
+        mixed = first[:k] + second[k : k + 1] + first[k + 1 :]
+        no("two cuttings, piece %d of 10 is strange" % (k + 1), b"".join(mixed), "no 19 0")
+        no("two cuttings, piece %d of 10 is strange and lies last" % (k + 1),
+           b"".join(first[:k] + first[k + 1 :] + second[k : k + 1]), "no 19 0")
 
 
 def join():
@@ -1216,6 +1487,8 @@ def join():
         else:
             given("groups of %s in pieces" % days, content, to_provider(PATIENT, *groups))
 
+    two_cuttings(given, no)
+
     # 999 pieces; each but one without a record.
     def many(n, count):
         return [one_piece(2, [ONE] if k == 500 else [], n, k) for k in range(1, count + 1)]
@@ -1224,6 +1497,8 @@ def join():
     given("999 pieces, turned, 1A behind each", b"\x1a".join(many(999, 999)[::-1]) + b"\x1a",
           SMALL_CANONICAL)
     no("998 pieces of 999", b"".join(many(999, 998)), "no 19 0")
+    no("999 pieces, the last of another ID",
+       b"".join(many(999, 998) + [one_piece(2, [], 999, 999, b"12345678901235")]), "no 19 0")
     no("999 pieces and one of them again", b"".join(many(999, 999) + many(999, 1)), "no 19 0")
     no("1000 pieces of 1000", b"".join(many(1000, 1000)), "no 19 0")
     long = "4,xxxxx,,2"
@@ -1271,8 +1546,9 @@ def shown(call, after):
 def packed(one):
     assert len(one.label) < 100 and len(one.ident) < 256 and len(one.content) <= MOST_BYTES
     assert one.room <= (MOST_NUMBERS if one.call == "index" else MOST_BYTES)
+    assert len(one.used) <= MOST_USED
     return make_cases.packed(
-        LETTERS[one.call], one.label, one.content, one.room, one.capacity, one.ident)
+        LETTERS[one.call], one.label, one.content, one.room, one.capacity, one.ident, one.used)
 
 
 def call_frames():
@@ -1281,7 +1557,7 @@ def call_frames():
         FAMILIES[call]()
     frames, disagreements = [], 0
     for one in FRAMES:
-        found = by_oracle(one.call, one.content, one.capacity, one.ident,
+        found = by_oracle(one.call, one.content, one.capacity, one.ident, one.used,
                           before(one.call, one.room))
         assert len(one.after) == one.room, one.label
         if found != (one.answer, one.after):

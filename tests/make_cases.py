@@ -1569,13 +1569,13 @@ def byte_pairs():
 # =============================================================================
 
 
-def packed(letter, label, content=b"", room=0, capacity=0, ident=b""):
+def packed(letter, label, content=b"", room=0, capacity=0, ident=b"", used=b""):
     """The frame of a call: tests/README.md says what stands where."""
     name = label.encode("ascii")
     return b"".join([
         letter.encode("ascii"), bytes([len(name)]), name, room.to_bytes(4, "big"),
         capacity.to_bytes(8, "big"), bytes([len(ident)]), ident,
-        len(content).to_bytes(4, "big"), content])
+        len(used).to_bytes(4, "big"), used, len(content).to_bytes(4, "big"), content])
 
 
 def check_frames():
@@ -1615,7 +1615,7 @@ def write(out_dir, frames):
         line[: found.start()] for line in stdout.splitlines() for found in re.finditer(": ", line))
     twice = [label for label, _, _ in frames if starts[label] != 1]
     assert twice == [], twice
-    assert len(stdin) < 5_000_000
+    assert len(stdin) < 5_500_000
     folder = os.path.join(out_dir, "cases")
     os.makedirs(folder, exist_ok=True)
     for name, content in (("stdin", stdin), ("stdout", stdout.encode("ascii"))):

@@ -1,15 +1,16 @@
 """A plain reading of document 01 with the requests of document 02 that have
-landed ((i), Reiwa; (v), the clinic in the index), for comparing with the gateway.
+landed ((i), Reiwa; (v), the clinic in the index; (vii), IDs that have been used),
+for comparing with the gateway.
 
 check(data) answers ("ok", records, groups, drugs) or ("no", number, line).
 Whatever a record's standing depends on is found by looking back over the list
 of the records before it, so that the rules are not told a second time as a
 state machine.
 
-index(data, out), canonical(data, out), cut(data, capacity, ident, out) and
-join(data, out) answer a pair: ("ok", value, ..) or ("no", number, line), and
-the buffer afterwards. Cut and join build pieces and look at their bytes; they
-count no lengths ahead.
+index(data, out), canonical(data, out), cut(data, capacity, ident, used, out)
+and join(data, out) answer a pair: ("ok", value, ..) or ("no", number, line),
+and the buffer afterwards. Cut and join build pieces and look at their bytes;
+they count no lengths ahead.
 """
 
 import datetime
@@ -529,6 +530,16 @@ def valid_id(ident):
     return re.fullmatch(rb"[0-9]{14}", ident) is not None
 
 
+def ids_of(run):
+    """02 (vii): "a lent run of 14-byte IDs". What is left at its end is shorter."""
+    return [run[at : at + 14] for at in range(0, len(run), 14)]
+
+
+def is_used(ident, run):
+    """02 (vii): "the run's length isn't a multiple of 14 or one of its IDs is the one given"."""
+    return len(run) % 14 != 0 or ident in ids_of(run)
+
+
 def piece(first, run, ident, n, k):
     return file_of([first] + run + [b"911,%s,%d,%d" % (ident, n, k)])
 
@@ -563,12 +574,14 @@ def pieces_of(data, capacity, ident):
     return None
 
 
-def cut(data, capacity, ident, out):
+def cut(data, capacity, ident, used, out):
     answer = check(data)
     if answer[0] == "no":
         return answer, out
     if not valid_id(ident):
         return ("no", 17, 0), out
+    if is_used(ident, used):
+        return ("no", 24, 0), out
     pieces = pieces_of(data, capacity, ident)
     if pieces is None:
         return ("no", 18, 0), out

@@ -18,7 +18,7 @@ sys.dont_write_bytecode = True
 from outside import tools
 
 PROGRAMS = ("notecheck", "noteindex", "notecanon", "notecut", "notejoin")
-PARTS = ("ends", "whole", "faults", "kills", "meaning", "clinics", "names", "small")
+PARTS = ("ends", "whole", "faults", "kills", "meaning", "clinics", "used", "names", "small")
 
 
 def words_given():

@@ -78,7 +78,7 @@ COMMAND = [
 ]
 
 NOTECUT = "notecut 160 " + ID
-WORDS = "error usage: notecut CAPACITY ID \\[PREFIX\\]\n"
+WORDS = "error usage: notecut CAPACITY ID \\[PREFIX \\[USED\\]\\]\n"
 
 # command line, redirections, standard output, standard error
 PROGRAMS = [
@@ -114,7 +114,7 @@ PROGRAMS = [
     ("notecheck", "<visit.csv >/dev/full 2>/dev/full", "", ""),
     ("notecut", "<visit.csv", "", WORDS),
     ("notecut x " + ID, "<visit.csv", "", WORDS),
-    (NOTECUT + " p q", "<visit.csv", "", WORDS),
+    (NOTECUT + " p ids more", "<visit.csv", "", WORDS),
     (NOTECUT + " nofolder/p", "<visit.csv", "", "error write( 1)?\n"),
 ]
 

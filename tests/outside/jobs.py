@@ -4,7 +4,7 @@ The answers are written from document 01 and the documents of the command; bytes
 """
 
 import json
-from dataclasses import dataclass, field
+from dataclasses import dataclass, field, replace
 
 from outside import tools
 from outside.tools import ID, NOTE, SMALL, SMALL_CANONICAL, canonical, notes, numbered, pieces
@@ -19,6 +19,10 @@ DOTTED = {"p.%d" % k: held for k, held in enumerate(PIECES, 1)}
 INDEX = "1 13 21 0 0 0 0\n4 36 6 0 0 0 0\n"
 CLINIC = SMALL + b"5,20160411,1\r\n51,x,,,1234567,1\r\n"
 BASE64 = "SkFISVNUQzA0LDINCjEsQSwxLEgwMTAxMDgsLCwsLCwsDQo="
+NEW_ID = "98765432109876"  # for a run after one that has used ID
+EARLIER = [b"20161115000001", b"20161115000002", b"12345678901235"]  # IDs that have been used; the last is almost ID
+IDS = b"".join(one + b"\n" for one in EARLIER)
+IDS_RUN = b"".join(EARLIER)
 
 
 @dataclass
@@ -32,9 +36,12 @@ class Job:
     made: dict = field(default_factory=dict)
     by_file: bool = False  # each made file for itself is whole or not there; else all are or none is
     killed: str = ""  # a fault of a run before this one
+    ids: str = ""  # the file of IDs that --record-used names
+    entry: bytes = b""  # what a run writes there, after what is there; nothing, if it is refused
 
     def __post_init__(self):
         self.name = self.line.replace(ID, "ID") + (", there in part" if self.kept() else "") + (", after a kill" if self.killed else "")
+        self.name += ", %d bytes of IDs" % len(self.files[self.ids]) if self.ids in self.files else ""
         self.command = self.line.startswith("notebook")
         self.json = "--json" in self.line
 
@@ -46,7 +53,21 @@ class Job:
         return {name.rsplit("/", 1)[0]: None for name in list(self.made) + list(self.files) if "/" in name}
 
     def after(self):
-        return {**self.folders(), **self.files, **self.made}
+        return {**self.folders(), **self.files, **self.made, **self.recorded()}
+
+    def recorded(self):
+        """The file of IDs after a run that has recorded its own."""
+        return {self.ids: self.files.get(self.ids, b"") + self.entry} if self.entry else {}
+
+    def with_new_id(self, files):
+        """The same command with another ID, and other names for the pieces, in a folder that has these files, after a run that has recorded ID: every
+        line has its end then."""
+        held = pieces(SIX, 69, NEW_ID)
+        made = numbered("q-", held) if self.made else {}
+        out = self.out.replace(b"p-", b"q-") if self.made else b"".join(held)
+        line = self.line.replace(ID, NEW_ID).replace("--prefix p-", "--prefix q-")
+        entry = self.entry.replace(ID.encode(), NEW_ID.encode()).lstrip(b"\n")
+        return replace(self, line=line, files=files, out=out, made=made, entry=entry)
 
     def prepare(self, folder):
         tools.write(folder, self.files)
@@ -60,6 +81,8 @@ TO_MADE = {"out/a.csv": SMALL_CANONICAL, "out/e/c.csv": SMALL_CANONICAL + NOTE}
 CUT = "notebook cut --capacity 69 --id %s " % ID
 CUT_OUT = ("a.csv: ok 6 404\n" + PIECE_LINES).encode()
 SET = b"join: no 19 0: set\n"
+USED = b"a.csv: no 24 0: used\n"
+USED_JSON = b'{"file":"a.csv","ok":false,"number":24,"word":"used","line":0}\n'
 
 READING = [
     Job("notebook check a.csv", {"a.csv": SMALL}, out=b"a.csv: ok 1 0 0\n"),
@@ -78,6 +101,10 @@ READING = [
     Job("notebook canonical --json a.csv", {"a.csv": SMALL},
         out=json.dumps({"file": "a.csv", "ok": True, "bytes": 35, "base64": BASE64}, separators=(",", ":")).encode() + b"\n"),
     Job(CUT + "a.csv", {"a.csv": SIX}, out=b"".join(PIECES)),
+    Job(CUT + "--used ids a.csv", {"a.csv": SIX, "ids": IDS}, out=b"".join(PIECES)),
+    Job(CUT + "--used - a.csv", {"a.csv": SIX}, IDS_RUN, out=b"".join(PIECES)),
+    Job(CUT + "--used ids a.csv", {"a.csv": SIX, "ids": IDS + ID.encode()}, status=2, err=USED),
+    Job(CUT + "--json --used ids a.csv", {"a.csv": SIX, "ids": IDS_RUN + ID.encode()}, status=2, err=USED_JSON),
     Job("notebook join " + PART_NAMES, PARTS, out=canonical(SIX)),
     Job("notebook join p1 p2 p3", PARTS, status=1, err=SET),
     Job("notecheck", given=SMALL, out=b"ok 1 0 0\n"),
@@ -88,6 +115,8 @@ READING = [
     Job("notecanon", given=REFUSED, err=b"no 3 1\n"),
     Job("notecut 69 " + ID, given=SIX, out=b"".join(PIECES), err=b"ok 6 404\n"),
     Job("notecut 20 " + ID, given=SIX, err=b"no 18 0\n"),
+    Job("notecut 69 %s  ids" % ID, {"ids": IDS}, SIX, out=b"".join(PIECES), err=b"ok 6 404\n"),
+    Job("notecut 69 %s  ids" % ID, {"ids": IDS + ID.encode()}, SIX, err=b"no 24 0\n"),
     Job("notejoin", given=b"".join(PIECES), out=canonical(SIX)),
     Job("notejoin " + PART_NAMES, PARTS, out=canonical(SIX)),
     Job("notejoin p1 p2 p3", PARTS, err=b"no 19 0\n"),
@@ -99,6 +128,25 @@ WRITING = [
     Job("notebook canonical --output c.csv a.csv", {"a.csv": SIX}, out=None, made={"c.csv": canonical(SIX)}),
     Job("notebook join --output j.csv " + PART_NAMES, PARTS, out=None, made={"j.csv": canonical(SIX)}),
     Job("notecut 69 %s p" % ID, given=SIX, err=b"ok 6 404\n", made=DOTTED),
+    Job(CUT + "--used ids --prefix p- a.csv", {"a.csv": SIX, "ids": IDS}, out=CUT_OUT, made=numbered("p-", PIECES)),
+    Job("notecut 69 %s p ids" % ID, {"ids": IDS}, SIX, err=b"ok 6 404\n", made=DOTTED),
+]
+
+# A run that records its ID has spent it, so that the same command is then refused: these have a retry of their own.
+LINE, RECORD = ID.encode() + b"\n", CUT + "--record-used ids "
+RECORDING = [
+    Job(RECORD + "a.csv", {"a.csv": SIX}, out=b"".join(PIECES), ids="ids", entry=LINE),
+    Job(RECORD + "a.csv", {"a.csv": SIX, "ids": IDS[:-1]}, out=b"".join(PIECES), ids="ids", entry=b"\n" + LINE),
+    Job(RECORD + "--prefix p- a.csv", {"a.csv": SIX}, out=CUT_OUT, made=numbered("p-", PIECES), ids="ids", entry=LINE),
+    Job(RECORD + "--used old --prefix p- a.csv", {"a.csv": SIX, "old": IDS, "ids": IDS_RUN}, out=CUT_OUT, made=numbered("p-", PIECES), ids="ids",
+        entry=ID.encode()),
+]
+
+# Refused, so that nothing is recorded.
+NOT_RECORDING = [
+    Job(RECORD + "a.csv", {"a.csv": SIX, "ids": IDS + LINE}, status=2, err=USED, ids="ids"),
+    Job(RECORD + "--used old --prefix p- a.csv", {"a.csv": SIX, "old": IDS + LINE}, status=2, err=USED, ids="ids"),
+    Job(RECORD + "b.csv", {"b.csv": REFUSED}, status=1, err=b"b.csv: no 3 1: version\n", ids="ids"),
 ]
 
 AGAIN = [

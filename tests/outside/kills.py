@@ -1,4 +1,5 @@
-"""SIGKILL before and after each call that changes files: no file under a final name is half-written, and the next run ends as a clean one."""
+"""SIGKILL before and after each call that changes files: no file under a final name is half-written, no piece is there whose ID was to be recorded and
+is not, and the next run ends as a clean one."""
 
 import functools
 import os
@@ -23,18 +24,17 @@ def one_kill(job, fault):
         job.prepare(folder)
         done = run(job.line, folder, job.given, limits="umask 0;", fault=fault)
         same("status", done.status, -9)
-        faults.left_by_kill(job, folder)
-        right_after_retry(job, folder)
+        faults.left_by_kill(job, folder, done.out)
+        (faults.retry_of_recording if job.entry else right_after_retry)(job, folder)
 
 
 def every_kill(job, when, folder):
-    seen, wrong, runs = {}, [], 0
-    for name, _ in faults.clean_calls(job, folder):
-        seen[name] = seen.get(name, 0) + 1
-        if name not in tools.CHANGING:
+    wrong, runs = [], 0
+    for call in faults.clean_calls(job, folder):
+        if call.name not in tools.CHANGING:
             continue
         runs += 1
-        fault = "%s %d %s" % (name, seen[name], when)
+        fault = "%s %d %s" % (call.name, call.number, when)
         try:
             one_kill(job, fault)
         except Wrong as reason:
@@ -60,6 +60,6 @@ def tests():
     cut = jobs.WRITING[0]
     return [
         ("%s, killed %s each call" % (job.name, when), partial(every_kill, job, when))
-        for job in jobs.WRITING + jobs.AGAIN
+        for job in jobs.WRITING + jobs.AGAIN + jobs.RECORDING
         for when in ("before", "after")
     ] + [("%s, killed at %s and at %s" % (cut.name, *both), partial(two_kills, cut, both)) for both in TWICE]

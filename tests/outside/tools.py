@@ -49,8 +49,8 @@ def canonical(data):
     return oracle.file_of(oracle.canonical_lines(data))
 
 
-def pieces(data, capacity):
-    return oracle.pieces_of(data, capacity, ID.encode())
+def pieces(data, capacity, ident=ID):
+    return oracle.pieces_of(data, capacity, ident.encode())
 
 
 def numbered(prefix, held):

@@ -20,7 +20,7 @@ def clean(job, folder):
     if job.out is not None:
         same("standard output", done.out, job.out)
     same("standard error", done.err, job.err)
-    for name in job.made:
+    for name in {**job.made, **job.recorded()}:
         if name not in job.files:
             same("mode of " + name, oct(tools.mode(folder, name)), oct(0o600))
     for name in job.folders():
@@ -33,6 +33,7 @@ def twice(job, folder):
     job.prepare(folder)
     first = run(job.line, folder, job.given)
     has_status(first, 0)
+    same_tree(folder, job.after())
     before = {name: os.lstat(os.path.join(folder, name)) for name in job.made}
     second = run(job.line, folder, job.given)
     same("the second answer", second, first)
@@ -291,7 +292,7 @@ def tests():
     pairs = {"the same pieces": (CUT_A, CUT_A), "other pieces": (CUT_A, CUT_B)}
     partial = functools.partial
     return (
-        [(job.name, partial(clean, job)) for job in jobs.WRITING + jobs.AGAIN]
+        [(job.name, partial(clean, job)) for job in jobs.WRITING + jobs.AGAIN + jobs.RECORDING + jobs.NOT_RECORDING]
         + [(job.name + ", twice", partial(twice, job)) for job in jobs.WRITING]
         + [
             ("%s, %s" % (job.name, put.__name__.replace("_", " ")), partial(obstacle, job, put))
