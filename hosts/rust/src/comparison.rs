@@ -2,25 +2,30 @@
 //! in every call, with buffers of every kind of length, and must reply and write alike.
 
 use crate::damage::Damage;
-use crate::division::{join_input, CutInput, MOST_PIECES_BYTES};
+use crate::division::{join_input, mixture, pieces_of, CutInput, TwoCuttings, MOST_PIECES_BYTES};
 use crate::faults::{faults, Fault};
 use crate::library::{replies, Reply, Told};
 use crate::ordinary::{self, ENTRY_NUMBERS};
 use crate::random::Random;
+use crate::runs::Runs;
 use crate::trial::{self, Difference, Filling};
 use std::collections::{BTreeMap, BTreeSet};
 use std::fmt::Write;
+use std::hint::black_box;
+
+/// One more than the greatest number of a refusal.
+const NUMBERS: usize = 25;
 
 /// A call, the refusals that it can give, and how often it has given each; 0 counts the inputs that are accepted.
 struct Tally {
     call: &'static str,
     possible: &'static [usize],
-    counts: [u64; 21],
+    counts: [u64; NUMBERS],
 }
 
 const FILE: &[usize] = &[0, 1, 2, 3, 4, 5, 6, 7, 8, 9, 10, 11, 12, 13, 14, 15, 16];
 const FILE_AND_BUFFER: &[usize] = &[0, 1, 2, 3, 4, 5, 6, 7, 8, 9, 10, 11, 12, 13, 14, 15, 16, 20];
-const CUT: &[usize] = &[0, 1, 2, 3, 4, 5, 6, 7, 8, 9, 10, 11, 12, 13, 14, 15, 16, 17, 18, 20];
+const CUT: &[usize] = &[0, 1, 2, 3, 4, 5, 6, 7, 8, 9, 10, 11, 12, 13, 14, 15, 16, 17, 18, 20, 24];
 /// A joined file begins with a line 1 and has no 911: neither 3 nor 6.
 const JOIN: &[usize] = &[0, 1, 2, 4, 5, 7, 8, 9, 10, 11, 12, 13, 14, 15, 16, 19, 20];
 
@@ -33,6 +38,8 @@ pub struct Comparison {
     faults: [u64; Fault::ALL.len()],
     days: Days,
     clinics: Clinics,
+    runs: Runs,
+    mixtures: Mixtures,
     differences: u64,
     /// The first differences in words, with the whole inputs.
     pub shown: Vec<String>,
@@ -46,7 +53,7 @@ const MOST_SHOWN: usize = 5;
 
 impl Comparison {
     pub fn new(seed: u64) -> Self {
-        let tally = |call, possible| Tally { call, possible, counts: [0; 21] };
+        let tally = |call, possible| Tally { call, possible, counts: [0; NUMBERS] };
         Comparison {
             seed,
             inputs: 0,
@@ -60,6 +67,8 @@ impl Comparison {
             faults: [0; Fault::ALL.len()],
             days: Days::default(),
             clinics: Clinics::default(),
+            runs: Runs::default(),
+            mixtures: Mixtures::default(),
             differences: 0,
             shown: Vec::new(),
             files: Damage::default(),
@@ -83,15 +92,19 @@ impl Comparison {
         let cut = CutInput::new(self.seed, index, &file, &self.files);
         let pieces = join_input(self.seed, index, &file, &self.files);
         self.compare(&file, &cut, &pieces);
+        if index.is_multiple_of(ONE_IN_MIXED) {
+            let two = TwoCuttings::new(self.seed, index, &self.files);
+            self.mix(&two);
+        }
     }
 
-    /// Compares every call on these bytes, as a file and as pieces. All that is chosen follows from the bytes, so that an
-    /// input found by a fuzzer gives the same again.
+    /// Compares every call on these bytes, as a file and as pieces; of bytes with a run of used IDs after a file the run is
+    /// for cut alone. All that is chosen follows from the bytes, so that an input found by a fuzzer gives the same again.
     pub fn compare_bytes(&mut self, bytes: &[u8]) {
         let cut = CutInput::of_bytes(bytes);
         self.seed = cut.capacity;
         self.inputs = 0;
-        self.compare(bytes, &cut, bytes);
+        self.compare(&cut.file, &cut, &cut.file);
     }
 
     /// Compares every call: check, index and canonical on `file`.
@@ -127,14 +140,7 @@ impl Comparison {
             |out: &mut [u8]| replies::canonical(file, out),
         );
 
-        let CutInput { file, capacity, id } = cut;
-        let needed = ordinary::cut(file, *capacity, id, &mut self.large).ok().map(|pieces| pieces.bytes as usize);
-        self.call(
-            (3, &mut random, needed),
-            &[file, format!("{capacity}").as_bytes(), id],
-            |out: &mut [u8]| ordinary::cut(file, *capacity, id, out).reply(),
-            |out: &mut [u8]| replies::cut(file, *capacity, id, out),
-        );
+        self.cut(cut, &mut random);
 
         let answer = ordinary::join(pieces, &mut self.large);
         let needed = answer.ok().map(|bytes| bytes as usize);
@@ -145,6 +151,70 @@ impl Comparison {
             |out: &mut [u8]| replies::join(pieces, out),
         );
         self.name_faults(pieces, answer.reply());
+    }
+
+    /// Compares cut. The buffers are as long as the pieces need with the empty run: 24 comes before 20.
+    fn cut(&mut self, input: &CutInput, random: &mut Random) {
+        let CutInput { file, capacity, id, used } = input;
+        let answer = ordinary::cut(file, *capacity, id, used, &mut self.large);
+        let without = ordinary::cut(file, *capacity, id, b"", &mut self.large);
+        self.runs.count(id, used, answer.reply(), without.reply());
+        // The library's run lies between two copies of the ID, which it would find if it read further.
+        let around = [id, &used[..], id].concat();
+        let lent = &around[id.len()..id.len() + used.len()];
+        let capacity_in_digits = capacity.to_string();
+        let told: &[&[u8]] = &[file, capacity_in_digits.as_bytes(), id, used];
+        self.call(
+            (3, random, without.ok().map(|pieces| pieces.bytes as usize)),
+            told,
+            |out: &mut [u8]| ordinary::cut(file, *capacity, id, used, out).reply(),
+            |out: &mut [u8]| replies::cut(file, *capacity, id, lent, out),
+        );
+        let written = black_box(&around).iter().zip([id, &used[..], id].into_iter().flatten()).position(|(a, b)| a != b);
+        if let Some(place) = written {
+            let place = Some(place as isize - id.len() as isize);
+            self.tell("cut writes into its run", told, &Difference { place, ..Difference::default() });
+        }
+    }
+
+    /// "Pieces of two cuttings with one ID can be confused": with the first one's ID in the run of the second they have two
+    /// IDs, and any mixture with a piece of each is 19. The pieces are the ordinary ones, which are compared before that.
+    fn mix(&mut self, two: &TwoCuttings) {
+        let mut random = Random::of(self.seed ^ 0x19, self.inputs);
+        let TwoCuttings { first, second } = two;
+        let confused = CutInput { id: first.id.clone(), ..second.clone() };
+        for input in [first, second, &confused] {
+            self.cut(input, &mut random);
+        }
+        let mut lists = [first, second].map(|input| self.pieces(input));
+        let chosen = mixture(&mut random, [lists[0].len(), lists[1].len()]);
+        let one_piece = lists.iter().any(|pieces| pieces.len() == 1);
+        let mixed = |lists: &[Vec<Vec<u8>>]| chosen.iter().flat_map(|&(list, place)| lists[list][place].clone()).collect();
+        let pieces: Vec<u8> = mixed(&lists);
+        if pieces.len() > MOST_PIECES_BYTES {
+            return;
+        }
+        self.call(
+            (4, &mut random, None),
+            &[&pieces],
+            |out: &mut [u8]| ordinary::join(&pieces, out).reply(),
+            |out: &mut [u8]| replies::join(&pieces, out),
+        );
+        let ours = Reply { refusal: 19, ..Reply::default() };
+        let theirs = replies::join(&pieces, &mut self.large);
+        if ours != theirs {
+            self.tell("a mixture of two cuttings", &[&pieces], &Difference { ours, theirs, ..Difference::default() });
+        }
+        // What the run has prevented.
+        lists[1] = self.pieces(&CutInput { used: Vec::new(), ..confused });
+        let joined = ordinary::join(&mixed(&lists), &mut self.large).is_ok();
+        self.mixtures.count(one_piece, joined);
+    }
+
+    /// The pieces of a cutting with a capacity that serves.
+    fn pieces(&mut self, CutInput { file, capacity, id, used }: &CutInput) -> Vec<Vec<u8>> {
+        let cut = ordinary::cut(file, *capacity, id, used, &mut self.large).expect("the capacity serves");
+        pieces_of(&self.large[..cut.bytes as usize])
     }
 
     /// Gives one input to both implementations with each length of buffer.
@@ -197,8 +267,8 @@ impl Comparison {
         self.shown.push(text);
     }
 
-    /// What has not occurred though it can: refusals of a call, reasons for 19, spellings of days, and records and groups
-    /// with and without a clinic.
+    /// What has not occurred though it can: refusals of a call, reasons for 19, spellings of days, records and groups with
+    /// and without a clinic, runs of used IDs near the rule, and mixtures of two cuttings.
     pub fn missing(&self) -> Vec<String> {
         let mut missing = Vec::new();
         for tally in &self.tallies {
@@ -209,15 +279,18 @@ impl Comparison {
         missing.extend(faults.map(|(fault, _)| format!("join: 19 has not occurred by {fault:?} alone")));
         missing.extend(self.days.missing());
         missing.extend(self.clinics.missing());
+        missing.extend(self.runs.missing());
+        missing.extend(self.mixtures.missing());
         missing
     }
 
-    /// Tables of refusals by call, of the reasons for 19, of days by letter and of clinics, and the last line: inputs and
-    /// differences.
+    /// Tables of refusals by call, of the reasons for 19, of days by letter, of clinics, of runs of used IDs and of mixtures,
+    /// and the last line: inputs and differences.
     pub fn summary(&self) -> String {
         let names: String = self.tallies.iter().map(|tally| format!("{:>10}", tally.call)).collect();
         let mut text = format!("{:<10}{names}\n", "");
-        for number in 0..=20 {
+        let given = |number: &usize| self.tallies.iter().any(|tally| tally.possible.contains(number));
+        for number in (0..NUMBERS).filter(given) {
             let name = if number == 0 { "accepted".to_string() } else { format!("refused {number}") };
             let counts: String = self.tallies.iter().map(|tally| format!("{:>10}", tally.counts[number])).collect();
             let _ = writeln!(text, "{name:<10}{counts}");
@@ -230,6 +303,10 @@ impl Comparison {
         }
         for (what, [without, with], _) in self.clinics.rows() {
             let _ = writeln!(text, "{what:<32}{without:>6} without a clinic, {with} with one");
+        }
+        text += &self.runs.summary();
+        for (what, count) in self.mixtures.rows() {
+            let _ = writeln!(text, "{what:<44}{count:>6}");
         }
         for missing in self.missing() {
             let _ = writeln!(text, "{missing}");
@@ -337,6 +414,37 @@ impl Clinics {
     }
 }
 
+/// One in so many inputs is followed by a mixture of two cuttings.
+const ONE_IN_MIXED: u64 = 16;
+
+/// How often pieces of two cuttings were mixed: by whether one ID would let them join, and with one that is a single piece.
+#[derive(Default)]
+struct Mixtures {
+    confusable: u64,
+    others: u64,
+    one_piece: u64,
+}
+
+impl Mixtures {
+    fn count(&mut self, one_piece: bool, confusable: bool) {
+        self.confusable += u64::from(confusable);
+        self.others += u64::from(!confusable);
+        self.one_piece += u64::from(one_piece);
+    }
+
+    fn rows(&self) -> [(&'static str, u64); 3] {
+        [
+            ("mixtures that one ID would let join", self.confusable),
+            ("mixtures that it would not", self.others),
+            ("mixtures with a cutting into one piece", self.one_piece),
+        ]
+    }
+
+    fn missing(&self) -> impl Iterator<Item = String> {
+        self.rows().into_iter().filter(|(_, count)| *count == 0).map(|(what, _)| format!("join: {what}: none"))
+    }
+}
+
 /// Bytes in hexadecimal, each row after its offset.
 fn hexadecimal(text: &mut String, bytes: &[u8]) {
     for (row, bytes) in bytes.chunks(16).enumerate() {
@@ -351,6 +459,7 @@ fn hexadecimal(text: &mut String, bytes: &[u8]) {
 mod tests {
     use super::{Clinics, Comparison, Days};
     use crate::ordinary::{index, MOST_NUMBERS};
+    use std::collections::BTreeSet;
     use std::fs;
     use std::path::Path;
 
@@ -359,7 +468,8 @@ mod tests {
 
     /// The gate's bounded comparison. Every refusal that a call can give, every reason for 19 and every era's letter must occur,
     /// and one that is read after its era's end must occur there; so must every record of a group with and without a clinic,
-    /// and groups with and without one after each other: a comparison that misses one shows nothing of it.
+    /// groups with and without one after each other, every kind of run near the rule of 24, and mixtures of two cuttings: a
+    /// comparison that misses one shows nothing of it.
     #[test]
     fn the_library_and_the_ordinary_implementation_answer_alike() {
         let mut comparison = Comparison::new(SEED);
@@ -420,14 +530,24 @@ mod tests {
     #[test]
     fn both_answer_alike_on_the_corpus() {
         let folder = Path::new(env!("CARGO_MANIFEST_DIR")).join("fuzz/corpus");
-        let mut files = 0;
+        let mut missing_in_all: Option<BTreeSet<String>> = None;
         for entry in fs::read_dir(folder).expect("the corpus is there") {
             let path = entry.expect("the corpus can be read").path();
             let mut comparison = Comparison::new(SEED);
             comparison.compare_bytes(&fs::read(&path).expect("a file of the corpus"));
             assert_eq!(comparison.differences(), 0, "{}\n{}", path.display(), comparison.shown.concat());
-            files += 1;
+            let missing: BTreeSet<String> = comparison.missing().into_iter().collect();
+            missing_in_all = Some(missing_in_all.map_or(missing.clone(), |before| &before & &missing));
         }
-        assert!(files > 0, "the corpus has files");
+        let missing = missing_in_all.expect("the corpus has files");
+        for wanted in [
+            "cut: 24 has not occurred",
+            "cut: cut with an ID near in byte 14: none",
+            "cut: cut with the ID across two by 5: none",
+            "cut: 24 by the ID last: none",
+            "cut: 24 by bytes more 13: none",
+        ] {
+            assert!(!missing.contains(wanted), "the corpus: {wanted}");
+        }
     }
 }

@@ -1,19 +1,29 @@
-//! Inputs for cutting and joining: files with capacities and IDs near every rule, and pieces that are mixed, respelled and
-//! damaged. The draws decide everything, so a seed gives the same inputs on every machine.
+//! Inputs for cutting and joining: files with capacities, IDs and runs of used IDs near every rule, and pieces that are
+//! mixed, respelled and damaged. The draws decide everything, so a seed gives the same inputs on every machine.
 
 use crate::damage::{damage, Damage};
 use crate::ordinary::{self, Pieces};
 use crate::random::Random;
+use crate::runs::{good_id, run};
 
 /// The most bytes that joining takes; no cutting writes more.
 pub const MOST_PIECES_BYTES: usize = 131_072;
 
 /// What cutting takes.
+#[derive(Clone)]
 pub struct CutInput {
     pub file: Vec<u8>,
     pub capacity: u64,
     pub id: Vec<u8>,
+    /// The run of used IDs.
+    pub used: Vec<u8>,
 }
+
+/// What stands between a file and a run of used IDs in the bytes of a fuzzer. No accepted file has a byte 00h.
+const BEFORE_RUN: &[u8] = b"\0used";
+
+/// The ID with which the bytes of a fuzzer are cut.
+const FUZZED_ID: &[u8] = b"12345678901234";
 
 impl CutInput {
     /// The input of this seed and index. `damaged` is the file that the other calls are given.
@@ -26,19 +36,29 @@ impl CutInput {
         };
         let capacity = capacity(&mut random, &file);
         let id = if random.once_in(8) { bad_id(&mut random) } else { good_id(&mut random) };
-        CutInput { file, capacity, id }
+        let used = run(&mut random, &id);
+        CutInput { file, capacity, id, used }
     }
 
-    /// An input whose bytes decide the capacity: often one near the canonical file's length, else any up to a little more.
+    /// An input whose bytes are the file and, after the first mark, the run of used IDs. The file decides the capacity: often
+    /// one near the canonical file's length, else any up to a little more.
     pub fn of_bytes(bytes: &[u8]) -> Self {
+        let mark = bytes.windows(BEFORE_RUN.len()).position(|bytes| bytes == BEFORE_RUN);
+        let (bytes, used) = mark.map_or((bytes, &[][..]), |at| (&bytes[..at], &bytes[at + BEFORE_RUN.len()..]));
         let sum = bytes.iter().fold(7_u64, |sum, &byte| sum.wrapping_mul(31).wrapping_add(u64::from(byte)));
         let length = ordinary::canonical(bytes, &mut vec![0; bytes.len()]).unwrap_or(bytes.len() as u64);
         let capacity = match sum % 8 {
             near @ 0..3 => (length + near).saturating_sub(1),
             _ => (sum >> 3) % (length + 40),
         };
-        CutInput { file: bytes.to_vec(), capacity, id: b"12345678901234".to_vec() }
+        CutInput { file: bytes.to_vec(), capacity, id: FUZZED_ID.to_vec(), used: used.to_vec() }
     }
+}
+
+/// Bytes that a fuzzer may begin with: a file and a run of used IDs, of this seed and index.
+pub fn bytes_with_run(seed: u64, index: u64, file: &[u8]) -> Vec<u8> {
+    let mut random = Random::of(seed ^ 0x24, index);
+    [file, BEFORE_RUN, &run(&mut random, FUZZED_ID)].concat()
 }
 
 /// Direction 2: record 1 and records 4 of few bytes, most of them short; once in eight near the limit of 65,536 bytes.
@@ -59,10 +79,6 @@ fn notes_of(random: &mut Random, target: usize) -> Vec<u8> {
         file.extend_from_slice(b",,2\r\n");
     }
     file
-}
-
-fn good_id(random: &mut Random) -> Vec<u8> {
-    (0..14).map(|_| b'0' + random.below(10) as u8).collect()
 }
 
 fn bad_id(random: &mut Random) -> Vec<u8> {
@@ -98,7 +114,8 @@ fn least_capacity(file: &[u8], length: u64, count: u64, out: &mut [u8]) -> u64 {
     let (mut low, mut high) = (0, length);
     while low < high {
         let middle = (low + high) / 2;
-        let fewer = matches!(ordinary::cut(file, middle, b"00000000000000", out), Ok(Pieces { count: n, .. }) if n < count);
+        let fewer =
+            matches!(ordinary::cut(file, middle, b"00000000000000", b"", out), Ok(Pieces { count: n, .. }) if n < count);
         if fewer {
             high = middle;
         } else {
@@ -106,6 +123,77 @@ fn least_capacity(file: &[u8], length: u64, count: u64, out: &mut [u8]) -> u64 {
         }
     }
     low
+}
+
+/// Two cuttings that give pieces. The second has the ID of the first in its run of used IDs.
+pub struct TwoCuttings {
+    pub first: CutInput,
+    pub second: CutInput,
+}
+
+impl TwoCuttings {
+    /// Those of this seed and index. Often the files have equal lengths, line by line, and the pieces equal places in them.
+    pub fn new(seed: u64, index: u64, files: &Damage) -> Self {
+        let mut random = Random::of(seed ^ 0x2C7, index);
+        let target = 60 + random.below(2_000);
+        let file = notes_of(&mut random, target);
+        let id = good_id(&mut random);
+        let mut other_id = if random.once_in(2) { good_id(&mut random) } else { id.clone() };
+        let digit = &mut other_id[random.below(14)];
+        *digit = b'0' + (*digit - b'0' + 1 + random.below(9) as u8) % 10;
+        let mut used: Vec<Vec<u8>> = (0..random.below(5)).map(|_| good_id(&mut random)).collect();
+        used.insert(random.below(used.len() + 1), id.clone());
+
+        let capacity = capacity_that_serves(&mut random, &file);
+        let first = CutInput { file, capacity, id, used: Vec::new() };
+        let (file, capacity) = if random.once_in(2) {
+            let file = files.sample(&mut random);
+            let capacity = capacity_that_serves(&mut random, &file);
+            (file, capacity)
+        } else {
+            (first.file.iter().map(|&byte| if byte == b'x' { b'y' } else { byte }).collect(), capacity)
+        };
+        TwoCuttings { first, second: CutInput { file, capacity, id: other_id, used: used.concat() } }
+    }
+}
+
+fn capacity_that_serves(random: &mut Random, file: &[u8]) -> u64 {
+    let mut out = vec![0; MOST_PIECES_BYTES];
+    let length = ordinary::canonical(file, &mut out).expect("the file is accepted");
+    let count = [2, 3, 4, 6, 10, 11, 101][random.below(7)];
+    least_capacity(file, length, count, &mut out) + random.below(20) as u64
+}
+
+/// The pieces that a cutting wrote, one by one.
+pub fn pieces_of(bytes: &[u8]) -> Vec<Vec<u8>> {
+    let lines: Vec<&[u8]> = bytes.split_inclusive(|&byte| byte == b'\n').collect();
+    lines.chunk_by(|_, next| !next.starts_with(b"JAHISTC04,")).map(|piece| piece.concat()).collect()
+}
+
+/// Some pieces of two lists of so many, at least one of each, in any order: the list, 0 or 1, and the place in it. Where the
+/// lists are equally long, often one piece for each place; few are there twice.
+pub fn mixture(random: &mut Random, counts: [usize; 2]) -> Vec<(usize, usize)> {
+    let mut chosen: Vec<(usize, usize)> = if counts[0] == counts[1] && counts[0] > 1 && !random.once_in(4) {
+        let first = random.below(2);
+        (0..counts[0]).map(|place| (if place < 2 { (first + place) % 2 } else { random.below(2) }, place)).collect()
+    } else {
+        let mut chosen = Vec::new();
+        for (list, count) in counts.into_iter().enumerate() {
+            let one_in = [1, 2, 4][random.below(3)];
+            let others = (0..count).filter(|_| random.once_in(one_in)).map(|place| (list, place));
+            chosen.extend(others);
+            chosen.push((list, random.below(count)));
+        }
+        if random.once_in(2) {
+            chosen.sort_unstable();
+            chosen.dedup();
+        }
+        chosen
+    };
+    if random.once_in(2) {
+        random.shuffle(&mut chosen);
+    }
+    chosen
 }
 
 /// What joining takes: the input of this seed and index.
@@ -288,13 +376,13 @@ mod tests {
     #[test]
     fn inputs_reach_every_refusal_of_cut_and_join() {
         let files = Damage::default();
-        let (mut cut, mut join) = ([0; 21], [0; 21]);
+        let (mut cut, mut join) = ([0; 25], [0; 25]);
         let (mut large_joined, mut large_input) = (false, false);
         let mut out = vec![0; MOST_PIECES_BYTES];
         for index in 0..20_000 {
             let damaged = files.file(1, index);
             let input = CutInput::new(1, index, &damaged, &files);
-            let answer = ordinary::cut(&input.file, input.capacity, &input.id, &mut out);
+            let answer = ordinary::cut(&input.file, input.capacity, &input.id, &input.used, &mut out);
             cut[answer.map_or_else(|refusal| usize::from(refusal.number), |_| 0)] += 1;
             let input = join_input(1, index, &damaged, &files);
             let answer = ordinary::join(&input, &mut out[..65_536]);
@@ -304,9 +392,27 @@ mod tests {
             large_input |= number == 1 && input.len() > MOST_PIECES_BYTES;
         }
         // The buffers are long enough, so 20 is left out. A joined file has a line 1 and no 911: never 3 and 6.
-        assert!(cut[..=18].iter().all(|&count| count > 0), "{cut:?}");
+        assert!((0..=18).chain([24]).all(|number| cut[number] > 0), "{cut:?}");
         assert!([0, 1, 2, 4, 5, 19].into_iter().chain(7..=16).all(|number| join[number] > 0), "{join:?}");
         assert!(join[3] == 0 && join[6] == 0);
         assert!(large_joined && large_input);
+    }
+
+    #[test]
+    fn two_cuttings_give_pieces_of_both() {
+        let files = Damage::default();
+        let mut out = vec![0; MOST_PIECES_BYTES];
+        for index in 0..200 {
+            let TwoCuttings { first, second } = TwoCuttings::new(1, index, &files);
+            assert!(second.id != first.id && second.used.chunks(14).any(|used| used == first.id));
+            let counts = [first, second].map(|CutInput { file, capacity, id, used }| {
+                let cut = ordinary::cut(&file, capacity, &id, &used, &mut out).expect("the capacity serves");
+                assert_eq!(pieces_of(&out[..cut.bytes as usize]).len() as u64, cut.count);
+                cut.count as usize
+            });
+            let mixture = mixture(&mut Random::of(1, index), counts);
+            assert!([0, 1].iter().all(|list| mixture.iter().any(|(chosen, _)| chosen == list)), "{mixture:?}");
+            assert!(mixture.iter().all(|(list, place)| *place < counts[*list]), "{mixture:?}");
+        }
     }
 }

@@ -1,7 +1,7 @@
 //! The gateway's ordinary-Rust side: `ordinary` has the five calls by document 01 without any proof, `sample` makes files,
-//! `damage` spoils them, `calendar` spells their days, `division` has inputs for cutting and joining, `library` has the
-//! replies of the proved static library, `comparison` compares the two, `timing` measures. The programs `bench` and
-//! `compare` use all of them.
+//! `damage` spoils them, `calendar` spells their days, `division` has inputs for cutting and joining, `runs` their runs of used
+//! IDs, `library` has the replies of the proved static library, `comparison` compares the two, `timing` measures. The
+//! programs `bench` and `compare` use all of them.
 
 #![forbid(unsafe_code)]
 // Days are written YYYY_MM_DD.
@@ -15,6 +15,7 @@ pub mod faults;
 pub mod library;
 pub mod ordinary;
 pub mod random;
+pub mod runs;
 pub mod sample;
 pub mod timing;
 pub mod trial;

@@ -26,7 +26,7 @@ const GUARD: usize = 64;
 
 /// How two implementations differ: the buffer's length, both replies, and the first place where the buffers differ, counted
 /// from the buffer's start, so that it is negative before it.
-#[derive(Debug)]
+#[derive(Debug, Default)]
 pub struct Difference {
     pub length: usize,
     pub ours: Reply,

@@ -4,14 +4,15 @@
 //! `label: ok R G D` or `label: no N L` for each frame of check; it passes over those of other calls.
 //! `compare --against-library SEED COUNT` gives inputs near every rule to both, in every call, and prints the first
 //! differences. A run of 20,000 inputs or more fails too if a call has not given a refusal that it can give, or a reason for
-//! 19, a spelling of days, or a record or group with or without a clinic has not occurred.
+//! 19, a spelling of days, a record or group with or without a clinic, a kind of run of used IDs or a mixture of two
+//! cuttings has not occurred.
 //! `compare --minutes SEED MINUTES` is the same for so many minutes. Both tell their progress on standard error.
 //! `compare --seeds FOLDER` writes short inputs into a folder, for `fuzz/run` to begin with.
 //! `compare --frames SEED COUNT` writes the files of such a run as frames of check to standard output.
 
 use notebook_hosts::comparison::Comparison;
 use notebook_hosts::damage::Damage;
-use notebook_hosts::division::join_input;
+use notebook_hosts::division::{bytes_with_run, join_input};
 use notebook_hosts::ordinary::{self, Counts, Refusal};
 use std::fs;
 use std::io::{self, BufWriter, IsTerminal, Read, Write};
@@ -83,13 +84,19 @@ fn frame(bytes: &[u8]) -> Option<(u8, &[u8], &[u8], &[u8])> {
     let (&call, rest) = bytes.split_first()?;
     let (&length, rest) = rest.split_first()?;
     let (label, rest) = rest.split_at_checked(usize::from(length))?;
-    // The buffer's length and the capacity, which check does not take; nor does it take an ID.
+    // The buffer's length and the capacity, which check does not take; nor does it take an ID or a run of used IDs.
     let (_, rest) = rest.split_at_checked(4 + 8)?;
     let (&length, rest) = rest.split_first()?;
     let (_, rest) = rest.split_at_checked(usize::from(length))?;
-    let (length, rest) = rest.split_first_chunk::<4>()?;
-    let (input, rest) = rest.split_at_checked(u32::from_be_bytes(*length) as usize)?;
+    let (_, rest) = long_run(rest)?;
+    let (input, rest) = long_run(rest)?;
     Some((call, label, input, rest))
+}
+
+/// The bytes after a length of four bytes, and what follows them.
+fn long_run(bytes: &[u8]) -> Option<(&[u8], &[u8])> {
+    let (length, rest) = bytes.split_first_chunk::<4>()?;
+    rest.split_at_checked(u32::from_be_bytes(*length) as usize)
 }
 
 fn write_frames(seed: u64, count: u64) -> Result<ExitCode, String> {
@@ -101,7 +108,7 @@ fn write_frames(seed: u64, count: u64) -> Result<ExitCode, String> {
         let label = format!("{seed}-{index}");
         output.write_all(&[CHECK, label.len() as u8]).map_err(failed)?;
         output.write_all(label.as_bytes()).map_err(failed)?;
-        output.write_all(&[0; 4 + 8 + 1]).map_err(failed)?;
+        output.write_all(&[0; 4 + 8 + 1 + 4]).map_err(failed)?;
         output.write_all(&(file.len() as u32).to_be_bytes()).map_err(failed)?;
         output.write_all(&file).map_err(failed)?;
     }
@@ -114,7 +121,8 @@ fn write_seeds(folder: &Path) -> Result<ExitCode, String> {
     for index in 0..200 {
         let file = files.file(1, index);
         let pieces = join_input(1, index, &file, &files);
-        for (name, bytes) in [("file", &file), ("pieces", &pieces)] {
+        let with_run = bytes_with_run(1, index, &file);
+        for (name, bytes) in [("file", &file), ("pieces", &pieces), ("run", &with_run)] {
             if bytes.len() <= 4_096 {
                 fs::write(folder.join(format!("{name}-{index}")), bytes).map_err(|error| error.to_string())?;
             }

@@ -13,7 +13,7 @@ fn every_call_on_every_case() {
         check: |file| check(file).reply(),
         index: |file, out| index(file, out).reply(),
         canonical: |file, out| canonical(file, out).reply(),
-        cut: |file, capacity, id, out| cut(file, capacity, id, out).reply(),
+        cut: |file, capacity, id, used, out| cut(file, capacity, id, used, out).reply(),
         join: |pieces, out| join(pieces, out).reply(),
     };
     let cases = cases(b"vickj");

@@ -1,17 +1,21 @@
 //! Cutting: the canonical file in pieces of at most a capacity.
 
 use super::canonical::with_canonical;
-use super::{without_line, Pieces, Refusal, ID, NO_CUTTING, SHORT, TO_PATIENT};
+use super::{without_line, Pieces, Refusal, ID, NO_CUTTING, SHORT, TO_PATIENT, USED};
 
 /// "A valid ID is 14 digits and nothing else."
 const ID_BYTES: usize = 14;
 
 /// Writes the pieces one after another from the front of `out` on and answers their count and total length; after them and
-/// on a refusal `out` keeps its contents.
-pub fn cut(file: &[u8], capacity: u64, id: &[u8], out: &mut [u8]) -> Result<Pieces, Refusal> {
+/// on a refusal `out` keeps its contents. `used` is the run of IDs that have been used.
+pub fn cut(file: &[u8], capacity: u64, id: &[u8], used: &[u8], out: &mut [u8]) -> Result<Pieces, Refusal> {
     with_canonical(file, |canonical| {
-        if id.len() != ID_BYTES || !id.iter().all(u8::is_ascii_digit) {
+        let id: &[u8; ID_BYTES] = id.try_into().map_err(|_| without_line(ID))?;
+        if !id.iter().all(u8::is_ascii_digit) {
             return Err(without_line(ID));
+        }
+        if is_used(id, used) {
+            return Err(without_line(USED));
         }
         // No piece is longer than the whole, so a capacity beyond it is as good as the whole.
         let capacity = usize::try_from(capacity).unwrap_or(usize::MAX);
@@ -24,7 +28,13 @@ pub fn cut(file: &[u8], capacity: u64, id: &[u8], out: &mut [u8]) -> Result<Piec
     })
 }
 
-fn cut_in_pieces(canonical: &[u8], capacity: usize, id: &[u8], out: &mut [u8]) -> Result<Pieces, Refusal> {
+/// "the run's length isn't a multiple of 14 or one of its IDs is the one given".
+fn is_used(id: &[u8; ID_BYTES], used: &[u8]) -> bool {
+    let (ids, rest) = used.as_chunks();
+    !rest.is_empty() || ids.contains(id)
+}
+
+fn cut_in_pieces(canonical: &[u8], capacity: usize, id: &[u8; ID_BYTES], out: &mut [u8]) -> Result<Pieces, Refusal> {
     let (first_line, records) = canonical.split_at(TO_PATIENT.len());
     // "Numbers n of one, two, three digits are tried in turn until one width serves".
     let (count, bytes) = (1..=3).find_map(|width| pack(records, capacity, width)).ok_or(without_line(NO_CUTTING))?;
@@ -113,7 +123,7 @@ mod tests {
 
     fn counted(notes: usize, capacity: u64) -> Result<(u64, u64), (u8, u64)> {
         let mut out = vec![0; 131_072];
-        cut(&with_notes(notes), capacity, FILE_ID, &mut out)
+        cut(&with_notes(notes), capacity, FILE_ID, b"", &mut out)
             .map(|pieces| (pieces.count, pieces.bytes))
             .map_err(|refusal| (refusal.number, refusal.line))
     }
@@ -121,7 +131,7 @@ mod tests {
     /// The pieces that cutting writes, one by one.
     fn pieces(file: &[u8], capacity: u64) -> Vec<Vec<u8>> {
         let mut out = vec![b'?'; 131_072];
-        let cut = cut(file, capacity, FILE_ID, &mut out).expect("the file can be cut");
+        let cut = cut(file, capacity, FILE_ID, b"", &mut out).expect("the file can be cut");
         assert!(out[cut.bytes as usize..].iter().all(|&byte| byte == b'?'));
         let mut pieces: Vec<Vec<u8>> = Vec::new();
         for line in out[..cut.bytes as usize].split_inclusive(|&byte| byte == b'\n') {
@@ -175,16 +185,61 @@ mod tests {
         let no = |number, line| Err(Refusal { number, line });
         for id in [&b""[..], b"1234567890123", b"123456789012345", b"1234567890123a", b"1234567890123:", b" 1234567890123"]
         {
-            assert_eq!(cut(&with_notes(2), 51, id, &mut []), no(17, 0));
-            assert_eq!(cut(&with_notes(2), 0, id, &mut []), no(17, 0));
-            assert_eq!(cut(b"JAHISTC04,2\r\n5\r\n", 0, id, &mut []), no(7, 2));
+            assert_eq!(cut(&with_notes(2), 51, id, b"", &mut []), no(17, 0));
+            assert_eq!(cut(&with_notes(2), 0, id, b"", &mut []), no(17, 0));
+            assert_eq!(cut(b"JAHISTC04,2\r\n5\r\n", 0, id, b"", &mut []), no(7, 2));
         }
-        assert_eq!(cut(&with_notes(2), 50, FILE_ID, &mut []), no(18, 0));
+        assert_eq!(cut(&with_notes(2), 50, FILE_ID, b"", &mut []), no(18, 0));
         let mut out = [b'?'; 404];
-        assert_eq!(cut(&with_notes(20), 69, FILE_ID, &mut out[..403]), no(20, 0));
-        assert_eq!(cut(&with_notes(2), 51, FILE_ID, &mut out[..50]), no(20, 0));
+        assert_eq!(cut(&with_notes(20), 69, FILE_ID, b"", &mut out[..403]), no(20, 0));
+        assert_eq!(cut(&with_notes(2), 51, FILE_ID, b"", &mut out[..50]), no(20, 0));
         assert_eq!(out, [b'?'; 404]);
-        assert_eq!(cut(&with_notes(20), 69, FILE_ID, &mut out), Ok(Pieces { count: 6, bytes: 404 }));
+        assert_eq!(cut(&with_notes(20), 69, FILE_ID, b"", &mut out), Ok(Pieces { count: 6, bytes: 404 }));
+    }
+
+    #[test]
+    fn runs_of_used_ids() {
+        const OTHER: &[u8] = b"00000000000000";
+        let file = with_notes(20);
+        let mut out = [b'?'; 404];
+        let mut answer = |capacity: u64, id: &[u8], used: &[&[u8]], room: usize| {
+            let answer = cut(&file, capacity, id, &used.concat(), &mut out[..room]);
+            if answer.is_err() {
+                assert_eq!(out, [b'?'; 404]);
+            }
+            out = [b'?'; 404];
+            answer.map(|pieces| pieces.count).map_err(|refusal| (refusal.number, refusal.line))
+        };
+
+        let used = Err((24, 0));
+        for run in [&[FILE_ID][..], &[FILE_ID, OTHER], &[OTHER, FILE_ID], &[OTHER, FILE_ID, OTHER], &[FILE_ID, FILE_ID]] {
+            // After 17 and before 18 and 20; also where one piece serves.
+            assert_eq!(answer(69, FILE_ID, run, 404), used);
+            assert_eq!(answer(69, FILE_ID, run, 0), used);
+            assert_eq!(answer(0, FILE_ID, run, 404), used);
+            assert_eq!(answer(u64::MAX, FILE_ID, run, 404), used);
+            assert_eq!(answer(0, &FILE_ID[1..], run, 404), Err((17, 0)));
+            assert_eq!(answer(69, OTHER, &[FILE_ID], 404), Ok(6));
+            assert_eq!(cut(b"JAHISTC04,2\r\n5\r\n", 0, b"", &run.concat(), &mut []).map_err(|no| no.number), Err(7));
+        }
+        for length in (0..=42).filter(|length| length % 14 != 0) {
+            assert_eq!(answer(69, FILE_ID, &[&OTHER.repeat(3)[..length]], 404), used, "{length}");
+            assert_eq!(answer(69, FILE_ID, &[&FILE_ID.repeat(3)[..length]], 404), used, "{length}");
+            assert_eq!(answer(0, b"", &[&FILE_ID.repeat(3)[..length]], 404), Err((17, 0)), "{length}");
+        }
+
+        assert_eq!(answer(69, FILE_ID, &[], 404), Ok(6));
+        assert_eq!(answer(69, FILE_ID, &[OTHER, OTHER, b"\0\r\n,..........", &[0xFF; 14]], 404), Ok(6));
+        assert_eq!(answer(0, FILE_ID, &[OTHER], 404), Err((18, 0)));
+        assert_eq!(answer(69, FILE_ID, &[OTHER], 403), Err((20, 0)));
+        for place in 0..14 {
+            let mut near = FILE_ID.to_vec();
+            near[place] ^= 1;
+            assert_eq!(answer(69, FILE_ID, &[OTHER, &near], 404), Ok(6), "{place}");
+            // The ID lies across two IDs of the run, but for the first place.
+            let across = [&OTHER[..place], FILE_ID, &OTHER[place..]];
+            assert_eq!(answer(69, FILE_ID, &across, 404), if place == 0 { used } else { Ok(6) }, "{place}");
+        }
     }
 
     /// All orders of the numbers below `count`.

@@ -71,6 +71,7 @@ const ID: u8 = 17;
 const NO_CUTTING: u8 = 18;
 const SET: u8 = 19;
 const SHORT: u8 = 20;
+const USED: u8 = 24;
 
 /// "A file has at most 65,536 bytes".
 const MOST_BYTES: usize = 65_536;
@@ -109,7 +110,7 @@ fn rule(holds: bool, number: u8) -> Result<(), u8> {
     }
 }
 
-/// "Numbers 17–20 have line 0", as has number 1.
+/// "Numbers 17–20 have line 0", as have 1 and 24.
 fn without_line(number: u8) -> Refusal {
     Refusal { number, line: 0 }
 }

@@ -131,10 +131,25 @@ fn era_form(day: &[u8]) -> Vec<u8> {
     format!("{era}{:02}{}", year - year_1 + 1, &text[4..]).into_bytes()
 }
 
-fn reference_cut(file: &[u8], capacity: u64, id: &[u8]) -> Result<Lines, Refusal> {
+/// The IDs of a run, from its start on; the last one is shorter where the run's length is no multiple of 14.
+fn ids_of(run: &[u8]) -> Lines {
+    let mut ids = Lines::new();
+    for (place, &byte) in run.iter().enumerate() {
+        if place % 14 == 0 {
+            ids.push(Vec::new());
+        }
+        ids.last_mut().expect("there is an ID").push(byte);
+    }
+    ids
+}
+
+fn reference_cut(file: &[u8], capacity: u64, id: &[u8], used: &[u8]) -> Result<Lines, Refusal> {
     let canonical = reference_canonical(file)?;
     if id.len() != 14 || id.iter().any(|byte| !byte.is_ascii_digit()) {
         return Err(Refusal { number: 17, line: 0 });
+    }
+    if ids_of(used).iter().any(|used| used.len() < 14 || used == id) {
+        return Err(Refusal { number: 24, line: 0 });
     }
     if canonical.len() as u64 <= capacity {
         return Ok(vec![canonical]);
@@ -276,10 +291,10 @@ fn the_fast_calls_agree_with_the_reference() {
         assert_eq!(canonical(&file, &mut out), expected.clone().map(|bytes| bytes.len() as u64), "canonical {number}");
         assert!(out == left(&expected.unwrap_or_default(), out.len(), b'?'), "canonical {number}");
 
-        let CutInput { file: cut_file, capacity, id } = CutInput::new(11, number, &file, &files);
-        let (expected, mut out) = (reference_cut(&cut_file, capacity, &id), vec![b'?'; MOST_PIECES_BYTES]);
+        let CutInput { file: cut_file, capacity, id, used } = CutInput::new(11, number, &file, &files);
+        let (expected, mut out) = (reference_cut(&cut_file, capacity, &id, &used), vec![b'?'; MOST_PIECES_BYTES]);
         let answer = expected.as_ref().map(|list| Pieces { count: list.len() as u64, bytes: list.concat().len() as u64 });
-        assert_eq!(cut(&cut_file, capacity, &id, &mut out), answer.map_err(|refusal| *refusal), "cut {number}");
+        assert_eq!(cut(&cut_file, capacity, &id, &used, &mut out), answer.map_err(|refusal| *refusal), "cut {number}");
         assert!(out == left(&expected.unwrap_or_default().concat(), out.len(), b'?'), "cut {number}");
 
         let input = join_input(11, number, &file, &files);

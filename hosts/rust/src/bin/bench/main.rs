@@ -11,11 +11,11 @@ mod plot;
 mod report;
 
 use notebook_hosts::calendar::Day;
-use notebook_hosts::division::MOST_PIECES_BYTES;
+use notebook_hosts::division::{pieces_of, MOST_PIECES_BYTES};
 use notebook_hosts::library::{replies, Reply, Told};
 use notebook_hosts::timing::{measure, Row, TARGETS};
 use notebook_hosts::{ordinary, sample};
-use report::{CALLS, MOST_PIECES};
+use report::{CALLS, OF_ONE_LENGTH};
 use std::fs;
 use std::path::Path;
 use std::process::ExitCode;
@@ -23,6 +23,10 @@ use std::process::ExitCode;
 /// Bytes of a piece: some 130 pieces for the largest sample.
 const CAPACITY: u64 = 500;
 const ID: &[u8] = b"20161115000001";
+
+/// IDs in the run of `cut-used`, and its bytes.
+const USED: usize = 100_000;
+const USED_BYTES: usize = 14 * USED;
 
 /// A piece of this capacity holds one record of `fine`, so that the file makes 999 pieces.
 const FINE_CAPACITY: u64 = 101;
@@ -66,23 +70,36 @@ fn report(document: &str, plot: &str, machine: &str, files: &[&str]) -> Result<(
 }
 
 fn measure_calls(newest: Day, wanted: &[&str]) -> Result<(), String> {
-    if !wanted.iter().all(|call| CALLS.contains(call) || MOST_PIECES.contains(call)) {
+    if !wanted.iter().all(|call| CALLS.contains(call) || OF_ONE_LENGTH.contains(call)) {
         return Err(USAGE.to_string());
     }
     let measured = |call: &&str| wanted.is_empty() || wanted.contains(call);
     println!("{}  ratio of minima  ratio of medians", Row::HEAD);
-    for call in MOST_PIECES.into_iter().filter(measured) {
+    for call in OF_ONE_LENGTH.into_iter().filter(measured) {
         match call {
             "cut-999" => compare(
                 call,
                 &fine(),
                 MOST_PIECES_BYTES,
-                |file, out: &mut [u8]| ordinary::cut(file, FINE_CAPACITY, ID, out).reply(),
-                |file, out| replies::cut(file, FINE_CAPACITY, ID, out),
+                |file, out: &mut [u8]| ordinary::cut(file, FINE_CAPACITY, ID, b"", out).reply(),
+                |file, out| replies::cut(file, FINE_CAPACITY, ID, b"", out),
+            ),
+            "cut-used" => compare(
+                call,
+                &[used(), sample::sized_from(newest, TARGETS[0])].concat(),
+                MOST_PIECES_BYTES,
+                |input, out: &mut [u8]| {
+                    let (used, file) = input.split_at(USED_BYTES);
+                    ordinary::cut(file, CAPACITY, ID, used, out).reply()
+                },
+                |input, out| {
+                    let (used, file) = input.split_at(USED_BYTES);
+                    replies::cut(file, CAPACITY, ID, used, out)
+                },
             ),
             _ => compare(
                 call,
-                &shuffled(pieces_of(&fine(), FINE_CAPACITY)),
+                &shuffled(cut_pieces(&fine(), FINE_CAPACITY)),
                 65_536,
                 |input, out: &mut [u8]| ordinary::join(input, out).reply(),
                 replies::join,
@@ -118,8 +135,8 @@ fn measure_calls(newest: Day, wanted: &[&str]) -> Result<(), String> {
                     call,
                     &file,
                     MOST_PIECES_BYTES,
-                    |file, out: &mut [u8]| ordinary::cut(file, CAPACITY, ID, out).reply(),
-                    |file, out| replies::cut(file, CAPACITY, ID, out),
+                    |file, out: &mut [u8]| ordinary::cut(file, CAPACITY, ID, b"", out).reply(),
+                    |file, out| replies::cut(file, CAPACITY, ID, b"", out),
                 ),
                 _ => compare(
                     call,
@@ -147,16 +164,23 @@ fn fine() -> Vec<u8> {
     file
 }
 
-fn pieces_of(file: &[u8], capacity: u64) -> Vec<Vec<u8>> {
+/// The run of a host that makes an ID of the day and a running number: the IDs after `ID`, which begin as it does.
+fn used() -> Vec<u8> {
+    let ids = (2..).take(USED).map(|number: usize| [&ID[..8], format!("{number:06}").as_bytes()].concat());
+    let run = ids.collect::<Vec<_>>().concat();
+    assert_eq!(run.len(), USED_BYTES, "an ID has 14 bytes");
+    run
+}
+
+fn cut_pieces(file: &[u8], capacity: u64) -> Vec<Vec<u8>> {
     let mut out = vec![0; MOST_PIECES_BYTES];
-    let cut = ordinary::cut(file, capacity, ID, &mut out).expect("the sample can be cut");
-    let lines: Vec<&[u8]> = out[..cut.bytes as usize].split_inclusive(|&byte| byte == b'\n').collect();
-    lines.chunk_by(|_, next| !next.starts_with(b"JAHISTC04,")).map(|piece| piece.concat()).collect()
+    let cut = ordinary::cut(file, capacity, ID, b"", &mut out).expect("the sample can be cut");
+    pieces_of(&out[..cut.bytes as usize])
 }
 
 /// The pieces of a file from the last to the first.
 fn last_piece_first(file: &[u8]) -> Vec<u8> {
-    let mut pieces = pieces_of(file, CAPACITY);
+    let mut pieces = cut_pieces(file, CAPACITY);
     pieces.reverse();
     pieces.concat()
 }

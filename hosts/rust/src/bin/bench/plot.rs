@@ -1,16 +1,16 @@
 //! The plot of the measured rows as SVG: a panel for each call with its time by bytes, both axes in logarithms, and a panel of
 //! the ratios library / ordinary.
 
-use crate::report::{of, pairs, Pair, CALLS};
+use crate::report::{of, pairs, Pair, CALLS, OF_ONE_LENGTH};
 use notebook_hosts::timing::Row;
 use std::fmt::Write;
 
 const WIDTH: f64 = 1_080.0;
-const HEIGHT: f64 = 790.0;
+const HEIGHT: f64 = 808.0;
 const COLUMNS: usize = 3;
 /// Of the inside of a panel.
 const PANEL: (f64, f64) = (262.0, 250.0);
-const FIRST_PANEL: (f64, f64) = (66.0, 100.0);
+const FIRST_PANEL: (f64, f64) = (66.0, 118.0);
 const PANEL_STEP: (f64, f64) = (346.0, 342.0);
 
 const BYTES: (f64, f64) = (600.0, 130_000.0);
@@ -46,8 +46,9 @@ impl Panel {
         Panel { left, top, low, high, logarithmic }
     }
 
+    /// An input with more bytes than the axis has stands at its right end.
     fn x(&self, bytes: f64) -> f64 {
-        self.left + PANEL.0 * (bytes / BYTES.0).ln() / (BYTES.1 / BYTES.0).ln()
+        self.left + PANEL.0 * (bytes.min(BYTES.1) / BYTES.0).ln() / (BYTES.1 / BYTES.0).ln()
     }
 
     fn y(&self, value: f64) -> f64 {
@@ -96,11 +97,20 @@ impl Panel {
         svg
     }
 
-    /// A mark for a call on 999 pieces, which is measured at one length.
-    fn diamond(&self, bytes: f64, value: f64, colour: &str) -> String {
-        diamond(self.x(bytes), self.y(value), colour)
+    /// A mark for a call that is measured at one length.
+    fn mark(&self, mark: Mark, bytes: f64, value: f64, colour: &str) -> String {
+        mark(self.x(bytes), self.y(value), colour)
     }
 }
+
+/// A mark at a place in a colour.
+type Mark = fn(f64, f64, &str) -> String;
+
+/// What is measured at one length, by what its name has after the call's: its mark, and what the legend says of it.
+const MARKS: [(&str, Mark, &str); 2] = [
+    ("-999", diamond, "cut into, or joined from, 999 pieces"),
+    ("-used", square, "cut with 1.4 MB of used IDs, beyond the axis"),
+];
 
 pub fn svg(machine: &str, rows: &[Row]) -> String {
     let mut svg = format!(
@@ -131,8 +141,11 @@ fn legend(with_others: bool) -> String {
         svg += &text(x + 46.0, 56.0, "start", "", name);
         x += 64.0 + 7.6 * name.len() as f64;
     }
-    svg += &diamond(x + 8.0, 52.0, "#525252");
-    svg + &text(x + 22.0, 56.0, "start", "", "cut into, or joined from, 999 pieces")
+    for (y, (_, mark, name)) in [52.0, 72.0].into_iter().zip(MARKS) {
+        svg += &mark(x + 8.0, y, "#525252");
+        svg += &text(x + 22.0, y + 4.0, "start", "", name);
+    }
+    svg
 }
 
 /// The panel of a call; that of check has the others beside it.
@@ -148,9 +161,11 @@ fn times(panel: &Panel, call: &str, rows: &[Row]) -> String {
     }
     svg += &panel.curve(&points(&pairs, |pair| pair.ordinary.times.median), ORDINARY, ENTRIES[1].2);
     svg += &panel.curve(&points(&pairs, |pair| pair.library.times.median), LIBRARY, ENTRIES[0].2);
-    for row in rows.iter().filter(|row| row.call == format!("{call}-999")) {
-        let colour = if row.code == "library" { LIBRARY } else { ORDINARY };
-        svg += &panel.diamond(row.bytes as f64, row.times.median, colour);
+    for (ending, mark, _) in MARKS {
+        for row in rows.iter().filter(|row| row.call == format!("{call}{ending}")) {
+            let colour = if row.code == "library" { LIBRARY } else { ORDINARY };
+            svg += &panel.mark(mark, row.bytes as f64, row.times.median, colour);
+        }
     }
     svg
 }
@@ -174,8 +189,8 @@ fn guides(panel: &Panel) -> String {
 }
 
 fn ratios(place: usize, rows: &[Row]) -> String {
-    let all = || CALLS.into_iter().flat_map(|call| [call.to_string(), format!("{call}-999")]);
-    let greatest = all().flat_map(|call| pairs(rows, &call)).map(|pair| pair.ratio()).fold(1.0, f64::max);
+    let all = CALLS.into_iter().chain(OF_ONE_LENGTH);
+    let greatest = all.flat_map(|call| pairs(rows, call)).map(|pair| pair.ratio()).fold(1.0, f64::max);
     let panel = Panel::new(place, 0.0, greatest.ceil().max(2.0), false);
     let half_steps = (2.0 * panel.high) as u32;
     let ticks: Vec<f64> = (0..=half_steps).map(|step| f64::from(step) / 2.0).collect();
@@ -187,8 +202,10 @@ fn ratios(place: usize, rows: &[Row]) -> String {
     for (call, colour) in CALLS.into_iter().zip(RATIO_COLOURS) {
         let curve = points(&pairs(rows, call), Pair::ratio);
         svg += &panel.curve(&curve, colour, "");
-        for pair in pairs(rows, &format!("{call}-999")) {
-            svg += &panel.diamond(pair.bytes() as f64, pair.ratio(), colour);
+        for (ending, mark, _) in MARKS {
+            for pair in pairs(rows, &format!("{call}{ending}")) {
+                svg += &panel.mark(mark, pair.bytes() as f64, pair.ratio(), colour);
+            }
         }
         if let Some(&(_, ratio)) = curve.last() {
             names.push((panel.y(ratio), call, colour));
@@ -220,6 +237,13 @@ fn line(from: (f64, f64), to: (f64, f64), style: &str) -> String {
 fn diamond(x: f64, y: f64, colour: &str) -> String {
     let corners = format!("{:.1},{y:.1} {x:.1},{:.1} {:.1},{y:.1} {x:.1},{:.1}", x - 6.0, y - 6.0, x + 6.0, y + 6.0);
     format!("<polygon points=\"{corners}\" fill=\"white\" stroke=\"{colour}\" stroke-width=\"2\"/>\n")
+}
+
+fn square(x: f64, y: f64, colour: &str) -> String {
+    let (left, top) = (x - 5.0, y - 5.0);
+    format!(
+        "<rect x=\"{left:.1}\" y=\"{top:.1}\" width=\"10\" height=\"10\" fill=\"white\" stroke=\"{colour}\" stroke-width=\"2\"/>\n"
+    )
 }
 
 fn text(x: f64, y: f64, anchor: &str, style: &str, content: &str) -> String {

@@ -5,12 +5,21 @@ use std::fmt::Write;
 
 pub const CALLS: [&str; 5] = ["check", "index", "canonical", "cut", "join"];
 
-/// The calls on files for 999 pieces, measured at one length.
-pub const MOST_PIECES: [&str; 2] = ["cut-999", "join-999"];
+/// Measured at one length: the calls on files for 999 pieces, and cut with a run of 100,000 used IDs. The bytes of that one
+/// are the run's and the file's.
+pub const OF_ONE_LENGTH: [&str; 3] = ["cut-999", "join-999", "cut-used"];
 
 /// The greatest ratio that is asked of a call, as docs/BENCHMARKS.md says.
-const BOUNDS: [(&str, f64); 7] =
-    [("check", 2.0), ("index", 1.1), ("canonical", 1.2), ("cut", 2.0), ("join", 2.0), ("cut-999", 2.0), ("join-999", 2.0)];
+const BOUNDS: [(&str, f64); 8] = [
+    ("check", 2.0),
+    ("index", 1.1),
+    ("canonical", 1.2),
+    ("cut", 2.0),
+    ("join", 2.0),
+    ("cut-999", 2.0),
+    ("join-999", 2.0),
+    ("cut-used", 1.2),
+];
 
 const BEGIN: &str = "<!-- begin: hosts/rust/benchmark writes from here -->\n";
 const END: &str = "<!-- end: hosts/rust/benchmark writes to here -->\n";
@@ -61,7 +70,7 @@ fn table(title: &str, head: &str, lines: &[String]) -> String {
 
 fn times(rows: &[Row]) -> String {
     let mut lines = Vec::new();
-    for call in CALLS.into_iter().chain(MOST_PIECES) {
+    for call in CALLS.into_iter().chain(OF_ONE_LENGTH) {
         for pair in pairs(rows, call) {
             let Pair { ordinary, library } = &pair;
             let Times { minimum, median } = ordinary.times;
@@ -106,7 +115,7 @@ fn power(rows: &[Row]) -> f64 {
 
 fn bounds(rows: &[Row]) -> String {
     let mut lines = Vec::new();
-    for call in CALLS.into_iter().chain(MOST_PIECES) {
+    for call in CALLS.into_iter().chain(OF_ONE_LENGTH) {
         let Some(pair) = pairs(rows, call).pop() else { continue };
         let ratio = pair.ratio();
         let mut line = format!("| {call} | {ratio:.2} | ");
@@ -175,12 +184,19 @@ mod tests {
 
     #[test]
     fn the_text_around_the_tables_stays() {
-        let rows = [row("check", 1_000, "ordinary", 1.0), row("check", 1_000, "library", 1.5)];
+        let rows = [
+            row("check", 1_000, "ordinary", 1.0),
+            row("check", 1_000, "library", 1.5),
+            row("cut-used", 1_400_799, "ordinary", 100.0),
+            row("cut-used", 1_400_799, "library", 125.0),
+        ];
         let document = format!("before\n{BEGIN}old\n{END}after\n");
         let once = renewed(&document, "today, here", "plot.svg", &rows).expect("it has the marks");
         assert!(once.starts_with("before\n") && once.ends_with("after\n") && !once.contains("old"));
         assert!(once.contains("| check | 1000 | 1.00 | 1.50 | 1.50 | 1.50 | 1.00 | 1.50 |\n"));
         assert!(once.contains("| check | 1.50 | 2.0: met |\n"));
+        assert!(once.contains("| cut-used | 1400799 | 100.00 | 125.00 | 1.25 |"));
+        assert!(once.contains("| cut-used | 1.25 | 1.2: not met |\n"));
         assert!(!once.contains("What index adds"));
         assert_eq!(renewed(&once, "today, here", "plot.svg", &rows).as_ref(), Ok(&once));
         assert!(renewed("no marks\n", "", "", &rows).is_err());
