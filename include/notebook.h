@@ -27,11 +27,11 @@ extern "C" {
 
 /*
  * The version of this header: the major, the minor and the patch as text, and as major * 10000 + minor * 100 + patch. notebook_version
- * tells that of the library. A host should compare the two before other calls: a library of another version may fill an output otherwise
- * than is said here, as the entries of an index grew with 0.4.0.
+ * tells that of the library. A host should compare the two before other calls: a library of another version may take or fill otherwise
+ * than is said here. The entries of an index grew with 0.4.0, and cut takes the used IDs from 0.5.0 on.
  */
-#define NOTEBOOK_VERSION_STRING "0.4.0"
-#define NOTEBOOK_VERSION_NUMBER 400
+#define NOTEBOOK_VERSION_STRING "0.5.0"
+#define NOTEBOOK_VERSION_NUMBER 500
 
 /* Limits. */
 enum {
@@ -52,9 +52,9 @@ enum {
 };
 
 /*
- * Refusals. 1 to 16 are about a file, 19 about a set of pieces: the sender's. 17, 18 and 20 are about what was asked, not about the file:
- * 17 and 18 about the ID and the capacity that cut was given, 20 about the length of the output. The host mends these, and the same file
- * is then accepted.
+ * Refusals. 1 to 16 are about a file, 19 about a set of pieces: the sender's. 17, 18, 20 and 24 are about what was asked, not about the
+ * file: 17, 18 and 24 about the ID, the capacity and the used IDs that cut was given, 20 about the length of the output. The host mends
+ * these, and the same file is then accepted. No call gives 21 to 23.
  */
 enum {
     NOTEBOOK_ACCEPTED = 0,
@@ -77,7 +77,8 @@ enum {
     NOTEBOOK_REFUSED_ID = 17,         /* the ID is not 14 digits */
     NOTEBOOK_REFUSED_NO_CUTTING = 18, /* the file cannot be cut for this capacity */
     NOTEBOOK_REFUSED_SET = 19,        /* the pieces do not make a file */
-    NOTEBOOK_REFUSED_SHORT = 20       /* the output cannot hold the result */
+    NOTEBOOK_REFUSED_SHORT = 20,      /* the output cannot hold the result */
+    NOTEBOOK_REFUSED_USED = 24        /* the ID has been used, or the used IDs are not 14 bytes each */
 };
 
 /* The word of a refusal; "ok" for 0, and "unknown" for a number that no call gives. */
@@ -87,6 +88,7 @@ static inline const char *notebook_word(uint64_t refusal)
         "ok",      "large", "line end",   "version", "character",  "record", "piece", /* 0 to 6 */
         "items",   "empty", "long",       "edge",    "form",       "pair",   "place", /* 7 to 13 */
         "missing", "RP",    "date order", "ID",      "no cutting", "set",    "short", /* 14 to 20 */
+        "unknown", "unknown", "unknown",  "used",                                     /* 21 to 24 */
     };
     return refusal < sizeof words / sizeof words[0] ? words[refusal] : "unknown";
 }
@@ -94,7 +96,7 @@ static inline const char *notebook_word(uint64_t refusal)
 /*
  * What a call returns.
  * refusal: 0, or one of the numbers above. line: the line of refusals 2 to 16, counted from 1; 14 at the end of a file has the count of
- * lines plus 1; 1 and 17 to 20 have line 0. a, b, c: the call's result; what a call does not use is 0.
+ * lines plus 1; 1, 17 to 20 and 24 have line 0. a, b, c: the call's result; what a call does not use is 0.
  */
 struct notebook_reply {
     uint64_t refusal;
@@ -132,13 +134,18 @@ struct notebook_reply notebook_canonical(const uint8_t *file, size_t file_length
 /*
  * Cuts the canonical file into the fewest pieces of at most capacity bytes. If it fits whole, it is the only piece, without a record 911;
  * otherwise each of the 2 to 999 pieces ends with 911, the ID, their count and its place.
+ * used is the run of the IDs that have been used: 14 bytes each, one after another from its start, with nothing between them, in any
+ * order and of any number. They are compared with the ID as bytes, and need not be digits; the ID across two of them is not in the run.
+ * used_length counts bytes, and is 0 where no ID has been used. Pieces of two cuttings with one ID can be confused: a host gives every ID
+ * that it has cut with before, and keeps the new one with them.
  * Result: a pieces, b bytes of all pieces; the first b bytes of out are the pieces, one after another, each beginning with the file's
  * line 1; the bytes after them are as they were.
- * Refusals: 1 to 16; then 17 if the ID is not 14 digits, also where no record 911 is needed; then 18 if there is no such cutting; then
- * 20 if out is shorter than the pieces. out is as it was.
+ * Refusals: 1 to 16; then 17 if the ID is not 14 digits; then 24 if used_length is not a multiple of 14 or one of the used IDs is the ID;
+ * then 18 if there is no such cutting; then 20 if out is shorter than the pieces. 17 and 24 come also where no record 911 is needed. out is
+ * as it was.
  */
 struct notebook_reply notebook_cut(const uint8_t *file, size_t file_length, uint64_t capacity, const uint8_t *id, size_t id_length,
-                                   uint8_t *out, size_t out_length);
+                                   const uint8_t *used, size_t used_length, uint8_t *out, size_t out_length);
 
 /*
  * Joins pieces that lie one after another in any order, with or without a 1Ah after each, and checks the joined file.

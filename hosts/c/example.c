@@ -20,6 +20,10 @@ static uint8_t joined[NOTEBOOK_JOIN_MAX];
 
 static const uint8_t id[] = "20261115000001";
 
+/* The IDs that were used before, one after another. A host keeps them, and adds the new one before it hands out a piece. */
+static const uint8_t used[] = "20261113000001"
+                              "20261114000001";
+
 static int refuse(const char *call, struct notebook_reply r)
 {
     printf("%s: refused, %" PRIu64 " (%s), line %" PRIu64 "\n", call, r.refusal, notebook_word(r.refusal), r.line);
@@ -88,7 +92,8 @@ static void list_drugs(uint64_t records)
 /* Cuts into pieces for the capacity, shuffles them and joins them to the canonical file of so many bytes. */
 static int cut_and_join(size_t length, uint64_t capacity, size_t bytes)
 {
-    struct notebook_reply r = notebook_cut(file, length, capacity, id, NOTEBOOK_ID_LENGTH, pieces, sizeof pieces);
+    struct notebook_reply r =
+        notebook_cut(file, length, capacity, id, NOTEBOOK_ID_LENGTH, used, sizeof used - 1, pieces, sizeof pieces);
     if (r.refusal != NOTEBOOK_ACCEPTED) {
         return refuse("cut", r);
     }

@@ -24,6 +24,9 @@ static struct notebook_reply reply;
 
 static const uint8_t id[] = "20261115000001";
 
+/* A run of 10,000 used IDs, none of them the ID: all of it is searched. */
+static uint8_t run[NOTEBOOK_ID_LENGTH * 10000];
+
 static void *no_call(void *unused)
 {
     memset(&reply, 0, sizeof reply);
@@ -50,7 +53,7 @@ static void *canonical(void *unused)
 
 static void *cut(void *unused)
 {
-    reply = notebook_cut(file, file_length, capacity, id, NOTEBOOK_ID_LENGTH, out, sizeof out);
+    reply = notebook_cut(file, file_length, capacity, id, NOTEBOOK_ID_LENGTH, run, sizeof run, out, sizeof out);
     return unused;
 }
 
@@ -117,6 +120,16 @@ static void groups(size_t limit)
     }
 }
 
+static void used_ids(void)
+{
+    char next[NOTEBOOK_ID_LENGTH + 1];
+    unsigned i;
+    for (i = 0; i < sizeof run / NOTEBOOK_ID_LENGTH; i++) {
+        sprintf(next, "20261115%06u", i + 2);
+        memcpy(run + (size_t)NOTEBOOK_ID_LENGTH * i, next, NOTEBOOK_ID_LENGTH);
+    }
+}
+
 static size_t most(size_t a, size_t b)
 {
     return a < b ? b : a;
@@ -155,6 +168,7 @@ int main(void)
     size_t nothing = used(no_call);
     size_t i;
 
+    used_ids();
     memos(NOTEBOOK_FILE_MAX);
     for (capacity = 60; capacity < 200; capacity++) {
         cut(NULL);

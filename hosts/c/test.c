@@ -303,9 +303,27 @@ static void clinics(void)
     free(file.at);
 }
 
+/* Cuts with a run of used IDs that is lent with the ID before and after it, and holds all three to what they were. */
+static struct notebook_reply cut_with(struct bytes used, struct bytes file, uint64_t capacity, const char *id, uint8_t *out,
+                                      size_t out_length)
+{
+    size_t id_length = strlen(id);
+    struct bytes lent = add(add(text(id), used.at, used.length), id, id_length);
+    const uint8_t *run = lent.at + id_length;
+    struct notebook_reply r = notebook_cut(file.at, file.length, capacity, lent.at, id_length, run, used.length, out, out_length);
+    HOLD(memcmp(lent.at, id, id_length) == 0 && memcmp(run + used.length, id, id_length) == 0);
+    HOLD(same(run, used.length, used));
+    free(lent.at);
+    return r;
+}
+
+/* Cuts where no ID has been used. */
 static struct notebook_reply cut(struct bytes file, uint64_t capacity, const char *id, uint8_t *out, size_t out_length)
 {
-    return notebook_cut(file.at, file.length, capacity, (const uint8_t *)id, strlen(id), out, out_length);
+    struct bytes none = text("");
+    struct notebook_reply r = cut_with(none, file, capacity, id, out, out_length);
+    free(none.at);
+    return r;
 }
 
 /* Cuts into count pieces of so many bytes in all, with outputs that are longer, exactly long enough and one byte short; joins them back. */
@@ -409,12 +427,171 @@ static void cuttings(void)
     free(file.at);
 }
 
+/* --- used IDs: 20 memos make 6 pieces of at most 69 bytes, 404 in all --- */
+
+#define OTHER "20261115000002"
+
+/* A run of used IDs passes: the pieces are those that the empty run gives. */
+static void run_passes(struct bytes used, struct bytes file)
+{
+    uint8_t *wanted = lend(404);
+    uint8_t *out = lend(409);
+    HOLD(result(cut(file, 69, ID, wanted, 404), 6, 404, 0));
+    HOLD(result(cut_with(used, file, 69, ID, out, 409), 6, 404, 0));
+    HOLD(memcmp(out, wanted, 404) == 0 && kept(out, 409, 404));
+    give_back(out);
+
+    /* 18 and 20 come after it. */
+    out = lend(403);
+    HOLD(refused(cut_with(used, file, 0, ID, out, 403), NOTEBOOK_REFUSED_NO_CUTTING, 0));
+    HOLD(refused(cut_with(used, file, 69, ID, out, 403), NOTEBOOK_REFUSED_SHORT, 0));
+    HOLD(kept(out, 403, 0));
+    give_back(out);
+    give_back(wanted);
+}
+
+/* A run of used IDs is refused: after the ID; before the capacity and the output; and where one piece serves. */
+static void run_is_refused(struct bytes used, struct bytes file)
+{
+    uint8_t *out = lend(NOTEBOOK_CUT_MAX);
+    HOLD(refused(cut_with(used, file, 69, ID, out, NOTEBOOK_CUT_MAX), NOTEBOOK_REFUSED_USED, 0));
+    HOLD(refused(cut_with(used, file, UINT64_MAX, ID, out, NOTEBOOK_CUT_MAX), NOTEBOOK_REFUSED_USED, 0));
+    HOLD(refused(cut_with(used, file, 0, ID, out, NOTEBOOK_CUT_MAX), NOTEBOOK_REFUSED_USED, 0));
+    HOLD(refused(cut_with(used, file, 69, ID, out, 403), NOTEBOOK_REFUSED_USED, 0));
+    HOLD(refused(cut_with(used, file, 69, ID, out, 0), NOTEBOOK_REFUSED_USED, 0));
+    HOLD(refused(cut_with(used, file, 69, "", out, NOTEBOOK_CUT_MAX), NOTEBOOK_REFUSED_ID, 0));
+    HOLD(refused(cut_with(used, file, 0, "2026111500000x", out, 0), NOTEBOOK_REFUSED_ID, 0));
+    HOLD(kept(out, NOTEBOOK_CUT_MAX, 0));
+    give_back(out);
+}
+
+/* Runs in which the ID stands first, last, between others or more than once, and such with other IDs only. */
+static void places_of_used_id(struct bytes file)
+{
+    static const struct {
+        const char *used;
+        int passes;
+    } cases[] = {
+        {"", 1},
+        {OTHER, 1},
+        {OTHER OTHER OTHER, 1},
+        {"abcd, \r\n\x1a\x80\xff\x01\x7f!", 1},
+        {ID, 0},
+        {ID OTHER, 0},
+        {OTHER ID, 0},
+        {OTHER ID OTHER, 0},
+        {ID ID, 0},
+        {"abcd, \r\n\x1a\x80\xff\x01\x7f!" ID, 0},
+    };
+    size_t i;
+    for (i = 0; i < sizeof cases / sizeof cases[0]; i++) {
+        struct bytes used = text(cases[i].used);
+        (cases[i].passes ? run_passes : run_is_refused)(used, file);
+        free(used.at);
+    }
+}
+
+/* An ID that differs in one byte, whichever; the ID across two of the run; and every length up to three IDs. */
+static void near_used_id(struct bytes file)
+{
+    size_t i;
+    for (i = 0; i < NOTEBOOK_ID_LENGTH; i++) {
+        struct bytes used = text(OTHER ID);
+        used.at[NOTEBOOK_ID_LENGTH + i] ^= 0x80;
+        run_passes(used, file);
+        used.at[NOTEBOOK_ID_LENGTH + i] ^= 0x81;
+        run_passes(used, file);
+        free(used.at);
+    }
+    for (i = 0; i <= NOTEBOOK_ID_LENGTH; i++) {
+        struct bytes used = text("99999999999999" "99999999999999");
+        memcpy(used.at + i, ID, NOTEBOOK_ID_LENGTH);
+        (i % NOTEBOOK_ID_LENGTH == 0 ? run_is_refused : run_passes)(used, file);
+        free(used.at);
+    }
+    for (i = 1; i <= 3 * NOTEBOOK_ID_LENGTH; i++) {
+        struct bytes used = text(OTHER OTHER OTHER);
+        used.length = i;
+        (i % NOTEBOOK_ID_LENGTH == 0 ? run_passes : run_is_refused)(used, file);
+        free(used.at);
+        used = text(ID ID ID);
+        used.length = i;
+        run_is_refused(used, file);
+        free(used.at);
+    }
+}
+
+/* 10,000 IDs of a day and a running number. */
+static void long_run(struct bytes file)
+{
+    enum { IDS = 10000 };
+    struct bytes used;
+    char id[NOTEBOOK_ID_LENGTH + 1];
+    unsigned i;
+    used.length = (size_t)IDS * NOTEBOOK_ID_LENGTH;
+    used.at = memory(used.length);
+    for (i = 0; i < IDS; i++) {
+        sprintf(id, "20261115%06u", i + 2);
+        memcpy(used.at + (size_t)NOTEBOOK_ID_LENGTH * i, id, NOTEBOOK_ID_LENGTH);
+    }
+    HOLD(used.length == 140000);
+    run_passes(used, file);
+    used.length--;
+    run_is_refused(used, file);
+    used.length++;
+    memcpy(used.at + used.length - NOTEBOOK_ID_LENGTH, ID, NOTEBOOK_ID_LENGTH);
+    run_is_refused(used, file);
+    memcpy(used.at + used.length - NOTEBOOK_ID_LENGTH, OTHER, NOTEBOOK_ID_LENGTH);
+    run_passes(used, file);
+    memcpy(used.at, ID, NOTEBOOK_ID_LENGTH);
+    run_is_refused(used, file);
+    free(used.at);
+}
+
+/* Two cuttings of which the second has the first one's ID in its run: a piece of each, and the rest of either, are no set. */
+static void two_cuttings(struct bytes file)
+{
+    struct bytes used = text(ID);
+    uint8_t *first = lend(404);
+    uint8_t *second = lend(404);
+    size_t end = 1;
+    struct bytes mixed;
+    HOLD(result(cut(file, 69, ID, first, 404), 6, 404, 0));
+    HOLD(result(cut_with(used, file, 69, OTHER, second, 404), 6, 404, 0));
+    while (end < 404 && !begins_piece(first + end, 404 - end)) {
+        end++;
+    }
+    mixed = add(add(text(""), first, end), second + end, 404 - end);
+    join_refuses(mixed, NOTEBOOK_REFUSED_SET, 0);
+    free(mixed.at);
+    mixed = add(add(text(""), second, end), first + end, 404 - end);
+    join_refuses(mixed, NOTEBOOK_REFUSED_SET, 0);
+    free(mixed.at);
+    mixed = add(add(text(""), first, 404), second, 404);
+    join_refuses(mixed, NOTEBOOK_REFUSED_SET, 0);
+    free(mixed.at);
+    give_back(second);
+    give_back(first);
+    free(used.at);
+}
+
+static void used_ids(void)
+{
+    struct bytes file = memos(20);
+    places_of_used_id(file);
+    near_used_id(file);
+    long_run(file);
+    two_cuttings(file);
+    free(file.at);
+}
+
 /* --- refusals of a file, by every call that takes one --- */
 
 static void every_call_refuses(struct bytes file, uint64_t refusal, uint64_t line)
 {
     uint8_t *out = lend(NOTEBOOK_CUT_MAX);
     uint32_t *numbers = memory(sizeof(uint32_t) * NOTEBOOK_INDEX_MAX);
+    struct bytes used = text(ID "x");
     size_t i;
     int as_lent = 1;
     for (i = 0; i < NOTEBOOK_INDEX_MAX; i++) {
@@ -425,8 +602,9 @@ static void every_call_refuses(struct bytes file, uint64_t refusal, uint64_t lin
     HOLD(refused(notebook_index(file.at, file.length, numbers, NOTEBOOK_INDEX_MAX), refusal, line));
     HOLD(refused(notebook_canonical(file.at, file.length, out, NOTEBOOK_CANONICAL_MAX), refusal, line));
     HOLD(refused(cut(file, 60, ID, out, NOTEBOOK_CUT_MAX), refusal, line));
-    /* A refusal of the file comes before those of the ID and of the output. */
+    /* A refusal of the file comes before those of the ID, of the used IDs and of the output. */
     HOLD(refused(cut(file, 60, "x", out, 0), refusal, line));
+    HOLD(refused(cut_with(used, file, 60, ID, out, 0), refusal, line));
     HOLD(refused(notebook_index(file.at, file.length, numbers, 0), refusal, line));
     HOLD(refused(notebook_canonical(file.at, file.length, out, 0), refusal, line));
 
@@ -435,6 +613,7 @@ static void every_call_refuses(struct bytes file, uint64_t refusal, uint64_t lin
         as_lent &= numbers[i] == (uint32_t)(7919 * i + 13);
     }
     HOLD(as_lent);
+    free(used.at);
     free(numbers);
     give_back(out);
 }
@@ -573,17 +752,19 @@ static void limits(void)
 
 static void words(void)
 {
-    /* Document 01's table, in its order. */
+    /* Document 01's table and document 02's 24, by number; no call gives 21 to 23. */
     static const char *const table[] = {
-        "large", "line end", "version", "character", "record", "piece",      "items", "empty",      "long", "edge",
-        "form",  "pair",     "place",   "missing",   "RP",     "date order", "ID",    "no cutting", "set",  "short",
+        "large",   "line end", "version", "character", "record", "piece",      "items", "empty",      "long", "edge",
+        "form",    "pair",     "place",   "missing",   "RP",     "date order", "ID",    "no cutting", "set",  "short",
+        "unknown", "unknown",  "unknown", "used",
     };
     uint64_t i;
-    for (i = 1; i <= NOTEBOOK_REFUSED_SHORT; i++) {
+    HOLD(sizeof table / sizeof table[0] == NOTEBOOK_REFUSED_USED);
+    for (i = 1; i <= NOTEBOOK_REFUSED_USED; i++) {
         HOLD(strcmp(notebook_word(i), table[i - 1]) == 0);
     }
     HOLD(strcmp(notebook_word(NOTEBOOK_ACCEPTED), "ok") == 0);
-    HOLD(strcmp(notebook_word(21), "unknown") == 0);
+    HOLD(strcmp(notebook_word(25), "unknown") == 0);
     HOLD(strcmp(notebook_word(UINT64_MAX), "unknown") == 0);
 }
 
@@ -603,6 +784,7 @@ int main(void)
     clinics();
     days();
     cuttings();
+    used_ids();
     refusals();
     sets();
     limits();

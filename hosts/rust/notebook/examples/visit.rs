@@ -1,7 +1,7 @@
-//! `visit FILE`: checks a file, lists its drugs, makes it canonical, cuts it into pieces of 160 bytes and joins them from the
-//! last to the first.
+//! `visit FILE`: checks a file, lists its drugs, makes it canonical, cuts it into pieces of 160 bytes, asks for a second cutting
+//! with the same ID, which is refused, and joins the pieces from the last to the first.
 
-use notebook::Entry;
+use notebook::{Entry, Used};
 use std::error::Error;
 use std::io::{self, Write};
 use std::process::ExitCode;
@@ -35,8 +35,16 @@ fn visit(out: &mut impl Write) -> Result<(), Box<dyn Error>> {
     let canonical = notebook::canonical(&file)?;
     writeln!(out, "canonical: {} bytes, from {}", canonical.len(), file.len())?;
 
-    let cut = notebook::cut(&file, 160, "20261115000001")?;
+    // A host keeps the IDs that have been used where they stay, and the new one before it hands the pieces over.
+    let mut used = Used::new();
+    let id = "20261115000001";
+    let cut = notebook::cut(&file, 160, id, &used)?;
+    used.push(id)?;
     writeln!(out, "cut: {}, {} bytes in all", counted(cut.len() as u64, "piece"), cut.as_bytes().len())?;
+    match notebook::cut(&file, 160, id, &used) {
+        Err(refusal) => writeln!(out, "cut with the same ID: {refusal}")?,
+        Ok(_) => writeln!(out, "cut with the same ID: TWO SETS OF PIECES")?,
+    }
 
     let mut pieces: Vec<&[u8]> = cut.pieces().collect();
     pieces.reverse();

@@ -42,8 +42,10 @@
 #[allow(unsafe_code, missing_docs)]
 pub mod raw;
 mod refusal;
+mod used;
 
 pub use refusal::{Reason, Refusal};
+pub use used::{NotAnId, Used};
 
 /// The most bytes of a file; a longer one is refused as [`Reason::Large`].
 pub const MOST_FILE_BYTES: usize = 65_536;
@@ -53,6 +55,9 @@ pub const MOST_JOIN_BYTES: usize = 131_072;
 
 /// The most pieces that [`cut`] makes.
 pub const MOST_PIECES: usize = 999;
+
+/// The digits of an ID.
+pub const ID_BYTES: usize = 14;
 
 /// The most bytes of a piece beside its records: line 1 and 911,ID,n,k with its line end, n and k of three digits.
 const MOST_FRAME_BYTES: usize = 41;
@@ -214,12 +219,27 @@ pub fn canonical_into(file: &[u8], out: &mut [u8]) -> Result<usize, Refusal> {
     written(raw::canonical(file, out))
 }
 
-/// Cuts a file into pieces of at most `capacity` bytes. `id` is the 14 digits that the pieces have in common.
-pub fn cut(file: &[u8], capacity: u64, id: impl AsRef<[u8]>) -> Result<Cut, Refusal> {
+/// Cuts a file into pieces of at most `capacity` bytes. `id` is the 14 digits that the pieces have in common; one that has been
+/// used is refused, also where one piece serves.
+///
+/// ```
+/// use notebook::{Reason, Used};
+///
+/// let file = b"JAHISTC04,2\r\n1,A,1,19890108,,,,,,,\r\n4,x,,2\r\n4,y,,2\r\n4,z,,2\r\n4,u,,2\r\n4,v,,2\r\n";
+/// let cut = notebook::cut(file, 69, "20161115000001", &Used::new())?;
+/// assert_eq!(cut.pieces().map(<[u8]>::len).collect::<Vec<_>>(), [67, 69]);
+/// assert!(cut.get(1).unwrap_or_default().ends_with(b"911,20161115000001,2,2\r\n"));
+///
+/// let used = Used::from_ids(["20161115000001"]).expect("an ID");
+/// let refusal = notebook::cut(file, 69, "20161115000001", &used).unwrap_err();
+/// assert_eq!(refusal.reason, Reason::Used);
+/// # Ok::<(), notebook::Refusal>(())
+/// ```
+pub fn cut(file: &[u8], capacity: u64, id: impl AsRef<[u8]>, used: &Used) -> Result<Cut, Refusal> {
     // Every piece has a record, so there are no more pieces than lines.
     let frames = lines(file).min(MOST_PIECES) * MOST_FRAME_BYTES;
     let mut bytes = vec![0; file.len().min(MOST_FILE_BYTES) + frames];
-    let written = cut_into(file, capacity, id, &mut bytes)?;
+    let written = cut_into(file, capacity, id, used, &mut bytes)?;
     bytes.truncate(written.bytes);
     let mut ends = Vec::with_capacity(written.pieces);
     let mut at = 0;
@@ -239,8 +259,8 @@ pub fn cut(file: &[u8], capacity: u64, id: impl AsRef<[u8]>) -> Result<Cut, Refu
 }
 
 /// Writes the pieces one after another from the front of `out` on and answers their count and total length.
-pub fn cut_into(file: &[u8], capacity: u64, id: impl AsRef<[u8]>, out: &mut [u8]) -> Result<Written, Refusal> {
-    let reply = raw::cut(file, capacity, id.as_ref(), out);
+pub fn cut_into(file: &[u8], capacity: u64, id: impl AsRef<[u8]>, used: &Used, out: &mut [u8]) -> Result<Written, Refusal> {
+    let reply = raw::cut(file, capacity, id.as_ref(), used.as_bytes(), out);
     Refusal::of(reply).map_or(Ok(Written { pieces: reply.a as usize, bytes: reply.b as usize }), Err)
 }
 
@@ -257,7 +277,7 @@ pub fn join_into(pieces: &[u8], out: &mut [u8]) -> Result<usize, Refusal> {
     written(raw::join(pieces, out))
 }
 
-/// The version of the library that is linked, as 10,000 times the major, 100 times the minor, and the patch: 400 is 0.4.0.
+/// The version of the library that is linked, as 10,000 times the major, 100 times the minor, and the patch: 500 is 0.5.0.
 #[inline]
 pub fn version() -> u64 {
     raw::version()
@@ -285,7 +305,7 @@ mod tests {
     #[test]
     fn pieces_are_slices_of_one_buffer() {
         let file = [FILE, b"4,u,,2\r\n4,v,,2\r\n4,w,,2\r\n"].concat();
-        let cut = cut(&file, 67, ID).expect("the file can be cut");
+        let cut = cut(&file, 67, ID, &Used::new()).expect("the file can be cut");
         assert_eq!(cut.pieces().map(<[u8]>::len).collect::<Vec<_>>(), [67, 61, 53]);
         assert_eq!(cut.get(2), Some(&b"JAHISTC04,2\r\n4,v,,2\r\n4,w,,2\r\n911,12345678901234,3,3\r\n"[..]));
         assert_eq!((cut.len(), cut.get(3)), (3, None));
@@ -350,11 +370,11 @@ mod tests {
     fn empty_and_large_inputs() {
         assert_eq!(check(b"").unwrap_err().to_string(), "no 2 1: line end");
         assert_eq!(index(b"").unwrap_err().to_string(), "no 2 1: line end");
-        assert_eq!(cut(b"", 0, "").unwrap_err().to_string(), "no 2 1: line end");
+        assert_eq!(cut(b"", 0, "", &Used::new()).unwrap_err().to_string(), "no 2 1: line end");
         assert_eq!(join(b"").unwrap_err().to_string(), "no 2 1: line end");
         let large = vec![b'\n'; MOST_FILE_BYTES + 1];
         assert_eq!(index(&large).unwrap_err().to_string(), "no 1 0: large");
-        assert_eq!(cut(&large, 0, "").unwrap_err().to_string(), "no 1 0: large");
+        assert_eq!(cut(&large, 0, "", &Used::new()).unwrap_err().to_string(), "no 1 0: large");
         assert_eq!(join(&vec![0; MOST_JOIN_BYTES + 1]).unwrap_err().to_string(), "no 1 0: large");
     }
 
@@ -369,7 +389,7 @@ mod tests {
         // 999 pieces of one record each: the buffer that `cut` allocates holds them.
         let mut file = b"JAHISTC04,2\r\n1,A,1,19890108,,,,,,,\r\n".to_vec();
         file.extend_from_slice(&b"4,xxxxxxxxxxx,,2\r\n".repeat(998));
-        let cut = cut(&file, 61, ID).expect("the file can be cut");
+        let cut = cut(&file, 61, ID, &Used::new()).expect("the file can be cut");
         assert_eq!(cut.len(), 999);
         assert_eq!(join(cut.as_bytes()), canonical(&file));
     }

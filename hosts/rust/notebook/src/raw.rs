@@ -27,6 +27,8 @@ extern "C" {
         capacity: u64,
         id: *const u8,
         id_len: usize,
+        used: *const u8,
+        used_len: usize,
         out: *mut u8,
         out_len: usize,
     ) -> Reply;
@@ -58,12 +60,13 @@ pub fn canonical(file: &[u8], out: &mut [u8]) -> Reply {
     unsafe { notebook_canonical(file.as_ptr(), file.len(), out.as_mut_ptr(), out.len()) }
 }
 
-/// `a` pieces, `b` bytes in `out`.
+/// `a` pieces, `b` bytes in `out`. `used` is a run of IDs, 14 bytes each.
 #[inline]
-pub fn cut(file: &[u8], capacity: u64, id: &[u8], out: &mut [u8]) -> Reply {
+pub fn cut(file: &[u8], capacity: u64, id: &[u8], used: &[u8], out: &mut [u8]) -> Reply {
     let (file, file_len, id, id_len) = (file.as_ptr(), file.len(), id.as_ptr(), id.len());
+    let (used, used_len) = (used.as_ptr(), used.len());
     // SAFETY: as in `index`.
-    unsafe { notebook_cut(file, file_len, capacity, id, id_len, out.as_mut_ptr(), out.len()) }
+    unsafe { notebook_cut(file, file_len, capacity, id, id_len, used, used_len, out.as_mut_ptr(), out.len()) }
 }
 
 /// `a` bytes in `out`.

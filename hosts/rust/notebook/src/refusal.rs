@@ -48,13 +48,15 @@ pub enum Reason {
     Set,
     /// The output cannot hold the result.
     Short,
+    /// The ID has been used, or the length of the run of used IDs is not a multiple of 14. No call gives 21 to 23.
+    Used = 24,
     /// The library has given a number that this crate does not know.
     Unknown = 255,
 }
 
 impl Reason {
     /// All reasons that the library gives, by number.
-    pub const ALL: [Reason; 20] = [
+    pub const ALL: [Reason; 21] = [
         Reason::Large,
         Reason::LineEnd,
         Reason::Version,
@@ -75,9 +77,10 @@ impl Reason {
         Reason::NoCutting,
         Reason::Set,
         Reason::Short,
+        Reason::Used,
     ];
 
-    /// The number, 1 to 20; 255 for [`Reason::Unknown`].
+    /// The number, 1 to 20 or 24; 255 for [`Reason::Unknown`].
     pub fn number(self) -> u8 {
         self as u8
     }
@@ -105,14 +108,15 @@ impl Reason {
             Reason::NoCutting => "no cutting",
             Reason::Set => "set",
             Reason::Short => "short",
+            Reason::Used => "used",
             Reason::Unknown => "unknown",
         }
     }
 
-    /// Whether it refuses what was asked for, and not the file: the ID (17), the capacity (18), the room for the result (20),
-    /// or a number that this crate does not know. The file may be a good one, so its sender is not to blame.
+    /// Whether it refuses what was asked for, and not the file: the ID (17, 24), the capacity (18), the room for the result
+    /// (20), or a number that this crate does not know. The file may be a good one, so its sender is not to blame.
     pub fn is_operators(self) -> bool {
-        matches!(self, Reason::Id | Reason::NoCutting | Reason::Short | Reason::Unknown)
+        matches!(self, Reason::Id | Reason::NoCutting | Reason::Short | Reason::Used | Reason::Unknown)
     }
 }
 
@@ -151,9 +155,9 @@ mod tests {
 
     #[test]
     fn reasons_by_number() {
-        for (number, reason) in (1..).zip(Reason::ALL) {
-            assert_eq!(reason.number(), number);
-        }
+        assert!(Reason::ALL.into_iter().map(Reason::number).eq((1..=20).chain([24])));
+        let refusal = Refusal::of(Reply { refusal: 24, ..Reply::default() });
+        assert_eq!(refusal.expect("24 is a refusal").to_string(), "no 24 0: used");
         let refusal = Refusal::of(Reply { refusal: 15, line: 9, ..Reply::default() });
         assert_eq!(refusal.expect("15 is a refusal").to_string(), "no 15 9: RP");
         assert_eq!(Refusal::of(Reply::default()), None);
@@ -161,7 +165,7 @@ mod tests {
 
     #[test]
     fn a_number_that_is_not_known_is_no_acceptance() {
-        for number in [21, 255, 256, 1 << 32, (1 << 32) + 11, u64::MAX] {
+        for number in [21, 22, 23, 25, 255, 256, 256 + 24, 1 << 32, (1 << 32) + 11, u64::MAX] {
             let refusal = Refusal::of(Reply { refusal: number, line: 3, ..Reply::default() });
             assert_eq!(refusal, Some(Refusal { reason: Reason::Unknown, line: 3 }), "{number}");
         }
@@ -173,7 +177,7 @@ mod tests {
     fn refusals_of_what_was_asked_for() {
         let operators: Vec<u8> =
             Reason::ALL.into_iter().filter(|reason| reason.is_operators()).map(Reason::number).collect();
-        assert_eq!(operators, [17, 18, 20]);
+        assert_eq!(operators, [17, 18, 20, 24]);
         assert!(Reason::Unknown.is_operators());
     }
 }

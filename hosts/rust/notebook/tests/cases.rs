@@ -48,7 +48,7 @@ fn check_every_case_by_the_command() {
 fn every_call_on_every_case() {
     let calls = Calls { check: raw::check, index: raw::index, canonical: raw::canonical, cut: raw::cut, join: raw::join };
     let cases = cases(b"vickj");
-    assert!(cases.len() >= 5_145 + 3_588);
+    assert!(cases.len() >= 5_145 + 4_459);
     for case in cases {
         assert_eq!(case.told_by(&calls), case.answer);
     }

@@ -10,7 +10,7 @@ pub struct Calls {
     pub check: fn(&[u8]) -> Reply,
     pub index: fn(&[u8], &mut [u32]) -> Reply,
     pub canonical: fn(&[u8], &mut [u8]) -> Reply,
-    pub cut: fn(&[u8], u64, &[u8], &mut [u8]) -> Reply,
+    pub cut: fn(&[u8], u64, &[u8], &[u8], &mut [u8]) -> Reply,
     pub join: fn(&[u8], &mut [u8]) -> Reply,
 }
 
@@ -21,6 +21,7 @@ pub struct Case {
     room: usize,
     capacity: u64,
     id: Vec<u8>,
+    used: Vec<u8>,
     pub input: Vec<u8>,
     pub answer: String,
 }
@@ -64,6 +65,7 @@ pub fn cases(calls: &[u8]) -> Vec<Case> {
             room: frames.number(4) as usize,
             capacity: frames.number(8),
             id: frames.run(1).to_vec(),
+            used: frames.run(4).to_vec(),
             input: frames.run(4).to_vec(),
             answer: lines.next().expect("every frame has its answer").to_string(),
         });
@@ -81,7 +83,7 @@ impl Case {
             b'v' => told((calls.check)(&self.input), 3),
             b'i' => self.told_with_numbers(|out| (calls.index)(&self.input, out)),
             b'c' => self.told_with_bytes(1, |out| (calls.canonical)(&self.input, out)),
-            b'k' => self.told_with_bytes(2, |out| (calls.cut)(&self.input, self.capacity, &self.id, out)),
+            b'k' => self.told_with_bytes(2, |out| (calls.cut)(&self.input, self.capacity, &self.id, &self.used, out)),
             _ => self.told_with_bytes(1, |out| (calls.join)(&self.input, out)),
         };
         format!("{}: {told}", self.label).trim_end().to_string()

@@ -41,6 +41,10 @@ pub enum One {
 pub struct Cutting {
     pub capacity: u64,
     pub id: OsString,
+    /// The file with IDs that have been used; `-` is standard input.
+    pub used: Option<OsString>,
+    /// The file with more of them, which the ID is recorded in.
+    pub record: Option<OsString>,
     pub prefix: Option<OsString>,
 }
 
@@ -68,7 +72,7 @@ pub enum Parsed {
 const SUBCOMMANDS: [&str; 5] = ["check", "index", "canonical", "cut", "join"];
 
 /// The options, whether they have a value, and the subcommands that take each.
-const OPTIONS: [(&str, bool, &[&str]); 13] = [
+const OPTIONS: [(&str, bool, &[&str]); 15] = [
     ("--json", false, &SUBCOMMANDS),
     ("--quiet", false, &["check", "index", "canonical"]),
     ("--summary", false, &["check", "index", "canonical"]),
@@ -81,6 +85,8 @@ const OPTIONS: [(&str, bool, &[&str]); 13] = [
     ("--output", true, &["canonical", "join"]),
     ("--capacity", true, &["cut"]),
     ("--id", true, &["cut"]),
+    ("--used", true, &["cut"]),
+    ("--record-used", true, &["cut"]),
     ("--prefix", true, &["cut"]),
 ];
 
@@ -198,7 +204,13 @@ impl Given {
             ("join", _) => Call::Join { output, paths: self.paths()? },
             ("canonical", Some(folder)) => Call::Many(Many::CanonicalTo(folder.into()), self.paths()?),
             ("canonical", None) => Call::One(One::Canonical { output }, self.path("canonical without --to")?),
-            _ => Call::One(One::Cut(self.cutting()?), self.path("cut")?),
+            _ => {
+                let (cutting, path) = (self.cutting()?, self.path("cut")?);
+                if path == "-" && cutting.used.as_ref().is_some_and(|used| used == "-") {
+                    return Err(STDIN_TWICE.to_string());
+                }
+                Call::One(One::Cut(cutting), path)
+            }
         })
     }
 
@@ -216,7 +228,19 @@ impl Given {
         let capacity = self.value("--capacity").ok_or("cut needs --capacity")?;
         let capacity = number(&capacity).ok_or("--capacity is a number of bytes")?;
         let id = self.value("--id").ok_or("cut needs --id")?;
-        Ok(Cutting { capacity, id, prefix: self.value("--prefix") })
+        let (used, record) = (self.file_of_ids("--used")?, self.file_of_ids("--record-used")?);
+        if record.as_ref().is_some_and(|record| record == "-") {
+            return Err("--record-used is a file, not standard input".to_string());
+        }
+        Ok(Cutting { capacity, id, used, record, prefix: self.value("--prefix") })
+    }
+
+    /// An empty name is no file's: a script has forgotten it, and must not be told that a file is missing.
+    fn file_of_ids(&mut self, option: &str) -> Result<Option<OsString>, String> {
+        match self.value(option) {
+            Some(file) if file.is_empty() => Err(format!("{option} needs a value")),
+            file => Ok(file),
+        }
     }
 
     fn path(self, call: &str) -> Result<OsString, String> {

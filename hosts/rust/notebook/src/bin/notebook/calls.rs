@@ -3,7 +3,9 @@
 use crate::arguments::{Cutting, Wanted};
 use crate::inputs::{self, Found, Input};
 use crate::json::{self, Object};
+use crate::targets;
 use crate::tell::{line, Teller, Told};
+use crate::used::{self, Stop};
 use crate::whole;
 use notebook::{Cut, Entry, MOST_JOIN_BYTES};
 use std::ffi::{OsStr, OsString};
@@ -84,9 +86,11 @@ pub fn written(teller: Teller, name: &OsStr, file: Vec<u8>, to: Option<&Path>) -
     Told::accepted(line(name, &format!("ok {}", file.len())))
 }
 
+/// The pieces to standard output, or to new files. Where the ID is recorded, it is so before either.
 pub fn cut(teller: Teller, name: &OsStr, file: &[u8], cutting: &Cutting) -> Told {
-    let cut = match notebook::cut(file, cutting.capacity, cutting.id.as_bytes()) {
-        Err(refusal) => return teller.refused(name, refusal),
+    let cut = match used::cut(file, cutting) {
+        Err(Stop::Refused(refusal)) => return teller.refused(name, refusal),
+        Err(Stop::Failed(path, error)) => return teller.failed(&path, &error),
         Ok(cut) => cut,
     };
     if let Some(prefix) = &cutting.prefix {
@@ -100,10 +104,7 @@ pub fn cut(teller: Teller, name: &OsStr, file: &[u8], cutting: &Cutting) -> Told
 }
 
 fn cut_into_files(teller: Teller, name: &OsStr, cut: &Cut, prefix: &OsStr) -> Told {
-    // k has as many digits as the count, so that the names sort as the pieces do.
-    let width = cut.len().to_string().len();
-    let named = |k| [prefix, OsStr::new(&format!("{k:0width$}"))].into_iter().collect::<OsString>();
-    let paths: Vec<OsString> = (1..=cut.len()).map(named).collect();
+    let paths = targets::of_pieces(cut, prefix);
     let files: Vec<(&Path, &[u8])> = paths.iter().map(Path::new).zip(cut.pieces()).collect();
     if let Err((path, error)) = whole::write(&files) {
         return teller.failed(path.as_os_str(), &error);

@@ -35,6 +35,7 @@ mod summary;
 mod system;
 mod targets;
 mod tell;
+mod used;
 mod whole;
 
 use arguments::{Arguments, Call, Many, One, Parsed};

@@ -28,9 +28,14 @@ const F_GETFD: c_int = 1;
 const AF_UNIX: c_int = 1;
 const SOCK_STREAM: c_int = 1;
 const AT_FDCWD: c_int = -100;
+const AT_EACCESS: c_int = 0x200;
+const W_OK: c_int = 2;
+const X_OK: c_int = 1;
 const RENAME_NOREPLACE: c_uint = 1;
 const TIOCGWINSZ: c_ulong = 0x5413;
 const EBADF: i32 = 9;
+const EACCES: i32 = 13;
+const EROFS: i32 = 30;
 pub const EINVAL: i32 = 22;
 pub const ENOSYS: i32 = 38;
 pub const O_NONBLOCK: i32 = 0o4000;
@@ -79,6 +84,7 @@ extern "C" {
     fn fcntl(descriptor: c_int, command: c_int, ...) -> c_int;
     fn socket(domain: c_int, kind: c_int, protocol: c_int) -> c_int;
     fn ioctl(descriptor: c_int, request: c_ulong, ...) -> c_int;
+    fn faccessat(at: c_int, path: *const c_char, mode: c_int, flags: c_int) -> c_int;
     fn renameat2(old_at: c_int, old: *const c_char, new_at: c_int, new: *const c_char, flags: c_uint) -> c_int;
     fn write(descriptor: c_int, bytes: *const c_void, count: usize) -> isize;
     fn _exit(status: c_int) -> !;
@@ -213,6 +219,19 @@ pub fn rename_new(from: &Path, to: &Path) -> io::Result<()> {
         0 => Ok(()),
         _ => Err(io::Error::last_os_error()),
     }
+}
+
+/// An error if files must not be made in a folder.
+pub fn may_make_in(folder: &Path) -> io::Result<()> {
+    let folder = CString::new(folder.as_os_str().as_bytes())?;
+    // SAFETY: it is a string that ends with a zero.
+    let told = unsafe { faccessat(AT_FDCWD, folder.as_ptr(), W_OK | X_OK, AT_EACCESS) };
+    let error = io::Error::last_os_error();
+    // Whatever else it fails with tells nothing of the folder: some systems let nobody ask.
+    if told == 0 || !matches!(error.raw_os_error(), Some(EACCES | EROFS)) {
+        return Ok(());
+    }
+    Err(error)
 }
 
 // ---- Memory

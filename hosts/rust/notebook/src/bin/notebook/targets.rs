@@ -1,8 +1,10 @@
-//! The files that `canonical --to` writes, one for each input.
+//! The names of the files that are written: of `canonical --to` one for each input, of `cut --prefix` one for each piece.
 
 use crate::inputs::Found;
 use crate::names;
+use notebook::Cut;
 use std::collections::BTreeSet;
+use std::ffi::{OsStr, OsString};
 use std::io::{self, ErrorKind};
 use std::path::{Path, PathBuf};
 
@@ -22,4 +24,11 @@ pub fn claim(to: &Path, found: &mut [Found]) {
         files.insert(target);
         folders.extend(outer);
     }
+}
+
+/// The names that the pieces of a cut have after a prefix.
+pub fn of_pieces(cut: &Cut, prefix: &OsStr) -> Vec<OsString> {
+    // k has as many digits as the count, so that the names sort as the pieces do.
+    let width = cut.len().to_string().len();
+    (1..=cut.len()).map(|k| [prefix, OsStr::new(&format!("{k:0width$}"))].into_iter().collect()).collect()
 }

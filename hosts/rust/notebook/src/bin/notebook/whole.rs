@@ -12,6 +12,9 @@ use std::os::unix::fs::{DirBuilderExt, MetadataExt, OpenOptionsExt};
 use std::path::{Path, PathBuf};
 use std::sync::{Mutex, PoisonError};
 
+/// The name and the bytes of a file.
+type Named<'a> = (&'a Path, &'a [u8]);
+
 /// The file that could not be written, and why.
 pub type Failure<'a> = (&'a Path, io::Error);
 
@@ -39,14 +42,12 @@ enum State {
 
 /// Writes new files, all or none. A name that has exactly its bytes already counts as written; any other name that is there
 /// is refused before anything is made, and so is the name of a part.
-pub fn write<'a>(files: &[(&'a Path, &'a [u8])]) -> Result<(), Failure<'a>> {
-    let (mut there, mut missing) = (Vec::new(), Vec::new());
-    for &(path, bytes) in files {
-        let there_already = no_part(path).and_then(|()| is_there(path, bytes)).map_err(|error| (path, error))?;
-        if there_already { &mut there } else { &mut missing }.push((path, bytes));
-    }
+pub fn write<'a>(files: &[Named<'a>]) -> Result<(), Failure<'a>> {
+    let (there, missing) = look_up(files)?;
     let mut parts = Vec::new();
-    let written = make_parts(&missing, &mut parts).and_then(|()| name_parts(&mut parts)).and_then(|()| sync_folders(files));
+    let written = make_parts(&missing, &mut parts)
+        .and_then(|()| name_parts(&mut parts))
+        .and_then(|()| in_folders(files, sync_folder));
     if written.is_err() {
         parts.iter().for_each(remove);
         return written;
@@ -56,6 +57,26 @@ pub fn write<'a>(files: &[(&'a Path, &'a [u8])]) -> Result<(), Failure<'a>> {
         let _ = part_name(path).and_then(|part| remove_left(&part, bytes));
     }
     Ok(())
+}
+
+/// Fails where `write` would, as far as that can be told without making anything.
+pub fn look<'a>(files: &[Named<'a>]) -> Result<(), Failure<'a>> {
+    let (_, missing) = look_up(files)?;
+    for &(path, bytes) in &missing {
+        part_name(path).and_then(|part| left(&part, bytes)).map_err(|error| (path, error))?;
+    }
+    in_folders(&missing, system::may_make_in)?;
+    in_folders(files, |folder| open_folder(folder).map(drop))
+}
+
+/// The files that are there already, and those that are to be made.
+fn look_up<'a>(files: &[Named<'a>]) -> Result<(Vec<Named<'a>>, Vec<Named<'a>>), Failure<'a>> {
+    let (mut there, mut missing) = (Vec::new(), Vec::new());
+    for &(path, bytes) in files {
+        let there_already = no_part(path).and_then(|()| is_there(path, bytes)).map_err(|error| (path, error))?;
+        if there_already { &mut there } else { &mut missing }.push((path, bytes));
+    }
+    Ok((there, missing))
 }
 
 /// Whether the name is a regular file with exactly these bytes; an error if it is anything else.
@@ -68,17 +89,15 @@ fn is_there(path: &Path, bytes: &[u8]) -> io::Result<bool> {
     if found.is_file() && found.len() == bytes.len() as u64 {
         let file = OpenOptions::new().read(true).custom_flags(O_NOFOLLOW | O_NONBLOCK).open(path)?;
         // A run that is not done with it may still remove it.
-        if let Err(TryLockError::WouldBlock) = file.try_lock_shared() {
-            return Err(in_use());
-        }
+        let is_in_use = matches!(file.try_lock_shared(), Err(TryLockError::WouldBlock));
         if inputs::read_most(&file, bytes.len() + 1)? == bytes {
-            return Ok(true);
+            return if is_in_use { Err(in_use()) } else { Ok(true) };
         }
     }
     Err(io::Error::new(ErrorKind::AlreadyExists, "already exists"))
 }
 
-fn make_parts<'a>(files: &[(&'a Path, &'a [u8])], parts: &mut Vec<Part<'a>>) -> Result<(), Failure<'a>> {
+fn make_parts<'a>(files: &[Named<'a>], parts: &mut Vec<Part<'a>>) -> Result<(), Failure<'a>> {
     for &(path, bytes) in files {
         let made = part_name(path).and_then(|part| Ok((new_part(&part, bytes)?, part)));
         let (file, part) = made.map_err(|error| (path, error))?;
@@ -126,21 +145,29 @@ fn name_part(part: &Part) -> io::Result<State> {
     Ok(State::Named)
 }
 
-fn sync_folders<'a>(files: &[(&'a Path, &'a [u8])]) -> Result<(), Failure<'a>> {
-    let mut synced = BTreeSet::new();
+/// Does something once for each folder that files lie in.
+fn in_folders<'a>(files: &[Named<'a>], act: impl Fn(&Path) -> io::Result<()>) -> Result<(), Failure<'a>> {
+    let mut done = BTreeSet::new();
     for &(path, _) in files {
         let folder = folder_and_name(path).map_err(|error| (path, error))?.0;
-        if synced.insert(folder) {
-            sync_folder(folder).map_err(|error| (path, error))?;
+        if done.insert(folder) {
+            act(folder).map_err(|error| (path, error))?;
         }
     }
     Ok(())
 }
 
 /// Has the system keep a folder's names.
-fn sync_folder(folder: &Path) -> io::Result<()> {
-    let opened = OpenOptions::new().read(true).custom_flags(O_DIRECTORY).open(folder)?;
-    match opened.sync_all() {
+pub fn sync_folder(folder: &Path) -> io::Result<()> {
+    sync_names(&open_folder(folder)?)
+}
+
+pub fn open_folder(folder: &Path) -> io::Result<File> {
+    OpenOptions::new().read(true).custom_flags(O_DIRECTORY).open(folder)
+}
+
+pub fn sync_names(folder: &File) -> io::Result<()> {
+    match folder.sync_all() {
         // Some file systems can't.
         Err(error) if error.raw_os_error() == Some(EINVAL) => Ok(()),
         result => result,
@@ -157,7 +184,7 @@ fn remove(part: &Part) {
 }
 
 /// Removes a name if it still is this file.
-fn remove_ours(file: &File, name: &Path) {
+pub fn remove_ours(file: &File, name: &Path) {
     if is_named(file, name).unwrap_or(false) {
         let _ = fs::remove_file(name);
     }
@@ -197,20 +224,28 @@ fn hold(file: &File, part: &Path) -> io::Result<bool> {
     }
 }
 
-/// Removes a part of a file with these bytes that a run has left. One that a run has locked is an error, and so is anything
-/// else in its place: a killed run leaves a beginning of the bytes, and nothing but that is removed.
+/// Removes a part of a file with these bytes that a run has left.
 fn remove_left(part: &Path, bytes: &[u8]) -> io::Result<()> {
+    match left(part, bytes)? {
+        Some(_locked) => fs::remove_file(part),
+        None => Ok(()),
+    }
+}
+
+/// A part of a file with these bytes that a run has left, locked. One that a run has locked is an error, and so is anything
+/// else in its place: a killed run leaves a beginning of the bytes, and nothing but that is removed.
+fn left(part: &Path, bytes: &[u8]) -> io::Result<Option<File>> {
     let in_the_way =
         |error: io::Error| io::Error::new(error.kind(), format!("{}: {error}", names::shown(part.as_os_str())));
     let file = match OpenOptions::new().read(true).custom_flags(O_NOFOLLOW | O_NONBLOCK).open(part) {
         Ok(file) => file,
-        Err(error) if error.kind() == ErrorKind::NotFound => return Ok(()),
+        Err(error) if error.kind() == ErrorKind::NotFound => return Ok(None),
         Err(error) => return Err(in_the_way(error)),
     };
     match file.try_lock() {
         // Another run may have removed or renamed it meanwhile.
-        Ok(()) if !is_named(&file, part)? => Ok(()),
-        Ok(()) if is_beginning(&file, bytes).map_err(in_the_way)? => fs::remove_file(part),
+        Ok(()) if !is_named(&file, part)? => Ok(None),
+        Ok(()) if is_beginning(&file, bytes).map_err(in_the_way)? => Ok(Some(file)),
         Ok(()) => Err(in_the_way(io::Error::new(ErrorKind::AlreadyExists, "in the way, and no part of this file"))),
         Err(TryLockError::WouldBlock) => Err(in_use()),
         Err(TryLockError::Error(error)) => Err(in_the_way(error)),
@@ -259,7 +294,7 @@ pub fn no_part(path: &Path) -> io::Result<()> {
     Ok(())
 }
 
-fn folder_and_name(path: &Path) -> io::Result<(&Path, &OsStr)> {
+pub fn folder_and_name(path: &Path) -> io::Result<(&Path, &OsStr)> {
     let bytes = path.as_os_str().as_bytes();
     let name = bytes.rsplit(|&byte| byte == b'/').next().unwrap_or_default();
     if matches!(name, b"" | b"." | b"..") {
