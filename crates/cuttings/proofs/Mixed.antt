@@ -6,13 +6,13 @@ use mathlib.Core.Option.{Option, none, some}
 use mathlib.Core.List.{List, [], _∷_, _++_, map, head-eq-of-cons-eq}
 use borrow.Author.Tests.{le-leb}
 use lib.ListN.{length}
-use Rattle.lists.specs.Lists.{All, Res, ok, refused}
+use Rattle.lists.specs.Lists.{All, ok, refused}
 use Rattle.lists.proofs.Tests.{both, not-true′}
 use Rattle.characters.specs.Text.{text}
 use Rattle.characters.specs.Rows.{flat}
 use Rattle.records.specs.Records.{isMark}
 use Rattle.division.specs.Pieces.{Piece, split}
-use Rattle.division.specs.Join.{unmarked, Part, rowBefore, lastMark, partOf, partWith, allParts, joinParts, joinPieces, joinedFile, joinFile, joinResult}
+use Rattle.division.specs.Join.{unmarked, Part, partOf, partWith, allParts, joinParts, joinPieces, joinedFile, joinFile, joinResult}
 use Rattle.division.specs.Orders.{Insert, here, there}
 use Rattle.division.specs.Demand.{OnePiece}
 use Rattle.division.proofs.Chunks.{Chunk, mark, chunkBytes, pieceOf, Good, split-bytes, chunks-once}

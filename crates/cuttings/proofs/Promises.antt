@@ -1,26 +1,24 @@
 -- DOCUMENT 02 (vii): each statement of specs/Cuttings.antt, proved. Assumes nothing.
 use Prim.Native.Nat.{ℕ, _≤_}
 use native.Mathlib.Omega.{arith}
-use mathlib.Core.Path.{_≡_, refl, sym, ap, _∙_, subst}
+use mathlib.Core.Path.{_≡_, sym, ap, _∙_, subst}
 use mathlib.Core.Bool.{Bool, true, false, true≢false}
 use mathlib.Core.Logic.{_⊎_, inl, inr}
 use mathlib.Core.List.{List, _++_, append-nil}
-use lib.ListN.{length}
 use Rattle.lists.specs.Lists.{All}
 use Rattle.replies.specs.Replies.{replyOf}
-use Rattle.replies.specs.Results.{Result, replyTo, outputOf}
+use Rattle.replies.specs.Results.{replyTo, outputOf}
 use Rattle.replies.proofs.Results.{gives-refusal}
 use Rattle.notebook.specs.Same.{arrange}
 use Rattle.notebook.specs.Canonical.{writeFile}
 use Rattle.notebook.proofs.Arranging.{arranged-carries}
 use Rattle.ids.specs.Used.{unused}
-use Rattle.ids.specs.Runs.{InRun}
 use Rattle.ids.proofs.Runs.{in-refused}
-use Rattle.division.specs.Demand.{Sound, ListIn, Valid}
+use Rattle.division.specs.Demand.{Sound, ListIn}
 use Rattle.division.proofs.Answers.{numbered, done-told, Wrote, wrote, own-sound, pieces-once}
 use Rattle.division.proofs.Chunks.{mark}
 use Rattle.division.proofs.Own.{Marked, marked}
-use Rattle.cuttings.specs.Cuttings.{Used-exactly, ID-first, File-first, As-before, CutCall, leftBy, InList, PieceFrom, Another-ID, Never-mixed}
+use Rattle.cuttings.specs.Cuttings.{Used-exactly, ID-first, File-first, As-before, CutCall, leftBy, Another-ID, Never-mixed}
 use Rattle.cuttings.proofs.Replies.{file-first, id-first, used-reply, same-result}
 use Rattle.cuttings.proofs.Mixed.{holds-in, two-ids}
 

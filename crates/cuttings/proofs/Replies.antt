@@ -7,7 +7,7 @@ use mathlib.Core.Logic.{_↔_, _⊎_}
 use mathlib.Core.List.{List, []}
 use Rattle.lists.specs.Lists.{Res, ok, refused, mapRes, andThen}
 use Rattle.replies.specs.Replies.{refusal, replyOf}
-use Rattle.replies.specs.Results.{Result, replyTo, outputOf}
+use Rattle.replies.specs.Results.{Result, replyTo}
 use Rattle.replies.proofs.Results.{gives-refusal}
 use Rattle.notebook.specs.Notebook.{Notebook, readFile}
 use Rattle.notebook.specs.Same.{arrange}

@@ -2,10 +2,10 @@
 -- the list is then one computation. Assumes nothing.
 use Prim.Native.Nat.{ℕ, zero, suc}
 use mathlib.Core.Path.{_≡_, refl, ap, _∙_}
-use mathlib.Core.Bool.{false, cond}
+use mathlib.Core.Bool.{false}
 use mathlib.Core.List.{List, [], _∷_, map}
 use lib.ListN.{length}
-use Rattle.lists.specs.Lists.{bytes, Res, ok, refused, mapRes, andThen}
+use Rattle.lists.specs.Lists.{bytes, Res, ok, mapRes, andThen}
 use Rattle.digits.specs.Digits.{value as digitsValue, spell, digitCount}
 use Rattle.characters.specs.Rows.{isLine}
 use Rattle.eras.specs.Day.{leap, monthLength, isReal, isDay}

@@ -76,6 +76,7 @@ fn move_id(text: &mut [u8], from: usize, to: usize)
     }
 }
 
+// Brings a text to its run, from the text's front on. The IDs before the bad one are as many as have been moved.
 pub fn run_of(text: &mut [u8]) -> Ids
     ensures { λ r. ⌜ AtFront r (now (text .exit)) ⌝ }
 {

@@ -1,5 +1,5 @@
-// Reading a descriptor, or a file that the command line names, into a lent buffer. io::read_full answers a short count both where the input ends and where a read fails; here a
-// failure is an answer of its own, so that no program takes a part of a file for the file.
+// Reading a descriptor, or a file that the command line names, into a lent buffer. io::read_full answers a short count both where the input ends
+// and where a read fails; here a failure is an answer of its own, so that no program takes a part of a file for the file.
 ghost use Prim.Native.Nat.{_≤_};
 ghost use lib.ListN.{length};
 ghost use Rattle.inputs.specs.AtFront.{AtFront};

@@ -2,7 +2,7 @@
 use Prim.Native.Nat.{ℕ, _+_, _-_, _≤_, _<_}
 use native.Mathlib.Omega.{arith}
 use mathlib.Core.Path.{_≡_, refl, sym, ap, _∙_, subst}
-use mathlib.Core.Bool.{Bool, true, false, _&&_, and-false}
+use mathlib.Core.Bool.{Bool, true, false, _&&_}
 use mathlib.Core.List.{List, [], _∷_, _++_}
 use lib.Dec.{eqb}
 use lib.ListN.{length, take, drop, getD, length-drop}
@@ -10,7 +10,7 @@ use lib.Seq.{length-take-le, take-all}
 use Rattle.lists.specs.Lists.{same}
 use Rattle.lists.specs.Searching.{part}
 use Rattle.lists.proofs.Tests.{and-same, same-refl, same-true}
-use Rattle.lists.proofs.Parts.{part-length, part-none, part-more, part-join, part-part}
+use Rattle.lists.proofs.Parts.{part-length, part-more, part-join, part-part}
 use Rattle.used.specs.Searching.{EightIn, Compared, Given}
 
 -- ---- one byte more

@@ -1,6 +1,4 @@
 use borrow.Author.Needs.{needs}
-use Prim.Native.Nat.{_-_}
-use lib.ListN.{length}
 use Rattle.cut.proofs.FileLaws.{cut-given, cut-laws}
 use Rattle.cut.proofs.cut_by.Statement.{statement}
 use Rattle.cut.proofs.cut_by.Tie as tie

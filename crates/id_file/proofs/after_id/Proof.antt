@@ -1,6 +1,4 @@
 use borrow.Author.Needs.{needs}
-use Prim.Native.Nat.{_-_}
-use lib.ListN.{length}
 use Rattle.id_file.proofs.PositionLaws.{passed-laws}
 use Rattle.id_file.proofs.after_id.Statement.{statement}
 use Rattle.id_file.proofs.after_id.Tie as tie

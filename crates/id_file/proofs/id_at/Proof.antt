@@ -1,6 +1,4 @@
 use borrow.Author.Needs.{needs}
-use Prim.Native.Nat.{_-_}
-use lib.ListN.{length}
 use Rattle.id_file.proofs.PositionLaws.{id-laws}
 use Rattle.id_file.proofs.id_at.Statement.{statement}
 use Rattle.id_file.proofs.id_at.Tie as tie

@@ -1,6 +1,4 @@
 use borrow.Author.Needs.{needs}
-use Prim.Native.Nat.{_-_}
-use lib.ListN.{length}
 use Rattle.id_file.proofs.PositionLaws.{run-at-front}
 use Rattle.notecut.proofs.cut_with_ids.Statement.{statement}
 use Rattle.notecut.proofs.cut_with_ids.Tie as tie

@@ -1,6 +1,5 @@
 use borrow.Author.Needs.{needs}
 use Prim.Native.Nat.{_-_}
-use lib.ListN.{length}
 use Prim.Native.Nat.{_-_}
 use Rattle.used.specs.Searching.{Compared}
 use Rattle.used.proofs.EightLaws.{eight-laws}

@@ -1,6 +1,4 @@
 use borrow.Author.Needs.{needs}
-use Prim.Native.Nat.{_-_}
-use lib.ListN.{length}
 use Rattle.used.proofs.EightLaws.{id-laws}
 use Rattle.used.proofs.stands_at.Statement.{statement}
 use Rattle.used.proofs.stands_at.Tie as tie
