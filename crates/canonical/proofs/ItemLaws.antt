@@ -21,7 +21,7 @@ use Rattle.calendar.specs.declared.Day.{Day}
 use Rattle.calendar.specs.Era.{readDay}
 use Rattle.calendar.specs.Form.{TellsForm}
 use Rattle.eras.specs.Era.{writeDay}
-use Rattle.records.specs.Table.{Kind, N, U, X, A, F, C, P, R, W, Q, D, among}
+use Rattle.records.specs.Table.{Kind, N, U, X, K, A, F, C, P, R, W, Q, D, among}
 use Rattle.records.specs.Items.{raw, writeValue, numberFault, numberValue, dayFault, dayValue, unhyphened, seven, postal, fault, valueOf}
 use Rattle.records.specs.Records.{itemValue}
 use Rattle.items.specs.Codes.{setOf, kindOf}
@@ -137,7 +137,7 @@ one-spelling s k m p r d =
     rw (ne-eqb k 6 p, ne-eqb k 7 r, ne-eqb k 10 d)
     (either-kind (eqb k 0) (kept (N m) refl) (either-kind (eqb k 1) (kept (U m) refl) (either-kind (eqb k 2) (kept (X m) refl)
     (either-kind (eqb k 3) (kept A refl) (either-kind (eqb k 4) (kept F refl) (either-kind (eqb k 5) (kept C refl)
-    (either-kind (eqb k 8) (kept W refl) (either-kind (eqb k 9) (kept Q refl) (kept (among (setOf m)) refl)))))))))
+    (either-kind (eqb k 8) (kept W refl) (either-kind (eqb k 9) (kept Q refl) (either-kind (eqb k 12) (kept (K m) refl) (kept (among (setOf m)) refl))))))))))
   where
     kept : (x : Kind) → valueOf x s ≡ raw s → OneSpelling s x
     kept x e = record { is = e }

@@ -1,5 +1,5 @@
 -- No character has a 0Dh, 0Ah or 1Ah in it, so characters are clean. Assumes nothing.
-use Prim.Native.Nat.{ℕ, _≤_}
+use Prim.Native.Nat.{ℕ, _+_, _≤_}
 use mathlib.Core.Path.{_≡_, refl}
 use mathlib.Core.Bool.{Bool, true, false, cond, _&&_, _||_, false≢true}
 use mathlib.Core.Logic.{⊎-elim}
@@ -9,9 +9,11 @@ use borrow.Author.Tests.{leb-true, ne-eqb}
 use lib.Dec.{leb}
 use Rattle.lists.specs.Lists.{within}
 use Rattle.lists.proofs.Tests.{both, either}
-use Rattle.characters.specs.Cells.{isOne, isPair, isTrail, isLead}
+use Rattle.characters.specs.Cells.{isOne, isTrail, isLead, leadRow, trailRow, trailCell, cellScript, trailScript, pairScript, isChar}
+use Rattle.characters.specs.declared.Char.{Char}
+use Rattle.characters.specs.declared.Char.the-variants.{Bad}
 use Rattle.characters.specs.Text.{allChars, isStop}
-use Rattle.characters.specs.Scanning.{clean}
+use Rattle.characters.specs.Scanning.{isPair, clean}
 
 -- a byte from 20h on
 high-go : (b : ℕ) → 0x20 ≤ b → isStop b ≡ false
@@ -28,8 +30,13 @@ pub one-go : (a : ℕ) → isOne a ≡ true → isStop a ≡ false
 one-go a e = high-go a (from 0x20 0xa1 0x7e 0xdf a (omega arith) (omega arith) e)
 
 pub pair-parts : (a b : ℕ) → isPair a b ≡ true → (isLead a ≡ true) × (isTrail b ≡ true)
-unfolding isPair
-pair-parts a b e = both (isLead a) (isTrail b) (both (isLead a && isTrail b) _ e .0)
+unfolding pairScript trailScript
+pair-parts a b e = go (isLead a) (isTrail b) (cellScript (leadRow a + trailRow b) (trailCell b)) e
+  where
+    go : (x y : Bool) (k : Char) → isChar (cond x (cond y k Bad) Bad) ≡ true → (x ≡ true) × (y ≡ true)
+    go true true k e = (refl, refl)
+    go true false k e = absurd (false≢true e)
+    go false y k e = absurd (false≢true e)
 
 pub pair-go : (a b : ℕ) → isPair a b ≡ true → (isStop a ≡ false) × (isStop b ≡ false)
 pair-go a b e =

@@ -1,9 +1,11 @@
 -- Definitions, to be believed.
--- One Shift_JIS character, by row and cell. Document 01, "Lines and characters"; 15-106 3.2.5 (JIS X 0208-1983).
+-- One Shift_JIS character, by row and cell, and its script. Document 01, "Lines and characters"; request (viii); 15-106 3.2.5 (JIS X 0208-1983).
 use Prim.Native.Nat.{ℕ, _+_, _-_, _*_}
-use mathlib.Core.Bool.{Bool, false, cond, _&&_, _||_}
+use mathlib.Core.Bool.{Bool, true, false, cond, _&&_, _||_}
 use lib.Dec.{eqb}
 use Rattle.lists.specs.Lists.{within}
+use Rattle.characters.specs.declared.Char.{Char}
+use Rattle.characters.specs.declared.Char.the-variants.{One, Hiragana, Katakana, Either, Other, Bad}
 
 -- "rows 1, 16–46, 48–83 all 94"
 unfoldable pub fullRow : ℕ → Bool
@@ -35,6 +37,13 @@ unfoldable pub allowed : ℕ → ℕ → Bool
 unfolding fullRow partRow
 allowed r c = cond (fullRow r) (within 1 94 c) (partRow r c)
 
+-- (viii) "hiragana (row 4)", "katakana (row 5)"; "8140h and 815Bh", row 1, cells 1 and 28, "are allowed with either two-byte script"; Bad: not allowed
+unfoldable pub cellScript : ℕ → ℕ → Char
+cellScript r c =
+    cond (allowed r c)
+    (cond (eqb r 4) Hiragana (cond (eqb r 5) Katakana (cond (eqb r 1 && (eqb c 1 || eqb c 28)) Either Other)))
+    Bad
+
 -- "Row is 2×(L−81h)+1 for L 81h–9Fh, 2×(L−C1h)+1 for L E0h–EFh", but for the trail's part in it
 abbrev pub isLead : ℕ → Bool
 isLead a = within 0x81 0x9f a || within 0xe0 0xef a
@@ -60,6 +69,38 @@ trailCell b =
 abbrev pub isOne : ℕ → Bool
 isOne a = within 0x20 0x7e a || within 0xa1 0xdf a
 
--- "or lead L and trail T"
-unfoldable pub isPair : ℕ → ℕ → Bool
-isPair a b = isLead a && isTrail b && allowed (leadRow a + trailRow b) (trailCell b)
+-- a trail after a lead, by the row that the lead tells
+unfoldable pub trailScript : ℕ → ℕ → Char
+trailScript r b = cond (isTrail b) (cellScript (r + trailRow b) (trailCell b)) Bad
+
+-- "or lead L and trail T"; (viii) "The reading of one character therefore tells its script too"
+unfoldable pub pairScript : ℕ → ℕ → Char
+pairScript a b = cond (isLead a) (trailScript (leadRow a) b) Bad
+
+-- ---- what is asked of a character that was read
+
+-- a question, as its answers for the six of Char in their order
+abbrev pub answers : Bool → Bool → Bool → Bool → Bool → Bool → Char → Bool
+answers o h k e x n One = o
+answers o h k e x n Hiragana = h
+answers o h k e x n Katakana = k
+answers o h k e x n Either = e
+answers o h k e x n Other = x
+answers o h k e x n Bad = n
+
+-- one of one byte or of two
+abbrev pub isChar : Char → Bool
+isChar c = answers true true true true true false c
+
+abbrev pub isOneByte : Char → Bool
+isOneByte c = answers true false false false false false c
+
+abbrev pub isTwoByte : Char → Bool
+isTwoByte c = answers false true true true true false c
+
+-- (viii) "The characters 8140h and 815Bh are allowed with either two-byte script"
+abbrev pub isHiragana : Char → Bool
+isHiragana c = answers false true false true false false c
+
+abbrev pub isKatakana : Char → Bool
+isKatakana c = answers false false true true false false c

@@ -4,3 +4,4 @@ pub mod Rows
 pub mod Examples
 pub mod Scanning
 pub mod Count
+pub mod Scripts

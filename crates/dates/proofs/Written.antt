@@ -16,7 +16,7 @@ use Rattle.calendar.specs.declared.DateRead.{DateRead}
 use Rattle.calendar.specs.declared.DateRead.the-variants.{Date, NotADate}
 use Rattle.calendar.specs.Era.{readDay}
 use Rattle.records.specs.Split.{itemsOf}
-use Rattle.records.specs.Table.{Kind, N, U, X, A, F, C, P, R, W, Q, D, among, Item, table}
+use Rattle.records.specs.Table.{Kind, N, U, X, K, A, F, C, P, R, W, Q, D, among, Item, table}
 use Rattle.records.specs.Items.{Value, raw, num, day, writeValue, numberValue, dayValue, valueOf}
 use Rattle.records.specs.Records.{Record, rowIn, tableRow, itemValue, itemsValue, recordFrom, recordOf, write, header}
 use Rattle.records.proofs.LineLaws.{Good, line-read}
@@ -131,6 +131,7 @@ unfolding valueOf
 kind-told (N m) s = tt
 kind-told (U m) s = tt
 kind-told (X m) s = tt
+kind-told (K m) s = tt
 kind-told A s = tt
 kind-told F s = tt
 kind-told C s = tt

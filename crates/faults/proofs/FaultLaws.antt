@@ -18,9 +18,9 @@ use Rattle.calendar.specs.declared.DateRead.{DateRead}
 use Rattle.calendar.specs.declared.DateRead.the-variants.{Date, NotADate}
 use Rattle.calendar.specs.Era.{readDay}
 use Rattle.digits.specs.Digits.{number}
-use Rattle.records.specs.Table.{Kind, N, U, X, A, F, C, P, R, W, Q, D, among, Item, required}
+use Rattle.records.specs.Table.{Kind, N, U, X, K, A, F, C, P, R, W, Q, D, among, Item, required}
 use Rattle.records.specs.Split.{itemsOf}
-use Rattle.records.specs.Items.{edge, oneWidth, isCode, spelledAs, seven, postal, prefecture, isDecimal, numberFault, dayFault, sized, fault}
+use Rattle.records.specs.Items.{edge, oneWidth, oneScript, isCode, spelledAs, seven, postal, prefecture, isDecimal, numberFault, dayFault, sized, fault}
 use Rattle.records.specs.Records.{Record, recordOf, recordFrom, header, itemFault, itemsFault, tableRow, pairs, t911, faultFrom, lineFault}
 use Rattle.order.specs.declared.State.{State}
 use Rattle.order.specs.declared.Facts.{Facts}
@@ -203,6 +203,7 @@ unfolding fault
 fault-item (N m) s = sized-item m s true
 fault-item (U m) s = sized-item m s (oneWidth s)
 fault-item (X m) s = sized-item m s (all isCode s)
+fault-item (K m) s = sized-item m s (oneScript s)
 fault-item A s = unless-item (spelledAs (1 ∷ 2 ∷ 8 ∷ 9 ∷ []) s) 11 (omega arith) (omega arith)
 fault-item F s = unless-item (prefecture s) 11 (omega arith) (omega arith)
 fault-item C s = unless-item (seven s) 11 (omega arith) (omega arith)
@@ -272,6 +273,7 @@ unfolding fault
 fault-form (N m) s e h = absurd (false≢true (sym e))
 fault-form (U m) s e h = absurd (false≢true (sym e))
 fault-form (X m) s e h = absurd (false≢true (sym e))
+fault-form (K m) s e h = absurd (false≢true (sym e))
 fault-form A s e h = unless-form (spelledAs (1 ∷ 2 ∷ 8 ∷ 9 ∷ []) s) h
 fault-form F s e h = unless-form (prefecture s) h
 fault-form C s e h = unless-form (seven s) h

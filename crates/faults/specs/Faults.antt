@@ -12,7 +12,7 @@ use lib.ListN.{length}
 use Rattle.lists.specs.Lists.{same, All, refused, unless}
 use Rattle.characters.specs.Text.{allChars}
 use Rattle.characters.specs.Rows.{rows}
-use Rattle.records.specs.Table.{Kind, N, U, X, A, F, C, P, R, W, Q, D, among, Item}
+use Rattle.records.specs.Table.{Kind, N, U, X, K, A, F, C, P, R, W, Q, D, among, Item}
 use Rattle.records.specs.Split.{itemsOf}
 use Rattle.records.specs.Records.{recordOf, recordFrom, itemFault, itemsFault, tableRow, pairs, t911}
 use Rattle.order.specs.declared.State.{State}
@@ -110,6 +110,7 @@ abbrev pub measured : Kind → Bool
 measured (N m) = true
 measured (U m) = true
 measured (X m) = true
+measured (K m) = true
 measured A = false
 measured F = false
 measured C = false

@@ -2,6 +2,7 @@
 use Prim.Native.Nat.{ℕ, _+_, _-_, _≤_, _<_}
 use mathlib.Core.Path.{_≡_, refl, sym, _∙_}
 use mathlib.Core.Bool.{Bool, true, false, _&&_, false≢true}
+use mathlib.Core.Logic.{_⊎_, inl, inr}
 use mathlib.Core.List.{List, [], _∷_}
 use native.Mathlib.Omega.{arith}
 use borrow.Author.Tests.{eqb-true}
@@ -71,12 +72,13 @@ module _ (m d : ℕ) {k : ℕ} where
   pub fits-q : k ≡ 9 → DigitFits k m d true
   fits-q e = fits (λ _ w _. kind-q m ((48 + d) ∷ []) e (sym (w .quantity)) refl)
 
-  -- the kinds that are left after 8 to 10
-  pub fits-set : {x : Bool} → 8 ≤ k → (k ≡ 8 → ⊥) → (k ≡ 9 → ⊥) → (k ≡ 10 → ⊥) → x ≡ member (setOf m) d → DigitFits k m d x
-  fits-set {x} h h8 h9 h10 p =
+  -- the kinds that are left after 8 to 10 and 12
+  pub fits-set : {x : Bool} → 8 ≤ k → (k ≡ 8 → ⊥) → (k ≡ 9 → ⊥) → ((k ≡ 10) ⊎ (k ≡ 12) → ⊥) → x ≡ member (setOf m) d → DigitFits k m d x
+  fits-set {x} h h8 h9 n p =
       let h9′ : 9 ≤ k = omega (arith, h8) in
       let h10′ : 10 ≤ k = omega (arith, h9) in
+      let h10 : k ≡ 10 → ⊥ = λ e. n (inl e) in
       let h11 : 11 ≤ k = omega (arith, h10) in
-      fits (λ t w _. kind-set m ((48 + d) ∷ []) h11 (sym (w .plain)) p (sym (zero-unless x 11 t)))
+      fits (λ t w _. kind-set m ((48 + d) ∷ []) h11 (λ e. n (inr e)) (sym (w .plain)) p (sym (zero-unless x 11 t)))
 
 pub ruleset fits-laws = (fits-no, fits-a, fits-w, fits-q, fits-set)

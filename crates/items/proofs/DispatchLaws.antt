@@ -18,9 +18,10 @@ use Rattle.calendar.specs.declared.DateRead.the-variants.{Date, NotADate}
 use Rattle.calendar.specs.declared.Day.{Day}
 use Rattle.calendar.specs.Era.{readDay}
 use Rattle.records.specs.Table.{always, fromProvider, optional, required}
-use Rattle.records.specs.Items.{edge, sized, oneWidth, isCode, prefecture, seven, postal, isDecimal, numberFault, dayFault, fault}
+use Rattle.records.specs.Items.{edge, sized, oneWidth, oneScript, isCode, prefecture, seven, postal, isDecimal, numberFault, dayFault, fault}
 use Rattle.records.specs.Records.{itemFault}
 use Rattle.items.specs.Codes.{setOf, kindOf, needOf, itemOf}
+use Rattle.items.specs.Ends.{textForm}
 use Rattle.items.proofs.SetLaws.{set-member, beyond-11}
 
 -- ---- sized
@@ -58,8 +59,8 @@ module _ (m : ℕ) (s : List ℕ) {k r : ℕ} where
   unfolding fault kindOf
   kind-n e q = same-kind 0 e q
 
-  pub kind-u : {x : Bool} → k ≡ 1 → x ≡ oneWidth s → r ≡ sized m s x → r ≡ fault (kindOf k m) s
-  unfolding fault kindOf
+  pub kind-u : {x : Bool} → k ≡ 1 → x ≡ textForm 1 s → r ≡ sized m s x → r ≡ fault (kindOf k m) s
+  unfolding fault kindOf textForm
   kind-u e p q = same-kind 1 e (q ∙ ap (sized m s) p)
 
   pub kind-x : {x : Bool} → k ≡ 2 → x ≡ all isCode s → r ≡ sized m s x → r ≡ fault (kindOf k m) s
@@ -98,9 +99,13 @@ module _ (m : ℕ) (s : List ℕ) {k r : ℕ} where
   unfolding fault kindOf
   kind-d e q = same-kind 10 e q
 
-  pub kind-set : {x : Bool} {n : ℕ} → 11 ≤ k → n ≡ plainNumber s → x ≡ member (setOf m) n → r ≡ unless x 11 → r ≡ fault (kindOf k m) s
+  pub kind-k : {x : Bool} → k ≡ 12 → x ≡ textForm 12 s → r ≡ sized m s x → r ≡ fault (kindOf k m) s
+  unfolding fault kindOf textForm
+  kind-k e p q = same-kind 12 e (q ∙ ap (sized m s) p)
+
+  pub kind-set : {x : Bool} {n : ℕ} → 11 ≤ k → (k ≡ 12 → ⊥) → n ≡ plainNumber s → x ≡ member (setOf m) n → r ≡ unless x 11 → r ≡ fault (kindOf k m) s
   unfolding fault kindOf
-  kind-set h n p q =
+  kind-set h h12 n p q =
       q ∙ ap (λ (b : Bool). unless b 11) (p ∙ ap (member (setOf m)) n ∙ sym (set-member m s))
       ∙ simp (
         ne-eqb k 0 (λ e. omega arith),
@@ -114,10 +119,11 @@ module _ (m : ℕ) (s : List ℕ) {k r : ℕ} where
         ne-eqb k 8 (λ e. omega arith),
         ne-eqb k 9 (λ e. omega arith),
         ne-eqb k 10 (λ e. omega arith),
+        ne-eqb k 12 h12,
       )
 
-  pub kind-else : {x : Bool} {n : ℕ} → (k ≡ 0 → ⊥) → (k ≡ 1 → ⊥) → (k ≡ 2 → ⊥) → (k ≡ 3 → ⊥) → (k ≡ 4 → ⊥) → (k ≡ 5 → ⊥) → (k ≡ 6 → ⊥) → (k ≡ 7 → ⊥) → (k ≡ 8 → ⊥) → (k ≡ 9 → ⊥) → (k ≡ 10 → ⊥) → n ≡ plainNumber s → x ≡ member (setOf m) n → r ≡ unless x 11 → r ≡ fault (kindOf k m) s
-  kind-else h0 h1 h2 h3 h4 h5 h6 h7 h8 h9 h10 n p q = kind-set (beyond-11 k h0 h1 h2 h3 h4 h5 h6 h7 h8 h9 h10) n p q
+  pub kind-else : {x : Bool} {n : ℕ} → (k ≡ 0 → ⊥) → (k ≡ 1 → ⊥) → (k ≡ 2 → ⊥) → (k ≡ 3 → ⊥) → (k ≡ 4 → ⊥) → (k ≡ 5 → ⊥) → (k ≡ 6 → ⊥) → (k ≡ 7 → ⊥) → (k ≡ 8 → ⊥) → (k ≡ 9 → ⊥) → (k ≡ 10 → ⊥) → (k ≡ 12 → ⊥) → n ≡ plainNumber s → x ≡ member (setOf m) n → r ≡ unless x 11 → r ≡ fault (kindOf k m) s
+  kind-else h0 h1 h2 h3 h4 h5 h6 h7 h8 h9 h10 h12 n p q = kind-set (beyond-11 k h0 h1 h2 h3 h4 h5 h6 h7 h8 h9 h10) h12 n p q
 
 -- ---- need, and an item
 

@@ -2,10 +2,10 @@
 use Prim.Native.Nat.{ℕ, zero, suc, _+_, _-_, _/_, _%_, _≤_, _<_}
 use mathlib.Core.Path.{_≡_, refl, sym, ap, _∙_, subst}
 use mathlib.Core.Bool.{Bool, true, false, cond, not, _&&_, _||_, or-true}
-use mathlib.Core.Logic.{⊎-elim}
+use mathlib.Core.Logic.{_⊎_, inl, inr, ⊎-elim}
 use mathlib.Core.List.{List, [], _∷_}
 use native.Mathlib.Omega.{arith}
-use borrow.Author.Tests.{leb-true, le-leb, eqb-true, ne-eqb}
+use borrow.Author.Tests.{leb-true, le-leb, lt-leb, eqb-true, ne-eqb}
 use lib.Dec.{leb, eqb}
 use lib.ListN.{length, getD}
 use Rattle.lists.specs.Lists.{within, all}
@@ -13,16 +13,19 @@ use Rattle.lists.specs.Searching.{part}
 use Rattle.lists.proofs.Parts.{part-length, part-none, part-more, part-at}
 use Rattle.lists.proofs.Tests.{both, either, or-first, within-in, all-append, zero-unless}
 use Rattle.digits.specs.Digits.{isDigit}
-use Rattle.characters.specs.Cells.{isOne}
-use Rattle.scanning.specs.Scans.{RunOf}
+use Rattle.characters.specs.Cells.{isOne, isOneByte}
+use Rattle.characters.specs.Scanning.{bytesOf}
+use Rattle.scanning.specs.declared.Scripts.{Scripts}
+use Rattle.scanning.specs.declared.Run.{Run}
+use Rattle.scanning.specs.Scans.{RunOf, Counted}
 use Rattle.scanning.proofs.RunLaws.{run-none, run-byte}
 use Rattle.records.specs.Table.{required}
-use Rattle.records.specs.Items.{isCode, edge, fault}
+use Rattle.records.specs.Items.{isCode, edge, sized, fault}
 use Rattle.records.specs.Records.{itemFault}
 use Rattle.items.specs.Codes.{kindOf, needOf, itemOf}
-use Rattle.items.specs.Ends.{EndOf, CodeRun, DigitAt, DigitFits}
-use Rattle.items.proofs.TextLaws.{edge-free}
-use Rattle.items.proofs.DispatchLaws.{sized-form, kind-n, kind-x, item-empty, item-some}
+use Rattle.items.specs.Ends.{Within, scriptsFit, textForm, sizedEnd, EndOf, CodeRun, DigitAt, DigitFits}
+use Rattle.items.proofs.TextLaws.{edge-free, edge-clear, scripts-within, scripts-fit}
+use Rattle.items.proofs.DispatchLaws.{sized-form, kind-n, kind-u, kind-k, kind-x, item-empty, item-some}
 
 -- 0 says nothing
 pub end-none : (provider : Bool) (c : ℕ) (s : List ℕ) (a : ℕ) → EndOf provider c s a 0
@@ -71,23 +74,74 @@ module _ (provider : Bool) (c : ℕ) (s : List ℕ) (a : ℕ) {e : ℕ} (v : Run
       short : length (part s a e) ≤ c / 64
       short = omega (arith, part-length s a e (v .low) (v .high))
 
-      -- kind N
-      pub end-text : {x : Bool} → c / 4 % 16 ≡ 0 → x ≡ edge (part s a e) → x ≡ false → EndOf provider c s a e
-      end-text k p q = end-kind (kind-n (c / 64) (part s a e) k (sized-form (c / 64) (part s a e) true short p q refl))
+    -- f: what sized_end said. A kind that asks for its length, no edge and a form that the item has
+    module _ {f : ℕ} (g : f ≡ sizedEnd c s a e) where
+      pub end-sized : (0 ≡ sized (c / 64) (part s a e) true → 0 ≡ fault (kindOf (c / 4 % 16) (c / 64)) (part s a e)) → EndOf provider c s a f
+      unfolding sizedEnd
+      end-sized k = go (leb (e - a) (c / 64)) refl (edge (part s a e)) refl g
+        where
+          go : (x : Bool) → leb (e - a) (c / 64) ≡ x → (y : Bool) → edge (part s a e) ≡ y → f ≡ cond (x && not y) e 0 → EndOf provider c s a f
+          go true p false q r = subst (EndOf provider c s a) (sym r) (end-kind (k (sized-form (c / 64) (part s a e) true (short (leb-true (e - a) (c / 64) p)) (sym q) refl refl)))
+          go true p true q r = subst (EndOf provider c s a) (sym r) (end-none provider c s a)
+          go false p y q r = subst (EndOf provider c s a) (sym r) (end-none provider c s a)
 
-      -- its first and its last byte are of no edge
-      pub end-inner : {x y : Bool} → c / 4 % 16 ≡ 0 → x ≡ (leb 0x28 (getD s a 0) && not (eqb (getD s a 0) 0x81))
-          → y ≡ (leb 0x28 (getD s (e - 1) 0) && not (eqb (getD s (e - 1) 0) 0x40)) → (x && y) ≡ true → EndOf provider c s a e
-      end-inner k p q t =
-          let b : a + 0 ≡ a = omega arith in
-          let l : length (part s a e) ≡ e - a = part-length s a e (v .low) (v .high) in
-          let d : a + (e - a - 1) ≡ e - 1 = omega (arith, v .low) in
-          end-text k
-          (edge-free (part s a e)
-          (sym (part-at s a e 0 (omega (arith, v .low)) ∙ ap (λ (j : ℕ). getD s j 0) b))
-          (sym (ap (λ (j : ℕ). j - 1) l))
-          (sym (part-at s a e (e - a - 1) (omega (arith, v .low)) ∙ ap (λ (j : ℕ). getD s j 0) d)) p q t)
-          refl
+      -- kind N
+      pub end-text : c / 4 % 16 ≡ 0 → EndOf provider c s a f
+      end-text k = end-sized (kind-n (c / 64) (part s a e) k)
+
+      -- kinds U and K: w is what in_form said of the scripts k
+      pub end-script : (k : Scripts) {w : Bool} → (eqb (c / 4 % 16) 1 || eqb (c / 4 % 16) 12) ≡ true → Counted s a e k → w ≡ scriptsFit (c / 4 % 16) k (e - a) → w ≡ true → EndOf provider c s a f
+      end-script k {w} o d p t = ⊎-elim (λ q. u (eqb-true _ _ q)) (λ q. x (eqb-true _ _ q)) (either (eqb (c / 4 % 16) 1) (eqb (c / 4 % 16) 12) o)
+        where
+          form : true ≡ textForm (c / 4 % 16) (part s a e)
+          form = sym t ∙ p ∙ scripts-fit (part s a e) k d (v .chars) (c / 4 % 16) (e - a) (sym (part-length s a e (v .low) (v .high)))
+
+          u : c / 4 % 16 ≡ 1 → EndOf provider c s a f
+          u q = end-sized (λ z. kind-u (c / 64) (part s a e) q (form ∙ ap (λ (n : ℕ). textForm n (part s a e)) q) z)
+
+          x : c / 4 % 16 ≡ 12 → EndOf provider c s a f
+          x q = end-sized (λ z. kind-k (c / 64) (part s a e) q (form ∙ ap (λ (n : ℕ). textForm n (part s a e)) q) z)
+
+-- the scripts of a run are within it
+pub run-within : {s : List ℕ} {a e : ℕ} (k : Scripts) → RunOf s a e → Counted s a e k → Within k (e - a)
+run-within {s} {a} {e} k v d = scripts-within (part s a e) k d (e - a) (sym (part-length s a e (v .low) (v .high)))
+
+-- ---- the ways through sized_end
+
+module _ (c : ℕ) (s : List ℕ) (a : ℕ) (r : Run) where
+  pub sized-no : c / 64 < r .end - a → 0 ≡ sizedEnd c s a (r .end)
+  unfolding sizedEnd
+  sized-no h = sym (rw (lt-leb (r .end - a) (c / 64) h) refl)
+
+  module _ (v : RunOf s a (r .end)) (d : Counted s a (r .end) (r .scripts)) (n : a < r .end) (h : r .end - a ≤ c / 64) where
+    pub sized-clear : (eqb (r .scripts .either) 0 && (eqb (r .scripts .one) 0 || (leb 0x28 (getD s a 0) && leb 0x28 (getD s (r .end - 1) 0)))) ≡ true → r .end ≡ sizedEnd c s a (r .end)
+    unfolding sizedEnd
+    sized-clear t =
+        let e : ℕ = r .end in
+        let p = both (eqb (r .scripts .either) 0) (eqb (r .scripts .one) 0 || (leb 0x28 (getD s a 0) && leb 0x28 (getD s (e - 1) 0))) t in
+        let l : length (part s a e) ≡ e - a = part-length s a e (v .low) (v .high) in
+        let b : a + 0 ≡ a = omega arith in
+        let j : a + (length (part s a e) - 1) ≡ e - 1 = omega (arith, l) in
+        let f : getD (part s a e) 0 0 ≡ getD s a 0 = part-at s a e 0 (omega arith) ∙ ap (λ (j : ℕ). getD s j 0) b in
+        let z : getD (part s a e) (length (part s a e) - 1) 0 ≡ getD s (e - 1) 0 = part-at s a e (length (part s a e) - 1) (omega (arith, l)) ∙ ap (λ (j : ℕ). getD s j 0) j in
+        let o : (bytesOf isOneByte (part s a e) ≡ 0) ⊎ ((0x28 ≤ getD (part s a e) 0 0) × (0x28 ≤ getD (part s a e) (length (part s a e) - 1) 0)) =
+        ⊎-elim
+        (λ x. inl (sym (d .one) ∙ eqb-true _ _ x))
+        (λ x. let q = both (leb 0x28 (getD s a 0)) (leb 0x28 (getD s (e - 1) 0)) x in
+        inr (omega (arith, f, leb-true 0x28 (getD s a 0) (q .0)), omega (arith, z, leb-true 0x28 (getD s (e - 1) 0) (q .1))))
+        (either (eqb (r .scripts .one) 0) (leb 0x28 (getD s a 0) && leb 0x28 (getD s (e - 1) 0)) (p .1)) in
+        let k : edge (part s a e) ≡ false = edge-clear (part s a e) (v .chars) (sym (d .either) ∙ eqb-true _ _ (p .0)) (omega (arith, l)) o in
+        sym (rw (le-leb (e - a) (c / 64) h, k) refl)
+
+    pub sized-edged : {x : Bool} → x ≡ edge (part s a (r .end)) → x ≡ true → 0 ≡ sizedEnd c s a (r .end)
+    unfolding sizedEnd
+    sized-edged p t = sym (rw (le-leb (r .end - a) (c / 64) h, sym p ∙ t) refl)
+
+    pub sized-plain : {x : Bool} → x ≡ edge (part s a (r .end)) → x ≡ false → r .end ≡ sizedEnd c s a (r .end)
+    unfolding sizedEnd
+    sized-plain p t = sym (rw (le-leb (r .end - a) (c / 64) h, sym p ∙ t) refl)
+
+pub ruleset sized-laws = (sized-no, sized-clear, sized-edged, sized-plain)
 
 -- ---- codes
 
@@ -206,9 +260,9 @@ pub ruleset blank-laws = (blank-none, blank-here)
 
 pub ruleset code-item-laws = (end-none, code-blank, code-fine)
 
-pub ruleset text-item-laws = (end-none, end-blank, end-text, end-inner)
+pub ruleset text-item-laws = (end-none, end-blank, end-text)
 
-pub ruleset wide-item-laws = (end-none, end-fine)
+pub ruleset script-item-laws = (end-none, end-blank, end-script, run-within)
 
 -- the bytes of a code are a run
 pub run-fine : (provider : Bool) (c : ℕ) (s : List ℕ) (a : ℕ) {e : ℕ} → CodeRun s a e → {f : ℕ} → f ≡ itemFault (provider) (itemOf c) (part s a e) → f ≡ 0 → EndOf provider c s a e

@@ -5,7 +5,7 @@ use mathlib.Core.Bool.{cond}
 use mathlib.Core.List.{List, [], _∷_}
 use lib.Dec.{eqb}
 use lib.ListN.{getD}
-use Rattle.records.specs.Table.{Kind, N, U, X, A, F, C, P, R, W, Q, D, among, Need, always, fromProvider, optional, Item, forms}
+use Rattle.records.specs.Table.{Kind, N, U, X, K, A, F, C, P, R, W, Q, D, among, Need, always, fromProvider, optional, Item, forms}
 
 -- the sets of values in braces, and the authors
 abbrev pub sets : List (List ℕ)
@@ -17,7 +17,7 @@ setOf m = getD sets m []
 unfoldable pub kindOf : ℕ → ℕ → Kind
 kindOf k m =
     cond (eqb k 0) (N m) (cond (eqb k 1) (U m) (cond (eqb k 2) (X m) (cond (eqb k 3) A (cond (eqb k 4) F (cond (eqb k 5) C
-    (cond (eqb k 6) P (cond (eqb k 7) R (cond (eqb k 8) W (cond (eqb k 9) Q (cond (eqb k 10) D (among (setOf m))))))))))))
+    (cond (eqb k 6) P (cond (eqb k 7) R (cond (eqb k 8) W (cond (eqb k 9) Q (cond (eqb k 10) D (cond (eqb k 12) (K m) (among (setOf m)))))))))))))
 
 abbrev pub needOf : ℕ → Need
 needOf n = cond (eqb n 0) always (cond (eqb n 1) fromProvider optional)

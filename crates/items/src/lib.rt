@@ -1,20 +1,21 @@
 // The kinds of items: whether an item may be as it is. One small function a kind, then the dispatch by the kind's number.
 // Definitions: `fault` in records, specs/Items.antt; the numbers of kinds: specs/Codes.antt. A new kind is a function here, an arm
-// of `kind_fault` and a clause of `kindOf`.
+// of `kind_fault` and a clause of `kindOf`. What a kind asks of characters (their width, their script, a blank at an end) it asks of the scripts
+// that the reading of the characters tells.
 ghost use mathlib.Core.Path.{_≡_};
-ghost use mathlib.Core.Bool.{cond, not, _&&_};
-ghost use Prim.Native.Nat.{_≤_, _/_, _%_};
+ghost use mathlib.Core.Bool.{true, cond, not, _&&_, _||_};
+ghost use Prim.Native.Nat.{_+_, _≤_, _<_, _/_, _%_};
 ghost use lib.Dec.{leb, eqb};
 ghost use lib.ListN.{length};
 ghost use Rattle.lists.specs.Lists.{all, member as memberOf, unless as unlessOf};
 ghost use Rattle.digits.specs.Digits.{number};
-ghost use Rattle.characters.specs.Cells.{isOne};
+ghost use Rattle.scanning.specs.Scans.{RunOf, Counted};
 ghost use Rattle.calendar.specs.Era.{readDay};
 ghost use Rattle.records.specs.Table.{required as requiredOf};
-ghost use Rattle.records.specs.Items.{isCode, allPairs, endsWide, oneWidth as oneWidthOf, edge as edgeOf, seven as sevenOf, unhyphened, postal as postalOf, prefecture as prefectureOf, wholePart as wholeOf, fractionPart as placesOf, fraction as fractionOf, isDecimal as decimalOf, sized as sizedOf, fault as faultOf, numberFault, dayFault};
+ghost use Rattle.records.specs.Items.{isCode, endsWide, edge as edgeOf, seven as sevenOf, unhyphened, postal as postalOf, prefecture as prefectureOf, wholePart as wholeOf, fractionPart as placesOf, fraction as fractionOf, isDecimal as decimalOf, sized as sizedOf, fault as faultOf, numberFault, dayFault};
 ghost use Rattle.records.specs.Records.{itemFault};
 ghost use Rattle.items.specs.Codes.{setOf, kindOf, needOf, itemOf};
-ghost use Rattle.items.specs.Ends.{EndOf, SpelledAt, CodeRun, DigitAt, DigitFits};
+ghost use Rattle.items.specs.Ends.{Within, scriptsFit, textForm, sizedEnd, EndOf, SpelledAt, CodeRun, DigitAt, DigitFits};
 
 fn is_code(b: u8) -> bool
     ensures { λ r. ⌜ r ≡ isCode b ⌝ }
@@ -43,45 +44,41 @@ fn all_code(s: &[u8]) -> bool
     true
 }
 
-fn all_one(s: &[u8]) -> bool
-    ensures { λ r. ⌜ r ≡ all isOne (now (s .entry)) ⌝ }
+// Kind U, of n bytes: all one-byte or all two-byte.
+fn one_width(k: scanning::Scripts, n: usize) -> bool
+    ensures { λ r. ⌜ r ≡ eqb (k .one) n || eqb (k .one) 0 ⌝ }
 {
-    let mut i = 0;
-    while i < s.len() {
-        let b = s[i];
-        if scanning::is_one(b) {
-            i += 1;
-        } else {
-            return false;
-        }
-    }
-    true
+    (k.one == n) | (k.one == 0)
 }
 
-fn all_pairs(s: &[u8]) -> bool
-    ensures { λ r. ⌜ r ≡ allPairs (now (s .entry)) ⌝ }
+// Kind K, of n bytes: all one-byte, or all of one kana script with what both have.
+fn one_script(k: scanning::Scripts, n: usize) -> bool
+    requires { ⌜ Within k n ⌝ }
+    ensures { λ r. ⌜ r ≡ eqb (k .one) n || eqb (k .hiragana + k .either) n || eqb (k .katakana + k .either) n ⌝ }
 {
-    let mut i = 0;
-    while i < s.len() {
-        let next = i + 1;
-        if s.len() <= next {
-            return false;
-        }
-        let a = s[i];
-        let b = s[next];
-        if scanning::is_pair(a, b) {
-            i += 2;
-        } else {
-            return false;
-        }
-    }
-    true
+    (k.one == n) | (k.hiragana + k.either == n) | (k.katakana + k.either == n)
 }
 
-fn one_width(s: &[u8]) -> bool
-    ensures { λ r. ⌜ r ≡ oneWidthOf (now (s .entry)) ⌝ }
+// Whether characters of n bytes may stand in an item of kind U or K, by the kind's number.
+fn in_form(kind: usize, k: scanning::Scripts, n: usize) -> bool
+    requires { ⌜ Within k n ⌝ }
+    ensures { λ r. ⌜ r ≡ scriptsFit kind k n ⌝ }
 {
-    all_one(s) | all_pairs(s)
+    if kind == 1 {
+        return one_width(k, n);
+    }
+    one_script(k, n)
+}
+
+// The same of a whole item.
+fn text_form(kind: usize, s: &[u8]) -> bool
+    ensures { λ r. ⌜ r ≡ textForm kind (now (s .entry)) ⌝ }
+{
+    let t = scanning::scripts_of(s);
+    if t.good {
+        return in_form(kind, t.scripts, s.len());
+    }
+    false
 }
 
 // Whether the last character is 8140h. In 8Ah 81h 40h these two bytes are the trail of a kanji and @: no character ends before them.
@@ -93,17 +90,10 @@ fn ends_wide(s: &[u8]) -> bool
     let m = lists::before(lists::before(n));
     let y = lists::byte_at(s, m);
     let z = lists::byte_at(s, lists::before(n));
-    if (y == 0x81) & (z == 0x40) {
+    if scanning::is_blank_pair(y, z) {
         return scanning::all_chars(&s[start..m]);
     }
     false
-}
-
-// A first or last byte that is of no edge, whatever stands beside it; x: the byte of 8140h that may stand there.
-fn inner(b: u8, x: u8) -> bool
-    ensures { λ r. ⌜ r ≡ leb 0x28 b && not (eqb b x) ⌝ }
-{
-    (0x28 <= b) & !(b == x)
 }
 
 fn edge(s: &[u8]) -> bool
@@ -111,14 +101,12 @@ fn edge(s: &[u8]) -> bool
 {
     let n = s.len();
     let a = lists::byte_at(s, 0);
-    let z = lists::byte_at(s, lists::before(n));
-    if inner(a, 0x81) & inner(z, 0x40) {
-        return false;
-    }
     let b = lists::byte_at(s, 1);
+    let z = lists::byte_at(s, lists::before(n));
+    let blank = scanning::is_blank_pair(a, b);
     let wide = ends_wide(s);
     (a == 0x20)
-        | ((a == 0x81) & (b == 0x40))
+        | blank
         | (z == 0x20)
         | wide
         | ((2 <= n) & ((a == 0x22) & (z == 0x22)))
@@ -225,7 +213,7 @@ pub fn unless(good: bool, n: u8) -> u8
     if good { 0 } else { n }
 }
 
-// The kinds N, U and X: too long, then an edge, then the form.
+// The kinds N, U, X and K: too long, then an edge, then the form.
 fn sized(m: usize, s: &[u8], good: bool) -> u8
     ensures { λ r. ⌜ r ≡ sizedOf m (now (s .entry)) good ⌝ }
 {
@@ -260,7 +248,7 @@ fn kind_fault(k: usize, m: usize, s: &[u8]) -> u8
 {
     match k {
         0 => sized(m, s, true),
-        1 => sized(m, s, one_width(s)),
+        1 => sized(m, s, text_form(1, s)),
         2 => sized(m, s, all_code(s)),
         3 => unless(member(7, digits::plain_number(s)), 11),
         4 => unless(prefecture(s), 11),
@@ -270,6 +258,7 @@ fn kind_fault(k: usize, m: usize, s: &[u8]) -> u8
         8 => unless(decimal(3, 3, s), 11),
         9 => unless(decimal(6, 5, s), 11),
         10 => day_fault(s),
+        12 => sized(m, s, text_form(12, s)),
         _ => unless(member(m, digits::plain_number(s)), 11),
     }
 }
@@ -319,25 +308,38 @@ fn blank_end(c: usize, provider: bool, from: usize) -> usize
     if required(c % 4, provider) { 0 } else { from }
 }
 
+// Where a run that is not empty ends, if it is not too long and has no edge; else 0. A blank or a quote at an end is 8140h, which is of both kana
+// scripts, or a character of one byte below 28h: most runs have neither.
+fn sized_end(c: usize, s: &[u8], from: usize, r: scanning::Run) -> usize
+    requires { ⌜ RunOf (now s) from (r .end) ⌝ }
+    requires { ⌜ Counted (now s) from (r .end) (r .scripts) ⌝ }
+    requires { ⌜ from < r .end ⌝ }
+    ensures { λ e. ⌜ e ≡ sizedEnd c (now (s .entry)) from (r .end) ⌝ }
+{
+    let end = r.end;
+    let k = r.scripts;
+    if c / 64 < end - from {
+        return 0;
+    }
+    let a = s[from];
+    let z = s[end - 1];
+    if (k.either == 0) & ((k.one == 0) | ((0x28 <= a) & (0x28 <= z))) {
+        return end;
+    }
+    if edge(&s[from..end]) { 0 } else { end }
+}
+
 // Kind N: too long, then an edge.
 fn text_item(c: usize, provider: bool, s: &[u8], from: usize) -> usize
     requires { ⌜ from ≤ length (now s) ⌝ }
     requires { ⌜ c / 4 % 16 ≡ 0 ⌝ }
     ensures { λ r. ⌜ EndOf (provider) c (now (s .entry)) from r ⌝ }
 {
-    let end = scanning::run_end(s, from);
-    if end == from {
+    let r = scanning::run_at(s, from);
+    if r.end == from {
         return blank_end(c, provider, from);
     }
-    if c / 64 < end - from {
-        return 0;
-    }
-    let a = s[from];
-    let z = s[end - 1];
-    if inner(a, 0x81) & inner(z, 0x40) {
-        return end;
-    }
-    if edge(&s[from..end]) { 0 } else { end }
+    sized_end(c, s, from, r)
 }
 
 // Kind X: a code has no edge, so its length and whether it must not be empty are all that is left to look at.
@@ -353,14 +355,22 @@ fn code_item(c: usize, provider: bool, s: &[u8], from: usize) -> usize
     if c / 64 < end - from { 0 } else { end }
 }
 
-// Kind U: the run, then its fault.
-fn wide_item(c: usize, provider: bool, s: &[u8], from: usize) -> usize
+// Kinds U and K: the scripts of the run, then as kind N.
+fn script_item(c: usize, provider: bool, s: &[u8], from: usize) -> usize
     requires { ⌜ from ≤ length (now s) ⌝ }
+    requires { ⌜ (eqb (c / 4 % 16) 1 || eqb (c / 4 % 16) 12) ≡ true ⌝ }
     ensures { λ r. ⌜ EndOf (provider) c (now (s .entry)) from r ⌝ }
 {
-    let end = scanning::run_end(s, from);
-    let f = item_fault(c, provider, &s[from..end]);
-    if f == 0 { end } else { 0 }
+    let r = scanning::run_at(s, from);
+    let end = r.end;
+    let k = r.scripts;
+    if end == from {
+        return blank_end(c, provider, from);
+    }
+    if in_form(c / 4 % 16, k, end - from) {
+        return sized_end(c, s, from, r);
+    }
+    0
 }
 
 // Any other kind: its bytes are those of a code (digits, a period, a hyphen, an era's letter), so that the run of these is looked at.
@@ -400,7 +410,7 @@ fn digit_fits(k: usize, m: usize, d: u32) -> bool
         3 => member(7, d),
         8 => true,
         9 => true,
-        0 | 1 | 2 | 4 | 5 | 6 | 7 | 10 => false,
+        0 | 1 | 2 | 4 | 5 | 6 | 7 | 10 | 12 => false,
         _ => member(m, d),
     }
 }
@@ -478,14 +488,14 @@ pub fn item_end(c: usize, provider: bool, s: &[u8], from: usize) -> usize
     if kind == 7 {
         return number_item(c, provider, s, from);
     }
-    if kind == 1 {
-        return wide_item(c, provider, s, from);
-    }
     let d = digit_at(s, from);
     if d <= 9 {
         if digit_fits(kind, c / 64, d) {
             return from + 1;
         }
+    }
+    if (kind == 1) | (kind == 12) {
+        return script_item(c, provider, s, from);
     }
     other_item(c, provider, s, from)
 }

@@ -14,7 +14,7 @@ use Rattle.digits.specs.Digits.{number}
 use Rattle.calendar.specs.declared.DateRead.{DateRead}
 use Rattle.calendar.specs.declared.DateRead.the-variants.{Date, NotADate}
 use Rattle.calendar.specs.Era.{readDay}
-use Rattle.records.specs.Table.{Kind, N, U, X, A, F, C, P, R, W, Q, D, among, Item, Row, table, fromProvider, optional}
+use Rattle.records.specs.Table.{Kind, N, U, X, K, A, F, C, P, R, W, Q, D, among, Item, Row, table, fromProvider, optional}
 use Rattle.records.specs.Items.{Value, raw, num, day, valueOf, numberValue, dayValue}
 use Rattle.records.specs.Records.{Record, itemValue, itemsValue, nth, isEmpty, codePair, formPair, pairs}
 use Rattle.items.specs.Codes.{kindOf}
@@ -63,6 +63,7 @@ tag : Kind → ℕ
 tag (N m) = 0
 tag (U m) = 0
 tag (X m) = 0
+tag (K m) = 0
 tag A = 0
 tag F = 0
 tag C = 0
@@ -103,6 +104,7 @@ unfolding valueOf isR isD tag rpRaw dayRaw
 value-first (N m) s = kept (N m) s s refl refl
 value-first (U m) s = kept (U m) s s refl refl
 value-first (X m) s = kept (X m) s s refl refl
+value-first (K m) s = kept (K m) s s refl refl
 value-first A s = kept A s s refl refl
 value-first F s = kept F s s refl refl
 value-first C s = kept C s s refl refl

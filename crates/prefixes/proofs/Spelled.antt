@@ -11,7 +11,7 @@ use borrow.Author.Tests.{le-leb}
 use Rattle.lists.specs.Lists.{bytes, empty, all, All}
 use Rattle.digits.specs.Digits.{isDigit, value as digitsValue, number, spell, digitCount}
 use Rattle.digits.proofs.Numbers.{number-spell, digits-spell, length-spell, some-digit}
-use Rattle.characters.specs.Cells.{fullRow, partRow, allowed, isPair}
+use Rattle.characters.specs.Cells.{fullRow, partRow, allowed, cellScript, trailScript, pairScript}
 use Rattle.characters.specs.Text.{allChars}
 use Rattle.eras.specs.Day.{leap, monthLength, isReal, isDay}
 use Rattle.calendar.specs.Day.{gregorian}
@@ -20,7 +20,7 @@ use Rattle.calendar.specs.Era.{inEra, fromEra, readDay}
 use Rattle.calendar.proofs.Laws.{Plain}
 use Rattle.records.specs.Table.{table}
 use Rattle.records.specs.Split.{itemsOf, joined}
-use Rattle.records.specs.Items.{edge, oneWidth, prefecture, isDecimal, sized, fault, valueOf}
+use Rattle.records.specs.Items.{edge, oneWidth, oneScript, prefecture, isDecimal, sized, fault, valueOf}
 use Rattle.records.specs.Records.{Record, itemFault, itemValue, itemsFault, itemsValue, rowIn, tableRow, codePair, formPair, pairs, t911, recordFrom, faultFrom, lineFault, recordOf, 日分}
 use Rattle.records.specs.Reading.{Read, readLine}
 use Rattle.order.specs.declared.Facts.{Facts}
@@ -48,7 +48,7 @@ one = number-spell 1 (omega arith)
 
 -- records without an RP value
 fixed : (o : Bool) → Line o (rec 1 plain) × Line o (rec 5 dated) × Line o (rec 11 medical) × Line o (rec 411 plain)
-unfolding bytes digitsValue spell leap monthLength isReal isDay gregorian eraOf eraOn inEra fromEra readDay table edge oneWidth prefecture isDecimal sized fault valueOf itemFault itemValue itemsFault itemsValue rowIn tableRow codePair formPair pairs t911 recordFrom faultFrom lineFault recordOf readLine factsOf
+unfolding bytes digitsValue spell leap monthLength isReal isDay gregorian eraOf eraOn inEra fromEra readDay table edge oneWidth oneScript prefecture isDecimal sized fault valueOf itemFault itemValue itemsFault itemsValue rowIn tableRow codePair formPair pairs t911 recordFrom faultFrom lineFault recordOf readLine factsOf
 fixed o = (
   record { line = bytes "1,A,1,19890108,,,,,,,"; rec′ = _; read = refl; facts = refl; short = omega arith },
   record { line = bytes "5,19890108,1"; rec′ = _; read = refl; facts = refl; short = omega arith },
@@ -74,15 +74,15 @@ items301 = bytes "A" ∷ bytes "1" ∷ 日分 ∷ bytes "1" ∷ bytes "1" ∷ []
 
 module _ (v : ℕ) (s : List ℕ) (filled : empty s ≡ false) (is : number s ≡ some v) (lo : leb 1 v ≡ true) where
   fault-rp : (o : Bool) → (faultFrom o (bytes "201" ∷ s ∷ items201) ≡ 0) × (faultFrom o (bytes "301" ∷ s ∷ items301) ≡ 0)
-  unfolding bytes spell table edge oneWidth prefecture isDecimal sized fault valueOf itemFault itemValue itemsFault itemsValue rowIn tableRow codePair formPair pairs t911 recordFrom faultFrom factsOf
+  unfolding bytes spell table edge oneWidth oneScript prefecture isDecimal sized fault valueOf itemFault itemValue itemsFault itemsValue rowIn tableRow codePair formPair pairs t911 recordFrom faultFrom factsOf
   fault-rp o = (rw (filled, is, lo), rw (filled, is, lo, one))
 
   facts-rp : (factsOf (recordFrom (bytes "201" ∷ s ∷ items201)) ≡ rec 201 (ofRp v)) × (factsOf (recordFrom (bytes "301" ∷ s ∷ items301)) ≡ rec 301 (used v))
-  unfolding bytes spell table edge oneWidth prefecture isDecimal sized fault valueOf itemFault itemValue itemsFault itemsValue rowIn tableRow codePair formPair pairs t911 recordFrom faultFrom factsOf
+  unfolding bytes spell table edge oneWidth oneScript prefecture isDecimal sized fault valueOf itemFault itemValue itemsFault itemsValue rowIn tableRow codePair formPair pairs t911 recordFrom faultFrom factsOf
   facts-rp = (rw (filled, is), rw (filled, is, one))
 
 days-chars : allChars 日分 ≡ true
-unfolding fullRow partRow allowed isPair
+unfolding fullRow partRow allowed cellScript trailScript pairScript
 days-chars = refl
 
 module _ (v : ℕ) (lo : 1 ≤ v) (hi : v ≤ 999) where

@@ -19,7 +19,7 @@ use Rattle.calendar.specs.declared.DateRead.the-variants.{Date, NotADate}
 use Rattle.calendar.specs.Era.{readDay}
 use Rattle.eras.specs.Era.{writeDay}
 use Rattle.calendar.proofs.Laws.{Plain, read-write, read-is-day, write-shortest, write-plain, write-length}
-use Rattle.records.specs.Table.{Kind, N, U, X, A, F, C, P, R, W, Q, D, among}
+use Rattle.records.specs.Table.{Kind, N, U, X, K, A, F, C, P, R, W, Q, D, among}
 use Rattle.records.specs.Items.{Value, raw, writeValue, numberFault, numberValue, dayFault, dayValue, seven, unhyphened, postal, fault, valueOf}
 
 -- v is what the item s of kind k is read to
@@ -107,6 +107,7 @@ unfolding fault valueOf
 good (N m) s h = kept (N m) s refl h
 good (U m) s h = kept (U m) s refl h
 good (X m) s h = kept (X m) s refl h
+good (K m) s h = kept (K m) s refl h
 good A s h = kept A s refl h
 good F s h = kept F s refl h
 good C s h = kept C s refl h

@@ -10,7 +10,9 @@ use lib.ListN.{length, length-append}
 use Rattle.lists.specs.Lists.{All}
 use Rattle.lists.proofs.Tests.{both}
 use Rattle.calendar.proofs.Laws.{Plain}
-use Rattle.characters.specs.Cells.{isOne, isPair}
+use Rattle.characters.specs.declared.Char.the-variants.{Bad}
+use Rattle.characters.specs.Cells.{isOne, isLead, trailScript, pairScript, isChar}
+use Rattle.characters.specs.Scanning.{isPair}
 use Rattle.characters.specs.Text.{allChars}
 use Rattle.records.specs.Split.{itemsOf, joined}
 
@@ -84,8 +86,12 @@ joined-length h (s ∷ ss) = omega (arith, length-append h (0x2c ∷ joined s ss
 -- ---- characters: a comma is a character of one byte and no trail
 
 no-pair : (a : ℕ) → isPair a 0x2c ≡ false
-unfolding isPair
-no-pair a = simp and-false
+unfolding pairScript trailScript
+no-pair a = go (isLead a)
+  where
+    go : (x : Bool) → isChar (cond x Bad Bad) ≡ false
+    go true = refl
+    go false = refl
 
 chars-comma : (t : List ℕ) → allChars (0x2c ∷ t) ≡ allChars t
 chars-comma [] = refl

@@ -1,13 +1,13 @@
 -- Examples, computed.
 -- Items, record lines and lines 1, each with its fault as document 01 gives it ("Lines and characters", "Items", "Records", "Pairs", refusal 10,
--- "Mistakes to exclude"). Written from the paper; proofs/Cases.antt computes them by the definitions. Days and doses are in division, specs/Cases.antt.
+-- "Mistakes to exclude") and request (viii). Written from the paper; proofs/Cases.antt computes them by the definitions. Days and doses are in division, specs/Cases.antt.
 use Prim.Native.Nat.{ℕ}
 use Prim.Native.String.{String}
 use mathlib.Core.Bool.{Bool, true, false, _&&_, _||_, Bool·beq}
 use mathlib.Core.List.{List, [], _∷_, _++_}
 use lib.Dec.{eqb}
 use Rattle.lists.specs.Lists.{bytes, same}
-use Rattle.records.specs.Table.{Kind, N, U, X, A, F, C, P, R, W, Q, among}
+use Rattle.records.specs.Table.{Kind, N, U, X, K, A, F, C, P, R, W, Q, among}
 use Rattle.records.specs.Items.{fault, valueOf, writeValue}
 use Rattle.records.specs.Records.{lineFault, header, isMark}
 
@@ -21,12 +21,25 @@ pub data Case : Type 0 where
   -- an item, and how its value is written
   written : Kind → List ℕ → List ℕ → Case
 
--- ---- bytes of Shift_JIS: a wide space, a katakana, a kanji whose trail is 81h, and the units of the paper
+-- ---- bytes of Shift_JIS: a wide space, a long mark, a katakana, a hiragana, a kanji whose trail is 81h, the letter A in two bytes (row 3), alpha (row 6), and
+-- the units of the paper
 abbrev pub space : List ℕ
 space = 0x81 ∷ 0x40 ∷ []
 
 abbrev pub kana : List ℕ
 kana = 0x83 ∷ 0x41 ∷ []
+
+abbrev pub long : List ℕ
+long = 0x81 ∷ 0x5b ∷ []
+
+abbrev pub hira : List ℕ
+hira = 0x82 ∷ 0xa0 ∷ []
+
+abbrev pub wideA : List ℕ
+wideA = 0x82 ∷ 0x60 ∷ []
+
+abbrev pub alpha : List ℕ
+alpha = 0x83 ∷ 0xbf ∷ []
 
 abbrev pub kanji : List ℕ
 kanji = 0x8a ∷ 0x81 ∷ []
@@ -59,6 +72,20 @@ cases =
     item (N 3) (kana ++ bytes "A") 0 ∷ item (N 2) (bytes "abc") 9 ∷
     item (U 40) kana 0 ∷ item (U 40) (kana ++ kana) 0 ∷ item (U 40) (bytes "A B") 0 ∷ item (U 40) (0xb1 ∷ 0x41 ∷ []) 0 ∷
     item (U 40) (kana ++ bytes "A") 11 ∷ item (U 40) (bytes "A" ++ kana) 11 ∷ item (U 40) (bytes "A" ++ space ++ bytes "B") 11 ∷
+    -- (viii) "all one-byte, or all hiragana (row 4), or all katakana (row 5)"
+    item (K 40) (bytes "A B") 0 ∷ item (K 40) (0xb1 ∷ 0x41 ∷ []) 0 ∷ item (K 40) kana 0 ∷ item (K 40) (kana ++ kana) 0 ∷ item (K 40) hira 0 ∷
+    item (K 40) (hira ++ hira) 0 ∷ item (K 40) (kana ++ hira) 11 ∷ item (K 40) (hira ++ kana) 11 ∷ item (K 40) (kana ++ bytes "A") 11 ∷
+    item (K 40) (bytes "A" ++ hira) 11 ∷ item (K 40) (kanji ++ kana) 11 ∷ item (K 40) kanji 11 ∷
+    -- "8140h and 815Bh are allowed with either two-byte script, or by themselves"
+    item (K 40) (kana ++ long) 0 ∷ item (K 40) (long ++ hira) 0 ∷ item (K 40) long 0 ∷ item (K 40) (long ++ long) 0 ∷
+    item (K 40) (kana ++ space ++ kana) 0 ∷ item (K 40) (hira ++ space ++ hira) 0 ∷ item (K 40) (long ++ space ++ long) 0 ∷
+    item (K 40) (hira ++ long ++ kana) 11 ∷ item (K 40) (hira ++ space ++ kana) 11 ∷ item (K 40) (long ++ bytes "A") 11 ∷
+    -- rows 1, 3 and 6 beside the scripts: the dot 8145h, a letter that has the lead of hiragana, and one that has the lead of katakana
+    item (K 40) (kana ++ 0x81 ∷ 0x45 ∷ []) 11 ∷ item (K 40) wideA 11 ∷ item (K 40) (hira ++ wideA) 11 ∷ item (K 40) (kana ++ alpha) 11 ∷
+    -- 9 and 10 come first; the name stays as it was
+    item (K 40) space 10 ∷ item (K 40) (kana ++ space) 10 ∷ item (K 3) (kana ++ hira) 9 ∷ item (K 40) (space ++ kana ++ hira) 10 ∷
+    item (U 40) (kanji ++ kana ++ hira) 0 ∷ line (bytes "1,A,1,19890108,,,,,,," ++ hira ++ kana) 11 ∷ line (bytes "1,A,1,19890108,,,,,,," ++ hira) 0 ∷
+    line (bytes "1," ++ hira ++ kana ++ bytes ",1,19890108,,,,,,,") 0 ∷
     -- "X: A–Z, a–z, 0–9, period, hyphen."
     item (X 13) (bytes "AZaz09.-") 0 ∷ item (X 13) (bytes "A/1") 11 ∷ item (X 13) (bytes "A 1") 11 ∷ item (X 13) (0xb1 ∷ []) 11 ∷
     -- "A author: 1, 2, 8, 9. F prefecture: 01–47. C: seven digits."

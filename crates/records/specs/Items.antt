@@ -13,9 +13,9 @@ use Rattle.calendar.specs.declared.DateRead.{DateRead}
 use Rattle.calendar.specs.declared.DateRead.the-variants.{Date, NotADate}
 use Rattle.calendar.specs.Era.{readDay}
 use Rattle.eras.specs.Era.{writeDay}
-use Rattle.characters.specs.Cells.{isOne, isPair}
-use Rattle.characters.specs.Text.{allChars}
-use Rattle.records.specs.Table.{Kind, N, U, X, A, F, C, P, R, W, Q, D, among}
+use Rattle.characters.specs.Cells.{isOneByte, isTwoByte, isHiragana, isKatakana}
+use Rattle.characters.specs.Text.{charsAre, allChars}
+use Rattle.records.specs.Table.{Kind, N, U, X, K, A, F, C, P, R, W, Q, D, among}
 
 -- "D as days, P as seven digits, R as values, others as bytes"
 pub data Value : Type 0 where
@@ -46,15 +46,14 @@ edge s =
 
 -- ---- the kinds of text
 
--- characters of two bytes and nothing else
-abbrev pub allPairs : List ℕ → Bool
-allPairs [] = true
-allPairs (a ∷ []) = false
-allPairs (a ∷ b ∷ r) = isPair a b && allPairs r
-
 -- U: "text, all one-byte or all two-byte characters"
 unfoldable pub oneWidth : List ℕ → Bool
-oneWidth s = all isOne s || allPairs s
+oneWidth s = charsAre isOneByte s || charsAre isTwoByte s
+
+-- K, request (viii): "all one-byte, or all hiragana (row 4), or all katakana (row 5). The characters 8140h and 815Bh are allowed with either two-byte
+-- script, or by themselves." 15-106 3.2.9, record 1: the kana name
+unfoldable pub oneScript : List ℕ → Bool
+oneScript s = charsAre isOneByte s || charsAre isHiragana s || charsAre isKatakana s
 
 -- X: "A–Z, a–z, 0–9, period, hyphen"
 abbrev pub isCode : ℕ → Bool
@@ -123,7 +122,7 @@ dayValue NotADate = raw []
 
 -- ---- an item that is not empty: its fault, and its value where there is none
 
--- N, U, X: 9, then 10, then 11; "F, C, P, D, A, braces, R, W, Q: only 8 and 11"
+-- N, U, X, K: 9, then 10, then 11; "F, C, P, D, A, braces, R, W, Q: only 8 and 11"
 unfoldable pub sized : ℕ → List ℕ → Bool → ℕ
 sized m s good = unless (leb (length s) m) 9 orElse unless (not (edge s)) 10 orElse unless good 11
 
@@ -131,6 +130,7 @@ unfoldable pub fault : Kind → List ℕ → ℕ
 fault (N m) s = sized m s true
 fault (U m) s = sized m s (oneWidth s)
 fault (X m) s = sized m s (all isCode s)
+fault (K m) s = sized m s (oneScript s)
 fault A s = unless (spelledAs (1 ∷ 2 ∷ 8 ∷ 9 ∷ []) s) 11
 fault F s = unless (prefecture s) 11
 fault C s = unless (seven s) 11
@@ -145,6 +145,7 @@ unfoldable pub valueOf : Kind → List ℕ → Value
 valueOf (N m) s = raw s
 valueOf (U m) s = raw s
 valueOf (X m) s = raw s
+valueOf (K m) s = raw s
 valueOf A s = raw s
 valueOf F s = raw s
 valueOf C s = raw s

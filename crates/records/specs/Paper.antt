@@ -1,13 +1,15 @@
 -- A second statement, proved equal.
--- The table printed as document 01 prints it, and compared with the paper's own text: nobody compares by eye.
+-- The table printed as document 01 prints it, and compared with the papers' own text: nobody compares by eye. Request (viii) gives the last item of
+-- record 1 a rule of its own, for which K stands here: with U for K the table is document 01's, and K is where document 02 has its rule.
 use Prim.Native.Nat.{ℕ}
 use Prim.Native.String.{String}
 use mathlib.Core.Bool.{Bool, true, false, _&&_}
 use mathlib.Core.List.{List, [], _∷_, _++_}
 use lib.Dec.{T, eqb}
+use lib.ListN.{drop}
 use Rattle.lists.specs.Lists.{bytes, same}
 use Rattle.digits.specs.Digits.{spell}
-use Rattle.records.specs.Table.{Kind, N, U, X, A, F, C, P, R, W, Q, D, among, Need, always, fromProvider, optional, Item, Row, table}
+use Rattle.records.specs.Table.{Kind, N, U, X, K, A, F, C, P, R, W, Q, D, among, Need, always, fromProvider, optional, Item, Row, table}
 
 -- ---- printing
 
@@ -17,29 +19,31 @@ list [] = []
 list (n ∷ []) = spell n
 list (n ∷ m ∷ ns) = spell n ++ 44 ∷ list (m ∷ ns)
 
-abbrev pub kindText : Kind → List ℕ
-kindText (N m) = 78 ∷ spell m
-kindText (U m) = 85 ∷ spell m
-kindText (X m) = 88 ∷ spell m
-kindText A = 65 ∷ []
-kindText F = 70 ∷ []
-kindText C = 67 ∷ []
-kindText P = 80 ∷ []
-kindText R = 82 ∷ []
-kindText W = 87 ∷ []
-kindText Q = 81 ∷ []
-kindText D = 68 ∷ []
-kindText (among ns) = 123 ∷ (list ns ++ 125 ∷ [])
+-- k: the letter for the kana name
+abbrev pub kindText : ℕ → Kind → List ℕ
+kindText k (N m) = 78 ∷ spell m
+kindText k (U m) = 85 ∷ spell m
+kindText k (X m) = 88 ∷ spell m
+kindText k (K m) = k ∷ spell m
+kindText k A = 65 ∷ []
+kindText k F = 70 ∷ []
+kindText k C = 67 ∷ []
+kindText k P = 80 ∷ []
+kindText k R = 82 ∷ []
+kindText k W = 87 ∷ []
+kindText k Q = 81 ∷ []
+kindText k D = 68 ∷ []
+kindText k (among ns) = 123 ∷ (list ns ++ 125 ∷ [])
 
 abbrev pub needText : Need → ℕ
 needText always = 33
 needText fromProvider = 43
 needText optional = 63
 
-abbrev pub itemsText : List Item → List ℕ
-itemsText [] = []
-itemsText (i ∷ []) = kindText (i .kind) ++ needText (i .need) ∷ []
-itemsText (i ∷ j ∷ is) = kindText (i .kind) ++ needText (i .need) ∷ 32 ∷ itemsText (j ∷ is)
+abbrev pub itemsText : ℕ → List Item → List ℕ
+itemsText k [] = []
+itemsText k (i ∷ []) = kindText k (i .kind) ++ needText (i .need) ∷ []
+itemsText k (i ∷ j ∷ is) = kindText k (i .kind) ++ needText (i .need) ∷ 32 ∷ itemsText k (j ∷ is)
 
 -- ---- comparing
 
@@ -49,23 +53,27 @@ pub data Printed : Type 0 where
   _∶_ : List ℕ → String → Printed
 
 -- rows, one for each number in turn, that have this text
-abbrev pub taken : List ℕ → List ℕ → List Row → (List Row → Bool) → Bool
-taken [] t rs k = k rs
-taken (n ∷ ns) t [] k = false
-taken (n ∷ ns) t (r ∷ rs) k = (eqb n (r .number) && same (itemsText (r .items)) t) && taken ns t rs k
+abbrev pub taken : ℕ → List ℕ → List ℕ → List Row → (List Row → Bool) → Bool
+taken k [] t rs f = f rs
+taken k (n ∷ ns) t [] f = false
+taken k (n ∷ ns) t (r ∷ rs) f = (eqb n (r .number) && same (itemsText k (r .items)) t) && taken k ns t rs f
 
 abbrev pub isEnd : List Row → Bool
 isEnd [] = true
 isEnd (r ∷ rs) = false
 
-abbrev pub sameTable : List Printed → List Row → Bool
-sameTable [] rs = isEnd rs
-sameTable ((ns ∶ t) ∷ ps) rs = taken ns (bytes t) rs (sameTable ps)
+abbrev pub sameTable : ℕ → List Printed → List Row → Bool
+sameTable k [] rs = isEnd rs
+sameTable k ((ns ∶ t) ∷ ps) rs = taken k ns (bytes t) rs (sameTable k ps)
 
 -- document 01, "Records"
+abbrev pub rowOne : Printed
+rowOne = (1 ∷ []) ∶ "U40! {1,2}! D! P? N800? X13? N800? N20? W? U40?"
+
+-- with document 02 (viii), "The last item of record 1 must be .."
 abbrev pub paper : List Printed
 paper =
-    ((1 ∷ []) ∶ "U40! {1,2}! D! P? N800? X13? N800? N20? W? U40?") ∷
+    ((1 ∷ []) ∶ "U40! {1,2}! D! P? N800? X13? N800? N20? W? K40?") ∷
     ((2 ∷ []) ∶ "{1,2,3,9}! N120! A!") ∷
     ((3 ∷ []) ∶ "N120! D? D? A!") ∷
     ((4 ∷ []) ∶ "N400! D? A!") ∷
@@ -84,7 +92,11 @@ paper =
     ((701 ∷ []) ∶ "N40! N120! N800! D? D? A!") ∷
     []
 
--- THE TABLE IS THE PAPER'S
-pub table-is-the-papers : T (sameTable paper table)
+-- THE TABLE IS THE PAPERS': document 01's with U (85) for the kana name, and document 02's with K (75)
+pub table-is-document-01s : T (sameTable 85 (rowOne ∷ drop 1 paper) table)
+unfolding table bytes spell
+table-is-document-01s = tt
+
+pub table-is-the-papers : T (sameTable 75 paper table)
 unfolding table bytes spell
 table-is-the-papers = tt

@@ -5,9 +5,10 @@ use Prim.Native.Nat.{ℕ}
 use mathlib.Core.Bool.{Bool, true, false}
 use mathlib.Core.List.{List, [], _∷_}
 
--- the kinds, with the most bytes where refusal 9 can be given; among: the values in braces
+-- the kinds, with the most bytes where refusal 9 can be given; K: the kana name of request (viii), for which document 01 has U; among: the values in
+-- braces
 pub data Kind : Type 0 where
-  N U X : ℕ → Kind
+  N U X K : ℕ → Kind
   A F C P R W Q D : Kind
   among : List ℕ → Kind
 
@@ -50,7 +51,7 @@ forms = 1 ∷ 2 ∷ 3 ∷ 4 ∷ 5 ∷ 6 ∷ 7 ∷ 9 ∷ 10 ∷ []
 -- The third item of an 11 and of a 51 is a code of 15-106 appended table 3 (1 medical, 3 dental, 4 dispensing); 3.2.9 lists 1 and 3 for a 51.
 unfoldable pub table : List Row
 table =
-    row 1 (U 40 ! ∷ among (1 ∷ 2 ∷ []) ! ∷ D ! ∷ P ¿ ∷ N 800 ¿ ∷ X 13 ¿ ∷ N 800 ¿ ∷ N 20 ¿ ∷ W ¿ ∷ U 40 ¿ ∷ []) ∷
+    row 1 (U 40 ! ∷ among (1 ∷ 2 ∷ []) ! ∷ D ! ∷ P ¿ ∷ N 800 ¿ ∷ X 13 ¿ ∷ N 800 ¿ ∷ N 20 ¿ ∷ W ¿ ∷ K 40 ¿ ∷ []) ∷
     row 2 (among (1 ∷ 2 ∷ 3 ∷ 9 ∷ []) ! ∷ N 120 ! ∷ author ∷ []) ∷
     row 3 (N 120 ! ∷ D ¿ ∷ D ¿ ∷ author ∷ []) ∷
     row 4 (N 400 ! ∷ D ¿ ∷ author ∷ []) ∷

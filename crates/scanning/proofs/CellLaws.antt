@@ -3,25 +3,38 @@
 use Prim.Native.Nat.{ℕ, _+_, _-_, _*_, _≤_, _<_}
 use mathlib.Core.Path.{_≡_, refl, sym, ap, ap₂, _∙_}
 use mathlib.Core.Bool.{Bool, true, false, cond, not, _&&_, _||_, false≢true, true≢false}
-use mathlib.Core.Logic.{_⊎_, ⊎-elim}
+use mathlib.Core.Logic.{_⊎_, inl, inr, ⊎-elim}
 use mathlib.Core.List.{[], _∷_}
 use native.Mathlib.Omega.{arith}
 use native.Mathlib.Nat.{add-zero}
-use borrow.Author.Tests.{ne-eqb, le-leb, lt-leb, leb-true, leb-false}
+use borrow.Author.Tests.{ne-eqb, le-leb, lt-leb, leb-true, leb-false, eqb-true, eqb-false}
 use lib.Dec.{leb, eqb}
 use Rattle.lists.specs.Lists.{within, member}
 use Rattle.lists.proofs.Tests.{both, either, below, below-at, within-in, within-below, within-above}
-use Rattle.characters.specs.Cells.{allowed, fullRow, partRow, isLead, leadRow, isTrail, trailRow, trailCell, isOne, isPair}
+use Rattle.characters.specs.Cells.{allowed, fullRow, partRow, cellScript, isLead, leadRow, isTrail, trailRow, trailCell, trailScript, pairScript, isOne}
 use Rattle.characters.specs.Scanning.{charOf}
 use Rattle.characters.specs.declared.Char.{Char}
-use Rattle.characters.specs.declared.Char.the-variants.{One, Two, Bad}
+use Rattle.characters.specs.declared.Char.the-variants.{One, Hiragana, Katakana, Either, Other, Bad}
+use Rattle.characters.proofs.ScriptLaws.{number, alike, alike-is}
+use Rattle.scanning.specs.Scans.{CellOf}
 
 -- ---- a test that has one value on a range
 
--- the test f has the value v at all numbers from lo to before hi
-unfoldable pub const : (ℕ → Bool) → Bool → ℕ → ℕ → Bool
+-- the test g holds of all numbers from lo to before hi
+unfoldable pub through : (ℕ → Bool) → ℕ → ℕ → Bool
 unfolding below
-const f v lo hi = below (λ i. cond v (f (lo + i)) (not (f (lo + i)))) (hi - lo)
+through g lo hi = below (λ i. g (lo + i)) (hi - lo)
+
+through-at : (g : ℕ → Bool) (lo hi : ℕ) → through g lo hi ≡ true → {x : ℕ} → lo ≤ x → x < hi → g x ≡ true
+unfolding through
+through-at g lo hi e {x} p q =
+    let z : lo + (x - lo) ≡ x = omega arith in
+    ap g (sym z) ∙ below-at (λ i. g (lo + i)) (hi - lo) e (x - lo) (omega arith)
+
+-- the test f has the value v at all of them
+unfoldable pub const : (ℕ → Bool) → Bool → ℕ → ℕ → Bool
+unfolding through
+const f v lo hi = through (λ x. cond v (f x) (not (f x))) lo hi
 
 value : (v b : Bool) → cond v b (not b) ≡ true → v ≡ b
 value true b e = sym e
@@ -30,9 +43,7 @@ value false false e = refl
 
 pub on : (f : ℕ → Bool) (v : Bool) (lo hi : ℕ) → const f v lo hi ≡ true → {x : ℕ} → lo ≤ x → x < hi → v ≡ f x
 unfolding const
-on f v lo hi e {x} p q =
-    let z : lo + (x - lo) ≡ x = omega arith in
-    value v (f (lo + (x - lo))) (below-at (λ i. cond v (f (lo + i)) (not (f (lo + i)))) (hi - lo) e (x - lo) (omega arith)) ∙ ap f z
+on f v lo hi e {x} p q = value v (f x) (through-at (λ x. cond v (f x) (not (f x))) lo hi e p q)
 
 pub under : (f : ℕ → Bool) (v : Bool) (hi : ℕ) → const f v 0 hi ≡ true → {x : ℕ} → x < hi → v ≡ f x
 under f v hi e q = on f v 0 hi e (omega arith) q
@@ -73,18 +84,96 @@ no-row r x e =
     part : ((k : ℕ) → hasRow k ≡ true → eqb r k ≡ false) → false ≡ partRow r x
     part n = simp (n 2 refl, n 3 refl, n 4 refl, n 5 refl, n 6 refl, n 7 refl, n 8 refl, n 47 refl, n 84 refl)
 
--- rows 0 and 9 to 15, as what is left of a match on 1 to 8
-pub no-sign : {r : ℕ} (x : ℕ)
-    → ((((((((Unit {0} × (r ≡ 1 → ⊥)) × (r ≡ 2 → ⊥)) × (r ≡ 3 → ⊥)) × (r ≡ 4 → ⊥)) × (r ≡ 5 → ⊥)) × (r ≡ 6 → ⊥)) × (r ≡ 7 → ⊥)) × (r ≡ 8 → ⊥))
-    → r ≤ 15 → false ≡ allowed r x
-unfolding const hasRow
-no-sign {r} x ((((((((u, n1), n2), n3), n4), n5), n6), n7), n8) h =
-    no-row r x
-    (under (λ y. cond (member (1 ∷ 2 ∷ 3 ∷ 4 ∷ 5 ∷ 6 ∷ 7 ∷ 8 ∷ []) y) false (hasRow y)) false 16 refl (less h)
-    ∙ simp (ne-eqb r 1 n1, ne-eqb r 2 n2, ne-eqb r 3 n3, ne-eqb r 4 n4, ne-eqb r 5 n5, ne-eqb r 6 n6, ne-eqb r 7 n7, ne-eqb r 8 n8))
+-- no row has a cell 0, and none a cell after 94
+no-cell : (r c : ℕ) → (c ≡ 0) ⊎ (95 ≤ c) → allowed r c ≡ false
+unfolding allowed partRow
+no-cell r c o =
+    way (fullRow r) (out 1 94 refl refl)
+    (way (eqb r 2) (simp (out 1 14 refl refl, out 26 33 refl refl, out 42 48 refl refl, out 60 74 refl refl, out 82 89 refl refl, no-94))
+    (way (eqb r 3) (simp (out 16 25 refl refl, out 33 58 refl refl, out 65 90 refl refl))
+    (way (eqb r 4) (out 1 83 refl refl)
+    (way (eqb r 5) (out 1 86 refl refl)
+    (way (eqb r 6) (simp (out 1 24 refl refl, out 33 56 refl refl))
+    (way (eqb r 7) (simp (out 1 33 refl refl, out 49 81 refl refl))
+    (way (eqb r 8) (out 1 32 refl refl)
+    (way (eqb r 47) (out 1 51 refl refl)
+    (way (eqb r 84) (out 1 4 refl refl) refl)))))))))
   where
-    less : r ≤ 15 → r < 16
+    way : (b : Bool) {x y : Bool} → x ≡ false → y ≡ false → cond b x y ≡ false
+    way true p q = p
+    way false p q = q
+
+    out : (lo hi : ℕ) → leb 1 lo ≡ true → leb hi 94 ≡ true → within lo hi c ≡ false
+    out lo hi p q =
+        ⊎-elim (λ z. within-below lo hi c (omega (arith, leb-true 1 lo p, z))) (λ z. within-above lo hi c (omega (arith, leb-true hi 94 q, z))) o
+
+    no-94 : eqb c 94 ≡ false
+    no-94 = ne-eqb c 94 (λ e. ⊎-elim (λ z. omega (arith, z)) (λ z. omega (arith, z)) o)
+
+-- ---- scripts of a row
+
+-- a cell that is not allowed
+none-at : (r x : ℕ) → allowed r x ≡ false → Bad ≡ cellScript r x
+unfolding cellScript
+none-at r x e = sym (rw e refl)
+
+-- the row k has the script v at all cells from lo to before hi
+unfoldable pub scripts : ℕ → Char → ℕ → ℕ → Bool
+unfolding through
+scripts k v lo hi = through (λ x. alike v (cellScript k x)) lo hi
+
+pub script-on : (k : ℕ) (v : Char) (lo hi : ℕ) → scripts k v lo hi ≡ true → {r x : ℕ} → r ≡ k → lo ≤ x → x < hi → v ≡ cellScript r x
+unfolding scripts
+script-on k v lo hi e {r} {x} h p q =
+    alike-is v (cellScript k x) (through-at (λ x. alike v (cellScript k x)) lo hi e p q) ∙ ap (λ (n : ℕ). cellScript n x) (sym h)
+
+pub script-under : (k : ℕ) (v : Char) (hi : ℕ) → scripts k v 0 hi ≡ true → {r x : ℕ} → r ≡ k → x < hi → v ≡ cellScript r x
+script-under k v hi e h q = script-on k v 0 hi e h (omega arith) q
+
+-- the cells of row 1 that neither kana script has
+pub script-mark : {x : ℕ} → ((x ≡ 1) ⊎ (x ≡ 28) → ⊥) → 1 ≤ x → x < 95 → Other ≡ cellScript 1 x
+unfolding through number fullRow allowed cellScript
+script-mark {x} n p q =
+    let f : (eqb x 1 || eqb x 28) ≡ false = simp (ne-eqb x 1 (λ e. n (inl e)), ne-eqb x 28 (λ e. n (inr e))) in
+    alike-is Other (cellScript 1 x)
+    (ap (λ (b : Bool). cond b true (alike Other (cellScript 1 x))) (sym f)
+    ∙ through-at (λ x. cond (eqb x 1 || eqb x 28) true (alike Other (cellScript 1 x))) 1 95 refl p q)
+
+-- the two cells of row 1 that both kana scripts have, as keys of a match
+pub script-shared : {x : ℕ} → (x ≡ 1) ⊎ (x ≡ 28) → Either ≡ cellScript 1 x
+unfolding allowed cellScript fullRow
+script-shared o = ⊎-elim (λ e. ap (cellScript 1) (sym e)) (λ e. ap (cellScript 1) (sym e)) o
+
+-- row 0, as what is left of a match on rows 1 to 4
+pub no-first : {r : ℕ} (x : ℕ) → (((Unit {0} × (r ≡ 1 → ⊥)) × (r ≡ 2 → ⊥)) × (r ≡ 3 → ⊥)) × (r ≡ 4 → ⊥) → r ≤ 4 → Bad ≡ cellScript r x
+unfolding const hasRow
+no-first {r} x ((((u, n1), n2), n3), n4) h =
+    none-at r x
+    (sym (no-row r x
+    (under (λ y. cond (member (1 ∷ 2 ∷ 3 ∷ 4 ∷ []) y) false (hasRow y)) false 5 refl (less h)
+    ∙ simp (ne-eqb r 1 n1, ne-eqb r 2 n2, ne-eqb r 3 n3, ne-eqb r 4 n4))))
+  where
+    less : r ≤ 4 → r < 5
     less e = omega arith
+
+-- two ways that no number goes
+pub never : {P : Type 0} {x k : ℕ} → x < k → k ≤ x → P
+never p q = absurd (omega arith)
+
+above : (k r : ℕ) → k ≤ r → (r ≡ k → ⊥) → k + 1 ≤ r
+above k r h n = omega arith
+
+under-9 : (r : ℕ) → r ≤ 8 → 9 ≤ r → ⊥
+under-9 r p q = omega arith
+
+-- and no row is left of a match on rows 5 to 8
+pub no-next : {r : ℕ} {P : Type 0} → (((Unit {0} × (r ≡ 5 → ⊥)) × (r ≡ 6 → ⊥)) × (r ≡ 7 → ⊥)) × (r ≡ 8 → ⊥) → (5 ≤ r) × (r ≤ 8) → P
+no-next {r} ((((u, a), b), c), d) (p, q) = absurd (under-9 r q (above 8 r (above 7 r (above 6 r (above 5 r p a) b) c) d))
+
+-- a row of no kana: v is what the cells said
+pub script-other : (k x : ℕ) {r : ℕ} {v : Bool} {w : Char} → r ≡ k → eqb k 4 ≡ false → eqb k 5 ≡ false → eqb k 1 ≡ false → v ≡ allowed k x → w ≡ cond v Other Bad → w ≡ cellScript r x
+unfolding cellScript
+script-other k x {r} h p q t e f = f ∙ ap (λ (b : Bool). cond b Other Bad) e ∙ sym (ap (λ (n : ℕ). cellScript n x) h ∙ rw (p, q, t) refl)
 
 -- ---- a lead's row and a trail
 
@@ -110,6 +199,10 @@ module _ (r b : ℕ) {v : Bool} where
   trail-mid p q h =
       pair-at (on isTrail true 0x80 0x9f refl p q) (simp (within-below 0x9f 0xfc b (omega arith)) (add-zero r))
       (simp (within-above 0x40 0x7e b (omega arith), within-in 0x80 0x9e b p (omega arith))) h
+
+-- the row of a lead from E0h on
+pub row-from : {a : ℕ} → 0xe0 ≤ a → 9 ≤ 2 * (a - 0xc1) + 1
+row-from h = omega arith
 
 pub no-trail : (r b : ℕ) → false ≡ isTrail b → false ≡ (isTrail b && allowed (r + trailRow b) (trailCell b))
 no-trail r b e = ap (λ (t : Bool). t && allowed (r + trailRow b) (trailCell b)) e
@@ -170,22 +263,91 @@ whole-rows r b {v} p q h = h ∙ go (isTrail b) refl
     go true e = e ∙ some (either (within 0x40 0x7e b) (within 0x80 0xfc b) e)
     go false e = e ∙ no-trail r b (sym e)
 
--- two ways that no number goes
-pub never : {P : Type 0} {x k : ℕ} → x < k → k ≤ x → P
-never p q = absurd (omega arith)
+-- the same of a script
+module _ (r b : ℕ) {v : Char} where
+  pub script-high : 0x9f ≤ b → b < 0xfd → v ≡ cellScript (r + 1) (b - 0x9e) → v ≡ trailScript r b
+  unfolding const trailScript
+  script-high p q h =
+      let i : within 0x9f 0xfc b ≡ true = within-in 0x9f 0xfc b p (omega arith) in
+      let t : isTrail b ≡ true = sym (on isTrail true 0x9f 0xfd refl p q) in
+      let x : trailCell b ≡ b - 0x9e = simp (within-above 0x40 0x7e b (omega arith), within-above 0x80 0x9e b (omega arith), i) in
+      let y : trailRow b ≡ 1 = simp i in
+      h ∙ sym (ap₂ (λ (n m : ℕ). cellScript (r + n) m) y x) ∙ sym (ap (λ (t : Bool). cond t (cellScript (r + trailRow b) (trailCell b)) Bad) t)
+
+  -- c: what low_cell said
+  pub script-low : {c : ℕ} → within 0x9f 0xfc b ≡ false → CellOf b c → v ≡ cellScript r c → v ≡ trailScript r b
+  unfolding trailScript
+  script-low {c} n w h = go (isTrail b) refl
+    where
+      none : (c ≡ 0) ⊎ (95 ≤ c) → v ≡ Bad
+      none o = h ∙ sym (none-at r c (no-cell r c o))
+
+      go : (t : Bool) → isTrail b ≡ t → v ≡ cond (isTrail b) (cellScript (r + trailRow b) (trailCell b)) Bad
+      go true e =
+          let y : r + trailRow b ≡ r = simp n (add-zero r) in
+          h ∙ ap₂ cellScript (sym y) (w .trail e) ∙ sym (ap (λ (t : Bool). cond t (cellScript (r + trailRow b) (trailCell b)) Bad) e)
+      go false e = none (w .none e) ∙ sym (ap (λ (t : Bool). cond t (cellScript (r + trailRow b) (trailCell b)) Bad) e)
+
+  -- a row of kanji: what its cells said
+  pub script-kanji : {t : Bool} → 9 ≤ r → t ≡ (isTrail b && allowed (r + trailRow b) (trailCell b)) → v ≡ cond t Other Bad → v ≡ trailScript r b
+  unfolding trailScript cellScript
+  script-kanji n e f =
+      f ∙ ap (λ (t : Bool). cond t Other Bad) e
+      ∙ go (isTrail b) (allowed (r + trailRow b) (trailCell b)) (no 4 (omega arith)) (no 5 (omega arith)) (no 1 (omega arith))
+    where
+      no : (k : ℕ) → k ≤ 8 → eqb (r + trailRow b) k ≡ false
+      no k h = ne-eqb (r + trailRow b) k (λ z. omega arith)
+
+      go : (t w : Bool) → eqb (r + trailRow b) 4 ≡ false → eqb (r + trailRow b) 5 ≡ false → eqb (r + trailRow b) 1 ≡ false
+          → cond (t && w) Other Bad
+          ≡ cond t (cond w (cond (eqb (r + trailRow b) 4) Hiragana (cond (eqb (r + trailRow b) 5) Katakana (cond (eqb (r + trailRow b) 1 && (eqb (trailCell b) 1 || eqb (trailCell b) 28)) Either Other))) Bad) Bad
+      go true true x y z = rw (x, y, z) refl
+      go true false x y z = refl
+      go false w x y z = refl
+
+-- ---- the ways through low_cell
+
+module _ (b : ℕ) where
+  pub cell-none : false ≡ isTrail b → CellOf b 0
+  cell-none e = record { trail = λ t. absurd (false≢true (e ∙ t)); none = λ _. inl refl }
+
+  pub cell-low : 0x40 ≤ b → b < 0x7f → CellOf b (b - 0x3f)
+  unfolding const
+  cell-low p q =
+      let t : true ≡ isTrail b = on isTrail true 0x40 0x7f refl p q in
+      record { trail = λ _. sym (simp (within-in 0x40 0x7e b p (omega arith))); none = λ e. absurd (true≢false (t ∙ e)) }
+
+  pub cell-mid : 0x80 ≤ b → b < 256 → within 0x9f 0xfc b ≡ false → CellOf b (b - 0x40)
+  unfolding const
+  cell-mid p u n = go (leb b 0x9e) refl
+    where
+      go : (x : Bool) → leb b 0x9e ≡ x → CellOf b (b - 0x40)
+      go true e =
+          let h : b ≤ 0x9e = leb-true b 0x9e e in
+          let t : true ≡ isTrail b = on isTrail true 0x80 0x9f refl p (omega arith) in
+          record { trail = λ _. sym (simp (within-above 0x40 0x7e b (omega arith), within-in 0x80 0x9e b p h)); none = λ e. absurd (true≢false (t ∙ e)) }
+      go false e =
+          let h : 0x9e < b = leb-false b 0x9e e in
+          let k : 0xfd ≤ b = high (leb b 0xfc) refl in
+          let t : false ≡ isTrail b = on isTrail false 0xfd 256 refl k u in
+          record { trail = λ d. absurd (false≢true (t ∙ d)); none = λ _. inr (omega arith) }
+        where
+          high : (y : Bool) → leb b 0xfc ≡ y → 0xfd ≤ b
+          high true f = absurd (true≢false (sym (within-in 0x9f 0xfc b (omega (arith, leb-false b 0x9e e)) (leb-true b 0xfc f)) ∙ n))
+          high false f = omega (arith, leb-false b 0xfc f)
 
 -- ---- one character of a byte and the one after it
 
 module _ (a b : ℕ) where
   pub char-one : true ≡ isOne a → One ≡ charOf (a ∷ b ∷ [])
-  char-one e = ap (λ (x : Bool). cond x One (cond (isPair a b) Two Bad)) e
+  char-one e = ap (λ (x : Bool). cond x One (pairScript a b)) e
 
-  no-one : false ≡ isOne a → cond (isPair a b) Two Bad ≡ charOf (a ∷ b ∷ [])
-  no-one e = ap (λ (x : Bool). cond x One (cond (isPair a b) Two Bad)) e
+  no-one : false ≡ isOne a → pairScript a b ≡ charOf (a ∷ b ∷ [])
+  no-one e = ap (λ (x : Bool). cond x One (pairScript a b)) e
 
   pub char-bad : false ≡ isOne a → false ≡ isLead a → Bad ≡ charOf (a ∷ b ∷ [])
-  unfolding isPair
-  char-bad e f = ap (λ (x : Bool). cond (x && isTrail b && allowed (leadRow a + trailRow b) (trailCell b)) Two Bad) f ∙ no-one e
+  unfolding pairScript
+  char-bad e f = ap (λ (x : Bool). cond x (trailScript (leadRow a) b) Bad) f ∙ no-one e
 
   -- between the characters of one byte, where the leads of rows 1 to 62 are told elsewhere
   pub char-gap : within 0x81 0x9f a ≡ false → 0x7f ≤ a → a < 0xa1 → Bad ≡ charOf (a ∷ b ∷ [])
@@ -195,25 +357,16 @@ module _ (a b : ℕ) where
       (sym (ap (λ (x : Bool). x || within 0xe0 0xef a) n ∙ within-below 0xe0 0xef a (omega arith)))
 
   -- n: the lead's row
-  lead : {n : ℕ} {v : Bool} → false ≡ isOne a → true ≡ isLead a → n ≡ leadRow a → v ≡ (isTrail b && allowed (n + trailRow b) (trailCell b)) → cond v Two Bad ≡ charOf (a ∷ b ∷ [])
-  unfolding isPair
-  lead e f g h =
-      ap (λ (x : Bool). cond x Two Bad) (h ∙ ap (λ (n : ℕ). isTrail b && allowed (n + trailRow b) (trailCell b)) g)
-      ∙ ap (λ (x : Bool). cond (x && isTrail b && allowed (leadRow a + trailRow b) (trailCell b)) Two Bad) f ∙ no-one e
+  lead : {n : ℕ} {v : Char} → false ≡ isOne a → true ≡ isLead a → n ≡ leadRow a → v ≡ trailScript n b → v ≡ charOf (a ∷ b ∷ [])
+  unfolding pairScript
+  lead e f g h = h ∙ ap (λ (n : ℕ). trailScript n b) g ∙ ap (λ (x : Bool). cond x (trailScript (leadRow a) b) Bad) f ∙ no-one e
 
-  pub lead-low : {v : Bool} → 0x81 ≤ a → a < 0xa0 → v ≡ (isTrail b && allowed (2 * (a - 0x81) + 1 + trailRow b) (trailCell b)) → cond v Two Bad ≡ charOf (a ∷ b ∷ [])
+  pub lead-low : {v : Char} → 0x81 ≤ a → a < 0xa0 → v ≡ trailScript (2 * (a - 0x81) + 1) b → v ≡ charOf (a ∷ b ∷ [])
   unfolding const
   lead-low p q = lead (on isOne false 0x81 0xa0 refl p q) (on isLead true 0x81 0xa0 refl p q) (simp (within-in 0x81 0x9f a p (omega arith)))
 
-  pub lead-high : {v : Bool} → 0xe0 ≤ a → a < 0xf0 → v ≡ (isTrail b && allowed (2 * (a - 0xc1) + 1 + trailRow b) (trailCell b)) → cond v Two Bad ≡ charOf (a ∷ b ∷ [])
+  pub lead-high : {v : Char} → 0xe0 ≤ a → a < 0xf0 → v ≡ trailScript (2 * (a - 0xc1) + 1) b → v ≡ charOf (a ∷ b ∷ [])
   unfolding const
   lead-high p q =
       lead (on isOne false 0xe0 0xf0 refl p q) (on isLead true 0xe0 0xf0 refl p q)
       (simp (within-above 0x81 0x9f a (omega arith), within-in 0xe0 0xef a p (omega arith)))
-
--- what a branch on v returns
-pub two-told : {v : Bool} {k : Char} → v ≡ true → cond v Two Bad ≡ k → Two ≡ k
-two-told e h = ap (λ (x : Bool). cond x Two Bad) (sym e) ∙ h
-
-pub bad-told : {v : Bool} {k : Char} → v ≡ false → cond v Two Bad ≡ k → Bad ≡ k
-bad-told e h = ap (λ (x : Bool). cond x Two Bad) (sym e) ∙ h

@@ -14,10 +14,11 @@ use lib.Seq.{sets, sets-eq}
 use Rattle.lists.specs.Lists.{within}
 use Rattle.lists.proofs.Tests.{both, either, within-below, within-above}
 use Rattle.lists.proofs.Cuts.{drop-step, drop-end}
-use Rattle.characters.specs.Cells.{isOne, isPair, isTrail, isLead}
-use Rattle.characters.specs.declared.Char.the-variants.{One, Two, Bad}
+use Rattle.characters.specs.Cells.{isOne, pairScript, isChar, isTrail, isLead}
+use Rattle.characters.specs.declared.Char.{Char}
+use Rattle.characters.specs.declared.Char.the-variants.{One, Bad}
 use Rattle.characters.specs.Text.{allChars, isStop, text}
-use Rattle.characters.specs.Scanning.{charOf, charAt, commaCount, commasFrom}
+use Rattle.characters.specs.Scanning.{isPair, charOf, charAt, commaCount, commasFrom}
 use Rattle.scanning.specs.Scans.{Sixteen, ScanOf}
 use Rattle.characters.proofs.CharLaws.{one-go}
 
@@ -72,13 +73,12 @@ bad-text a [] s h = simp s (go (isOne a) h)
     go : (b : Bool) → cond b One Bad ≡ Bad → b ≡ false
     go true e = cc
     go false e = refl
-bad-text a (b ∷ r) s h = go (isOne a) refl (isPair a b) refl (isStop b) refl h
+bad-text a (b ∷ r) s h = go (isOne a) refl (isStop b) refl h
   where
-    go : (x : Bool) → isOne a ≡ x → (y : Bool) → isPair a b ≡ y → (z : Bool) → isStop b ≡ z → cond x One (cond y Two Bad) ≡ Bad → allChars (text (a ∷ b ∷ r)) ≡ false
-    go true p y q z t e = cc
-    go false p true q z t e = cc
-    go false p false q true t e = simp (s, t, p)
-    go false p false q false t e = simp (s, t, p, q)
+    go : (x : Bool) → isOne a ≡ x → (z : Bool) → isStop b ≡ z → cond x One (pairScript a b) ≡ Bad → allChars (text (a ∷ b ∷ r)) ≡ false
+    go true p z t e = cc
+    go false p true t e = simp (s, t, p)
+    go false p false t e = simp (s, t, p, ap isChar e)
 
 -- ---- the loop of scan_text: the text's end, its goodness and its commas, as told by what is left from i on
 
@@ -248,7 +248,7 @@ module _ {s : List ℕ} {at : ℕ} {a₀ a : List ℕ} {i : ℕ} {good : Bool} {
             one-go₁ false e = refl
         no-one a (b ∷ r) e = one-go₂ (isOne a) e
           where
-            one-go₂ : (x : Bool) → cond x One (cond (isPair a b) Two Bad) ≡ Bad → x ≡ false
+            one-go₂ : (x : Bool) → cond x One (pairScript a b) ≡ Bad → x ≡ false
             one-go₂ true e = cc
             one-go₂ false e = refl
 

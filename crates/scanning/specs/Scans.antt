@@ -2,15 +2,19 @@
 -- What a scan finds, as the code answers it: the text from a position on, its commas and their places, and what stands where a row begins.
 use Prim.Native.Nat.{ℕ, _+_, _≤_, _<_}
 use mathlib.Core.Path.{_≡_}
-use mathlib.Core.Bool.{Bool, true}
+use mathlib.Core.Bool.{Bool, true, false}
 use mathlib.Core.Logic.{_⊎_}
 use mathlib.Core.List.{List, [], _∷_}
 use lib.ListN.{length, drop, getD}
 use Rattle.lists.specs.Searching.{part}
 use Rattle.characters.specs.declared.Char.the-variants.{Bad}
 use Rattle.characters.specs.Text.{allChars, text}
-use Rattle.characters.specs.Scanning.{charAt, commaCount, commasFrom, WholeLine, BrokenRow}
+use Rattle.characters.specs.Cells.{isTrail, trailCell, isOneByte}
+use Rattle.characters.specs.Scanning.{charAt, bytesOf, isOwnHiragana, isOwnKatakana, isEither, commaCount, commasFrom, WholeLine, BrokenRow}
 use Rattle.characters.specs.Rows.{rows, endMark}
+use Rattle.scanning.specs.declared.Scripts.{Scripts}
+use Rattle.scanning.specs.declared.Run.{Run}
+use Rattle.scanning.specs.declared.Told.{Told}
 use Rattle.scanning.specs.declared.Scan.{Scan}
 use Rattle.scanning.specs.declared.Line.{Line}
 use Rattle.scanning.specs.declared.Line.the-variants.{Whole, Mark, End, Broken}
@@ -42,9 +46,30 @@ pub record RunOf (s : List ℕ) (a e : ℕ) : Type 0 where
 pub record RunEnds (s : List ℕ) (e : ℕ) : Type 0 where
   pub holds : e < length s → (getD s e 0 ≡ 0x2c) ⊎ (charAt s e ≡ Bad)
 
--- a run up to i, which is the last byte's place or past it, ends at r
-pub record Finished (s : List ℕ) (i r : ℕ) : Type 0 where
-  pub holds : (a : ℕ) → RunOf s a i → RunOf s a r × RunEnds s r
+-- how many bytes the characters of each script take in a list
+pub record Bytes (l : List ℕ) (k : Scripts) : Type 0 where
+  pub one : k .one ≡ bytesOf isOneByte l
+  pub hiragana : k .hiragana ≡ bytesOf isOwnHiragana l
+  pub katakana : k .katakana ≡ bytesOf isOwnKatakana l
+  pub either : k .either ≡ bytesOf isEither l
+
+-- and from a to e
+abbrev pub Counted : List ℕ → ℕ → ℕ → Scripts → Type 0
+Counted s a e k = Bytes (part s a e) k
+
+-- a run up to i, which is the last byte's place or past it, with the scripts k, is the run r
+pub record Finished (s : List ℕ) (i : ℕ) (k : Scripts) (r : Run) : Type 0 where
+  pub holds : (a : ℕ) → RunOf s a i → Counted s a i k → RunOf s a (r .end) × RunEnds s (r .end) × Counted s a (r .end) (r .scripts)
+
+-- the cell of a trail below 9Fh; of another byte, none
+pub record CellOf (b c : ℕ) : Type 0 where
+  pub trail : isTrail b ≡ true → c ≡ trailCell b
+  pub none : isTrail b ≡ false → (c ≡ 0) ⊎ (95 ≤ c)
+
+-- whether a list is characters, and their scripts if it is
+pub record ToldOf (s : List ℕ) (t : Told) : Type 0 where
+  pub chars : t .good ≡ allChars s
+  pub bytes : t .good ≡ true → Bytes s (t .scripts)
 
 -- a whole line with its n commas and their places
 pub record ScannedLine (s : List ℕ) (at : ℕ) (stops : List ℕ) (e : ℕ) (good : Bool) (n : ℕ) : Type 0 where

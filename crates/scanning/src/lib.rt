@@ -1,19 +1,21 @@
-// Characters and lines: a Shift_JIS character by row and cell, and the line that begins at a position, in one pass over its bytes.
-// Definitions: characters, specs/Cells.antt, Text.antt, Rows.antt. `char_of` reads one character, and `run_end` is the only loop that calls it:
-// lines, items, widths and edges take its answer. A function with one call is compiled into its caller, however long it is, which is
-// why the decision over rows is cut as it is and is called from one place. A new kind of answer about characters (as a script) moves
-// characters::Char and charOf there, and `char_of` and `run_end` here.
+// Characters and lines: a Shift_JIS character with its script, by row and cell, and the line that begins at a position, in one pass over its bytes.
+// Definitions: characters, specs/Cells.antt, Text.antt, Rows.antt. `char_of` reads one character, and `run_at` is the only loop that calls it:
+// lines, items, widths, scripts and edges take its answer. What one loop calls is compiled into it, however long it is, which is why the decision over
+// rows is cut as it is, and why there is one loop over characters; the last byte alone is read apart (`last_run`). A new kind of answer about
+// characters moves characters::Char and cellScript there, and `char_of` and `run_at` here.
 use characters::Char;
 ghost use mathlib.Core.Path.{_≡_};
-ghost use mathlib.Core.Bool.{false, _&&_};
+ghost use mathlib.Core.Bool.{true, false, cond, _&&_};
 ghost use mathlib.Core.List.{[], _∷_};
-ghost use Prim.Native.Nat.{_+_, _≤_, _<_};
+ghost use Prim.Native.Nat.{_+_, _≤_, _<_, _%_};
+ghost use lib.Dec.{eqb};
 ghost use lib.ListN.{length};
 ghost use Rattle.lists.specs.Lists.{within};
-ghost use Rattle.characters.specs.Cells.{row2, row3, allowed, trailCell, trailRow, isOne, isTrail, isPair};
+ghost use Rattle.characters.specs.declared.Char.the-variants.{Other, Bad};
+ghost use Rattle.characters.specs.Cells.{row2, row3, allowed, cellScript, trailScript, trailCell, trailRow, isTrail};
 ghost use Rattle.characters.specs.Text.{allChars, isStop};
 ghost use Rattle.characters.specs.Scanning.{charOf};
-ghost use Rattle.scanning.specs.Scans.{ScanOf, Sixteen, RunOf, RunEnds, Finished, LineOf};
+ghost use Rattle.scanning.specs.Scans.{ScanOf, Sixteen, RunOf, RunEnds, Counted, Finished, CellOf, ToldOf, LineOf};
 
 // ---- the allowed cells of JIS X 0208-1983
 
@@ -35,39 +37,65 @@ fn row3_cell(cell: u8) -> bool
     }
 }
 
-// Rows 1 to 8: signs, letters and kana. Rows 9 to 15 have no cell.
-fn sign_cell(row: u8, cell: u8) -> bool
-    requires { ⌜ row ≤ 15 ⌝ }
-    ensures { λ r. ⌜ r ≡ allowed row cell ⌝ }
+// A character of no script of its own.
+fn other(good: bool) -> Char
+    ensures { λ r. ⌜ r ≡ cond good Other Bad ⌝ }
+{
+    if good { Char::Other } else { Char::Bad }
+}
+
+// Row 1: marks, of which 8140h and 815Bh belong to both kana scripts.
+fn row1_cell(cell: u8) -> Char
+    ensures { λ r. ⌜ r ≡ cellScript 1 cell ⌝ }
+{
+    match cell {
+        1 | 28 => Char::Either,
+        2..=27 | 29..=94 => Char::Other,
+        _ => Char::Bad,
+    }
+}
+
+// Rows 1 to 4: marks, letters and hiragana.
+fn first_rows(row: u8, cell: u8) -> Char
+    requires { ⌜ row ≤ 4 ⌝ }
+    ensures { λ r. ⌜ r ≡ cellScript row cell ⌝ }
 {
     match row {
-        1 => match cell {
-            1..=94 => true,
-            _ => false,
-        },
-        2 => row2_cell(cell),
-        3 => row3_cell(cell),
+        1 => row1_cell(cell),
+        2 => other(row2_cell(cell)),
+        3 => other(row3_cell(cell)),
         4 => match cell {
-            1..=83 => true,
-            _ => false,
+            1..=83 => Char::Hiragana,
+            _ => Char::Bad,
         },
+        _ => Char::Bad,
+    }
+}
+
+// Rows 5 to 8: katakana and other letters.
+fn next_rows(row: u8, cell: u8) -> Char
+    requires { ⌜ 5 ≤ row ⌝ }
+    requires { ⌜ row ≤ 8 ⌝ }
+    ensures { λ r. ⌜ r ≡ cellScript row cell ⌝ }
+{
+    match row {
         5 => match cell {
-            1..=86 => true,
-            _ => false,
+            1..=86 => Char::Katakana,
+            _ => Char::Bad,
         },
         6 => match cell {
-            1..=24 | 33..=56 => true,
-            _ => false,
+            1..=24 | 33..=56 => Char::Other,
+            _ => Char::Bad,
         },
         7 => match cell {
-            1..=33 | 49..=81 => true,
-            _ => false,
+            1..=33 | 49..=81 => Char::Other,
+            _ => Char::Bad,
         },
         8 => match cell {
-            1..=32 => true,
-            _ => false,
+            1..=32 => Char::Other,
+            _ => Char::Bad,
         },
-        _ => false,
+        _ => Char::Bad,
     }
 }
 
@@ -95,28 +123,38 @@ fn kanji_cell(row: u8, cell: u8) -> bool
 
 // ---- one character
 
-// A character of one byte.
-pub fn is_one(a: u8) -> bool
-    ensures { λ r. ⌜ r ≡ isOne a ⌝ }
+// The cell of a trail below 9Fh; of a byte that is no trail, one that no row has.
+fn low_cell(b: u8) -> u8
+    requires { ⌜ within 0x9f 0xfc b ≡ false ⌝ }
+    ensures { λ r. ⌜ CellOf b r ⌝ }
 {
-    match a {
-        0x20..=0x7e | 0xa1..=0xdf => true,
-        _ => false,
+    if b < 0x7f {
+        if b < 0x40 { 0 } else { b - 0x3f }
+    } else {
+        if b < 0x80 { 0 } else { b - 0x40 }
     }
 }
 
-// A lead's first row and a trail. The match on the trail stands twice, for signs and for kanji, so that each is compiled with its own rows.
-fn sign_pair(row: u8, b: u8) -> bool
-    requires { ⌜ row ≤ 8 ⌝ }
-    ensures { λ r. ⌜ r ≡ (isTrail b && allowed (row + trailRow b) (trailCell b)) ⌝ }
+// A lead's first row and a trail. The match on the trail stands three times, for rows 1 to 4, 5 to 8 and kanji, so that each is compiled with its
+// own rows.
+fn first_pair(row: u8, b: u8) -> Char
+    requires { ⌜ row ≤ 3 ⌝ }
+    ensures { λ r. ⌜ r ≡ trailScript row b ⌝ }
 {
     match b {
-        0x9f..=0xfc => sign_cell(row + 1, b - 0x9e),
-        _ => match b {
-            0x40..=0x7e => sign_cell(row, b - 0x3f),
-            0x80..=0x9e => sign_cell(row, b - 0x40),
-            _ => false,
-        },
+        0x9f..=0xfc => first_rows(row + 1, b - 0x9e),
+        _ => first_rows(row, low_cell(b)),
+    }
+}
+
+fn next_pair(row: u8, b: u8) -> Char
+    requires { ⌜ 5 ≤ row ⌝ }
+    requires { ⌜ row ≤ 7 ⌝ }
+    ensures { λ r. ⌜ r ≡ trailScript row b ⌝ }
+{
+    match b {
+        0x9f..=0xfc => next_rows(row + 1, b - 0x9e),
+        _ => next_rows(row, low_cell(b)),
     }
 }
 
@@ -154,13 +192,18 @@ fn kanji_pair(row: u8, b: u8) -> bool
     }
 }
 
-fn in_rows(row: u8, b: u8) -> bool
+// A lead's first row is odd.
+fn in_rows(row: u8, b: u8) -> Char
     requires { ⌜ row ≤ 93 ⌝ }
-    ensures { λ r. ⌜ r ≡ (isTrail b && allowed (row + trailRow b) (trailCell b)) ⌝ }
+    requires { ⌜ row % 2 ≡ 1 ⌝ }
+    ensures { λ r. ⌜ r ≡ trailScript row b ⌝ }
 {
     match row {
-        0..=8 => sign_pair(row, b),
-        _ => kanji_pair(row, b),
+        0..=8 => match row {
+            0..=4 => first_pair(row, b),
+            _ => next_pair(row, b),
+        },
+        _ => other(kanji_pair(row, b)),
     }
 }
 
@@ -171,11 +214,7 @@ fn other_char(a: u8, b: u8) -> Char
 {
     match a {
         0x20..=0x7e | 0xa1..=0xdf => Char::One,
-        0xe0..=0xef => if kanji_pair(2 * (a - 0xc1) + 1, b) {
-            Char::Two
-        } else {
-            Char::Bad
-        },
+        0xe0..=0xef => other(kanji_pair(2 * (a - 0xc1) + 1, b)),
         _ => Char::Bad,
     }
 }
@@ -185,89 +224,240 @@ fn char_of(a: u8, b: u8) -> Char
     ensures { λ r. ⌜ r ≡ charOf (a ∷ b ∷ []) ⌝ }
 {
     match a {
-        0x81..=0x9f => if in_rows(2 * (a - 0x81) + 1, b) {
-            Char::Two
-        } else {
-            Char::Bad
-        },
+        0x81..=0x9f => in_rows(2 * (a - 0x81) + 1, b),
         _ => other_char(a, b),
     }
 }
 
 // ---- characters one after another
 
-// Where a run ends that has come to the last byte, or past it.
-fn last_end(s: &[u8], i: usize) -> usize
+// How many bytes the characters of each script take. Those of no script of their own are what is left.
+pub struct Scripts {
+    pub one: usize,
+    pub hiragana: usize,
+    pub katakana: usize,
+    pub either: usize,
+}
+
+// Characters from a position on: where they end, and their scripts.
+pub struct Run {
+    pub end: usize,
+    pub scripts: Scripts,
+}
+
+// The run that has come to the last byte, or past it. A last byte is read with 0 after it, which is no trail: it is a character of one byte, or none.
+fn last_run(s: &[u8], i: usize, seen: Scripts) -> Run
     requires { ⌜ length (now s) ≤ i + 1 ⌝ }
-    ensures { λ r. ⌜ Finished (now (s .entry)) i r ⌝ }
+    requires { ⌜ seen .one ≤ i ⌝ }
+    ensures { λ r. ⌜ Finished (now (s .entry)) i seen r ⌝ }
 {
     if s.len() <= i {
-        return i;
+        return Run {
+            end: i,
+            scripts: seen,
+        };
     }
     let z = s[i];
     if z == 0x2c {
-        return i;
+        return Run {
+            end: i,
+            scripts: seen,
+        };
     }
-    if is_one(z) { i + 1 } else { i }
+    match char_of(z, 0) {
+        Char::One => Run {
+            end: i + 1,
+            scripts: Scripts {
+                one: seen.one + 1,
+                hiragana: seen.hiragana,
+                katakana: seen.katakana,
+                either: seen.either,
+            },
+        },
+        Char::Hiragana => Run {
+            end: i,
+            scripts: seen,
+        },
+        Char::Katakana => Run {
+            end: i,
+            scripts: seen,
+        },
+        Char::Either => Run {
+            end: i,
+            scripts: seen,
+        },
+        Char::Other => Run {
+            end: i,
+            scripts: seen,
+        },
+        Char::Bad => Run {
+            end: i,
+            scripts: seen,
+        },
+    }
 }
 
-// How far characters other than commas go from a position on: to a comma, to a byte that begins none, or to the end. Whether the last byte is
-// reached is asked twice: so the steps of one byte and of two are compiled apart, and a pair is passed in fewer instructions.
+// How far characters other than commas go from a position on, with their scripts: to a comma, to a byte that begins none, or to the end. Kanji and all
+// others of no kana script are not counted, and so cost nothing more than their reading.
+pub fn run_at(s: &[u8], from: usize) -> Run
+    requires { ⌜ from ≤ length (now s) ⌝ }
+    ensures run { λ r. ⌜ RunOf (now (s .entry)) from (r .end) ⌝ }
+    ensures ends { λ r. ⌜ RunEnds (now (s .entry)) (r .end) ⌝ }
+    ensures counted { λ r. ⌜ Counted (now (s .entry)) from (r .end) (r .scripts) ⌝ }
+{
+    let len = s.len();
+    if len == 0 {
+        return Run {
+            end: from,
+            scripts: Scripts {
+                one: 0,
+                hiragana: 0,
+                katakana: 0,
+                either: 0,
+            },
+        };
+    }
+    let last = len - 1;
+    let mut i = from;
+    let mut one = 0;
+    let mut hiragana = 0;
+    let mut katakana = 0;
+    let mut either = 0;
+    while i < last {
+        let a = s[i];
+        let next = i + 1;
+        match char_of(a, s[next]) {
+            Char::One => {
+                if a == 0x2c {
+                    return Run {
+                        end: i,
+                        scripts: Scripts {
+                            one,
+                            hiragana,
+                            katakana,
+                            either,
+                        },
+                    };
+                }
+                one += 1;
+                i += 1;
+            }
+            Char::Hiragana => {
+                hiragana += 2;
+                i += 2;
+            }
+            Char::Katakana => {
+                katakana += 2;
+                i += 2;
+            }
+            Char::Either => {
+                either += 2;
+                i += 2;
+            }
+            Char::Other => i += 2,
+            Char::Bad => return Run {
+                end: i,
+                scripts: Scripts {
+                    one,
+                    hiragana,
+                    katakana,
+                    either,
+                },
+            },
+        }
+    }
+    last_run(
+        s,
+        i,
+        Scripts {
+            one,
+            hiragana,
+            katakana,
+            either,
+        },
+    )
+}
+
+// Where that run ends.
 pub fn run_end(s: &[u8], from: usize) -> usize
     requires { ⌜ from ≤ length (now s) ⌝ }
     ensures run { λ r. ⌜ RunOf (now (s .entry)) from r ⌝ }
     ensures ends { λ r. ⌜ RunEnds (now (s .entry)) r ⌝ }
 {
-    let len = s.len();
-    if len == 0 {
-        return from;
-    }
-    let last = len - 1;
-    let mut i = from;
-    while i < last {
-        let a = s[i];
-        let next = i + 1;
-        match char_of(a, s[next]) {
-            Char::Two => i += 2,
-            Char::One => {
-                if a == 0x2c {
-                    return i;
-                }
-                i += 1;
-                if last <= i {
-                    return last_end(s, i);
-                }
-            }
-            Char::Bad => return i,
+    let r = run_at(s, from);
+    r.end
+}
+
+// A whole list: whether all of it is characters, and their scripts if so.
+pub struct Told {
+    pub good: bool,
+    pub scripts: Scripts,
+}
+
+pub fn scripts_of(s: &[u8]) -> Told
+    ensures { λ r. ⌜ ToldOf (now (s .entry)) r ⌝ }
+{
+    let mut i = 0;
+    let mut one = 0;
+    let mut hiragana = 0;
+    let mut katakana = 0;
+    let mut either = 0;
+    while i < s.len() {
+        let r = run_at(s, i);
+        let e = r.end;
+        let k = r.scripts;
+        one += k.one;
+        hiragana += k.hiragana;
+        katakana += k.katakana;
+        either += k.either;
+        if s.len() <= e {
+            i = e;
+            continue;
         }
+        if s[e] != 0x2c {
+            return Told {
+                good: false,
+                scripts: Scripts {
+                    one,
+                    hiragana,
+                    katakana,
+                    either,
+                },
+            };
+        }
+        one += 1;
+        i = e + 1;
     }
-    last_end(s, i)
+    Told {
+        good: true,
+        scripts: Scripts {
+            one,
+            hiragana,
+            katakana,
+            either,
+        },
+    }
 }
 
 // Whether all of it is characters.
 pub fn all_chars(s: &[u8]) -> bool
     ensures { λ r. ⌜ r ≡ allChars (now (s .entry)) ⌝ }
 {
-    let mut i = 0;
-    while i < s.len() {
-        let e = run_end(s, i);
-        if s.len() <= e {
-            return true;
-        }
-        if s[e] != 0x2c {
-            return false;
-        }
-        i = e + 1;
-    }
-    true
+    let t = scripts_of(s);
+    t.good
 }
 
-// Whether a lead and a trail are a character of two bytes.
-pub fn is_pair(a: u8, b: u8) -> bool
-    ensures { λ r. ⌜ r ≡ isPair a b ⌝ }
+// Whether two bytes are the character 8140h: of the two in both kana scripts the one with this trail.
+pub fn is_blank_pair(a: u8, b: u8) -> bool
+    ensures { λ r. ⌜ r ≡ (eqb a 0x81 && eqb b 0x40) ⌝ }
 {
+    if b != 0x40 {
+        return false;
+    }
     let two = [a, b];
-    !is_one(a) & all_chars(&two)
+    let t = scripts_of(&two);
+    let k = t.scripts;
+    t.good & (k.either == 2)
 }
 
 // ---- lines

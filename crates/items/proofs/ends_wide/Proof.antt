@@ -1,4 +1,6 @@
 use borrow.Author.Needs.{needs}
+use Prim.Native.Nat.{_-_}
+use lib.ListN.{length}
 use Rattle.items.proofs.TextLaws.{wide-no, wide-yes}
 use Rattle.items.proofs.ends_wide.Statement.{statement}
 use Rattle.items.proofs.ends_wide.Tie as tie
@@ -7,6 +9,7 @@ use Rattle.items.proofs.ends_wide.Lts as lts
 use Rattle.lists.proofs.before.Reads as before-reads
 use Rattle.lists.proofs.byte_at.Reads as byte-at-reads
 use Rattle.scanning.proofs.all_chars.Reads as all-chars-reads
+use Rattle.scanning.proofs.is_blank_pair.Reads as is-blank-pair-reads
 
 before-requires : tie.Need-before-requires
 before-requires c κs = search needs
@@ -22,6 +25,9 @@ before-requires-3 c κs = search needs
 
 byte-at-requires-2 : tie.Need-byte-at-requires-2
 byte-at-requires-2 c κs = search needs
+
+is-blank-pair-requires : tie.Need-is-blank-pair-requires
+is-blank-pair-requires c κs = search needs
 
 sub-all-chars : tie.Need-sub-all-chars
 sub-all-chars c = search needs
@@ -50,6 +56,7 @@ ends-wide-spec =
     byte-at-requires
     before-requires-3
     byte-at-requires-2
+    is-blank-pair-requires
     sub-all-chars
     part-all-chars-start
     part-all-chars-end

@@ -1,4 +1,6 @@
 use borrow.Author.Needs.{needs}
+use Prim.Native.Nat.{_-_}
+use lib.ListN.{length}
 use Rattle.items.proofs.EndLaws.{end-digit}
 use Rattle.items.proofs.item_end.Statement.{statement}
 use Rattle.items.proofs.item_end.Tie as tie
@@ -9,8 +11,8 @@ use Rattle.items.proofs.digit_at.Reads as digit-at-reads
 use Rattle.items.proofs.digit_fits.Reads as digit-fits-reads
 use Rattle.items.proofs.number_item.Reads as number-item-reads
 use Rattle.items.proofs.other_item.Reads as other-item-reads
+use Rattle.items.proofs.script_item.Reads as script-item-reads
 use Rattle.items.proofs.text_item.Reads as text-item-reads
-use Rattle.items.proofs.wide_item.Reads as wide-item-reads
 
 text-item-requires : tie.Need-text-item-requires
 text-item-requires c κs = search needs
@@ -30,12 +32,6 @@ number-item-requires c κs = search needs
 returns-3 : tie.Need-returns-3
 returns-3 c = search needs
 
-wide-item-requires : tie.Need-wide-item-requires
-wide-item-requires c κs = search needs
-
-returns-4 : tie.Need-returns-4
-returns-4 c = search needs
-
 digit-at-requires : tie.Need-digit-at-requires
 digit-at-requires c κs = search needs
 
@@ -45,8 +41,14 @@ digit-fits-requires c κs = search needs
 add-result : tie.Need-add-result
 add-result c = search needs
 
+returns-4 : tie.Need-returns-4
+returns-4 c = search (needs, end-digit)
+
+script-item-requires : tie.Need-script-item-requires
+script-item-requires c κs = search needs
+
 returns-5 : tie.Need-returns-5
-returns-5 c = search (needs, end-digit)
+returns-5 c = search needs
 
 other-item-requires : tie.Need-other-item-requires
 other-item-requires c κs = search needs
@@ -64,11 +66,11 @@ item-end-spec =
     returns-2
     number-item-requires
     returns-3
-    wide-item-requires
-    returns-4
     digit-at-requires
     digit-fits-requires
     add-result
+    returns-4
+    script-item-requires
     returns-5
     other-item-requires
     returns-6)

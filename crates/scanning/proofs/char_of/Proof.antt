@@ -1,7 +1,7 @@
 use mathlib.Core.Logic.{⊎-elim}
-use Rattle.lists.proofs.Tests.{within-below, within-above}
-use Rattle.scanning.proofs.CellLaws.{lead-low, two-told, bad-told}
 use borrow.Author.Needs.{needs}
+use Rattle.lists.proofs.Tests.{within-below, within-above}
+use Rattle.scanning.proofs.CellLaws.{lead-low}
 use Rattle.scanning.proofs.char_of.Statement.{statement}
 use Rattle.scanning.proofs.char_of.Tie as tie
 use Rattle.scanning.proofs.char_of.Reads as reads
@@ -22,13 +22,10 @@ other-char-requires : tie.Need-other-char-requires
 other-char-requires c κs = ⊎-elim (λ w. within-below 0x81 0x9f _ (w .taken)) (λ w. within-above 0x81 0x9f _ (w .1 .left)) (c .if1 .came)
 
 returns : tie.Need-returns
-returns c = two-told (c .if3 .taken) (lead-low _ _ (c .before .before .before .if1 .left) (c .before .before .if2 .taken) (c .before .in-rows .ensures))
+returns c = lead-low _ _ (c .before .before .if1 .left) (c .before .if2 .taken) (c .in-rows .ensures)
 
 returns-2 : tie.Need-returns-2
-returns-2 c = bad-told (c .if3 .left) (lead-low _ _ (c .before .before .before .if1 .left) (c .before .before .if2 .taken) (c .before .in-rows .ensures))
-
-returns-3 : tie.Need-returns-3
-returns-3 c = search needs
+returns-2 c = search needs
 
 pub char-of-spec : {M : Type 1} → statement M
 char-of-spec =
@@ -39,5 +36,4 @@ char-of-spec =
     in-rows-requires
     other-char-requires
     returns
-    returns-2
-    returns-3)
+    returns-2)

@@ -1,0 +1,4 @@
+pub mod Scripts
+pub mod Lines
+pub mod Promises
+pub mod AllExamples
