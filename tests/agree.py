@@ -668,7 +668,7 @@ IN_HELP = {"record": "number", "doctor": "line of the doctor's 55", "drug": "lin
 IN_WORDS = "none one two three four five six seven eight nine ten".split()
 
 # The least bytes of an item that is not empty; of one with listed values, those of the shortest.
-LEAST = {"N": 1, "U": 1, "X": 1, "A": 1, "F": 2, "C": 7, "P": 7, "R": 1, "W": 1, "Q": 1, "D": 7}
+LEAST = {"N": 1, "U": 1, "X": 1, "K": 1, "A": 1, "F": 2, "C": 7, "P": 7, "R": 1, "W": 1, "Q": 1, "D": 7}
 
 
 def least_bytes(number, items):

@@ -18,7 +18,7 @@ import make_cases
 import oracle
 from make_cases import (
     ADVICE, CHANGE, DATE, DOCTOR, GOOD, HOSPITAL, ITEMS, KEEPER, NUMBERS, PATIENT, PHARMACY,
-    PRESCRIBER, alone, changed, drug, file, note, raw, to_patient, to_provider, under, usage)
+    PRESCRIBER, alone, changed, drug, file, named, note, raw, to_patient, to_provider, under, usage)
 
 # The calls that the program answers. A call that the gateway does not export
 # yet is left out here; its families then make no frames.
@@ -237,6 +237,45 @@ REIWA = [
     "601,x,R010509", "5,R010501,1", "5,H310430,1", "701,x,x,x,H310401,R011231,1"]
 SPELLINGS = [("an older phone's file", OLDER_PHONE), ("western days of 2019", WESTERN),
              ("a file in R", REIWA)]
+
+# 02 (viii): kana names of one script, whose bytes are kept; and others.
+ONE_SCRIPT = [
+    ("one-byte", "ｽｽﾞｷ TARO"), ("hiragana", "すずき　たろう"), ("katakana", "スズキ　タロウ"),
+    ("hiragana and 815B", "ーすずき　たろー"), ("katakana and 815B", "ースズキ　タロー"),
+    ("815B", "ー"), ("815B and 8140", "ー　ー"), ("8341", b"\x83\x41"), ("a letter", "A"),
+    ("40 bytes of hiragana", "ん" * 20), ("40 bytes of katakana", "ソ" * 20),
+    ("40 bytes, one-byte", "ﾀﾛｳ " * 9 + "ｽｽﾞｷ")]
+MIXED = [
+    ("hiragana and katakana", "すずきタロウ"), ("katakana and hiragana", "スズキ　たろう"),
+    ("815B between scripts", "ろーラ"), ("both widths", "スズキ ﾀﾛｳ"), ("815B and a letter", "ーA"),
+    ("kanji", "鈴木　太郎"), ("a kanji in katakana", "スズキ太"), ("a middle dot", "スズキ・タロウ"),
+    ("wide letters", "ＴＡＲＯ"), ("8260 in hiragana", "すＡ"), ("Greek in katakana", "アΑ"),
+    ("40 bytes of both", "ア" * 19 + "あ")]
+
+
+def with_records(direction, item):
+    """Every record once, with this kana name."""
+    return file(direction, *(named(item) if n == 1 else GOOD[n] for n in NUMBERS))
+
+
+def mixed_kana(call, room_of, **rest):
+    """02 (viii): "Files refused for this have no canonical file and no cutting". Buffers
+    that are empty, too short, as long as what is asked of a good file, and longer."""
+    def no(label, content, rooms):
+        for room in rooms:
+            refused(call, "mixed kana, %s, room %d" % (label, room), content, "no 11 2", room=room,
+                    **rest)
+
+    for label, item in MIXED:
+        content = to_provider(named(item))
+        enough = room_of(content)
+        no(label, content, (0, 1, enough - 1, enough, enough + 5))
+    for label, item in MIXED[:3]:
+        for where, content in [
+            ("1A", to_provider(raw(PATIENT) + raw(item)) + b"\x1a"),
+            ("direction 1", with_records(1, item)), ("direction 2", with_records(2, item)),
+        ]:
+            no("%s, %s" % (label, where), content, (0, room_of(content)))
 
 
 # =============================================================================
@@ -552,6 +591,15 @@ def index():
           [(3 * g + 2, 3 * g + 2, 3 * g + 1) for g in range(1, 301)], each=accepted)
     given("65536 bytes", check_case("65536 bytes"), [], each=accepted)
 
+    # Kana names: offsets and lengths are the file's own. Record 1 has 20 bytes without its name.
+    for label, item in ONE_SCRIPT:
+        in_buffers("index", "kana, " + label, to_provider(named(item), MEMO), "2",
+                   [1, 13, 20 + len(raw(item)), 0, 0, 0, 0, 4, 35 + len(raw(item)), 6, 0, 0, 0, 0])
+        for direction in (1, 2):
+            given("kana, %s, direction %d" % (label, direction), with_records(direction, item),
+                  [(6, 20, 1)], [(11, 16, 10)], [(12, 13, 11)], [(9, 20, 9)], each=accepted)
+    mixed_kana("index", lambda content: 7 * (content.count(b"\n") - 1))
+
     of_check("index")
     for label, content, _ in spread(check_cases()["ok"], 160):
         told("index", "check's %s" % label, content, 7 * content.count(b"\n"))
@@ -678,6 +726,17 @@ def canonical():
     full = check_case("65535 bytes and 1A")
     result = full[:-1].replace(b"19890108", b"H010108")
     accepted("canonical", "65535 bytes and 1A", full, "65534", result, spare=0)
+
+    # Kana names keep their bytes.
+    for label, item in ONE_SCRIPT:
+        given("kana, " + label, to_provider(raw(PATIENT) + raw(item)), to_provider(named(item)),
+              in_buffers)
+        given("kana, %s, canonical" % label, to_provider(named(item)), to_provider(named(item)))
+        for direction in (1, 2):
+            given("kana, %s, direction %d" % (label, direction),
+                  with_records(direction, item) + b"\x1a",
+                  with_records(direction, item).replace(b"20160411", b"H280411"))
+    mixed_kana("canonical", len)
 
     of_check("canonical")
     for label, content, _ in spread(check_cases()["ok"], 160):
@@ -1081,6 +1140,31 @@ def cut():
               list_of(2, [[ONE], [MEMO, MEMO], [MEMO, MEMO]], ident), ident, accepted)
 
     used_ids()
+
+    # Kana names keep their bytes, and count. At a capacity that just holds record 1, beside
+    # the 37 bytes of line 1 and a 911, no memo stands with it.
+    for label, item in ONE_SCRIPT:
+        content = to_provider(raw(PATIENT) + raw(item), *[MEMO] * 4) + b"\x1a"
+        one, size = named(item), 22 + len(raw(item))
+        given("kana, %s, whole" % label, content, 13 + size + 32, [to_provider(one, *[MEMO] * 4)])
+        runs = [[MEMO] * min(size // 8, 4 - at) for at in range(0, 4, size // 8)]
+        given("kana, %s, in pieces" % label, content, 37 + size, list_of(2, [[one], *runs]))
+        no("kana, %s, a byte less" % label, content, 36 + size, "no 18 0", room=200)
+    # No cutting of others, whatever the capacity, the ID and the run of used IDs.
+    for capacity in (UNBOUNDED, 60, 0):
+        for label, item in MIXED:
+            no("mixed kana, %s, %d" % (label, capacity), to_provider(named(item), MEMO), capacity,
+               "no 11 2", room=150)
+            no("mixed kana, %s, %d, no buffer" % (label, capacity), to_provider(named(item), MEMO),
+               capacity, "no 11 2", room=0)
+        for ident in (b"", b"1234567890123a", ID + b"5"):
+            no("mixed kana, ID %s, %d" % (shown_id(ident), capacity), to_provider(named("あア")),
+               capacity, "no 11 2", ident)
+        for used in (ID, ID[:13]):
+            refused("cut", "mixed kana, %d bytes used, %d" % (len(used), capacity),
+                    to_provider(named("あア")), "no 11 2", capacity=capacity, ident=ID, used=used)
+    mixed_kana("cut", len, capacity=UNBOUNDED, ident=ID)
+
     of_check("cut", capacity=UNBOUNDED, ident=ID)
     by_answer = check_cases()
     for number in range(2, 17):
@@ -1124,6 +1208,58 @@ def any_pieces(lines, number):
     orders = list(itertools.permutations(range(n)))
     ends = sorted((number * (3 + 2 * i)) % len(lines) for i in range(n - 1))
     return pieces_at(lines, ends, orders[number % len(orders)])
+
+
+def kana_in_pieces(given, no):
+    """02 (viii), of the joined file: its bytes are kept, or it is refused with its line."""
+    def runs_with(item):
+        return [[raw(PATIENT) + raw(item)], [MEMO], [DATE, "601,x,"]]
+
+    orders = list(itertools.permutations(range(3)))
+    for label, item in ONE_SCRIPT:
+        runs = runs_with(item)
+        whole = to_provider(*itertools.chain(*runs))
+        given("kana, " + label, whole + b"\x1a", whole, in_buffers)
+        for order in orders:
+            given("kana, %s, order %d%d%d" % (label, *order),
+                  b"".join(list_of(2, runs)[k] for k in order), whole)
+        given("kana, %s, 1A behind each" % label, b"\x1a".join(list_of(2, runs)[::-1]) + b"\x1a",
+              whole, in_buffers)
+    for label, item in MIXED:
+        runs = runs_with(item)
+        enough = len(to_provider(*itertools.chain(*runs)))
+        for order in orders:
+            no("mixed kana, %s, order %d%d%d" % (label, *order),
+               b"".join(list_of(2, runs)[k] for k in order), "no 11 2", room=enough)
+        for room in (0, enough - 1, enough, enough + 5):
+            no("mixed kana, %s, 1A behind each, room %d" % (label, room),
+               b"\x1a".join(list_of(2, runs)[::-1]) + b"\x1a", "no 11 2", room=room)
+    # A record 1 that may not stand where it does has 11 first, with the joined file's line.
+    bad = named("すずきタロウ")
+    for label, direction, runs, answer in [
+        ("in line 5", 2, [[PATIENT, MEMO], [MEMO], [bad]], "no 11 5"),
+        ("in line 3", 2, [[PATIENT], [bad, MEMO], [DATE]], "no 11 3"),
+        ("in line 3, direction 1", 1, [["2,1,x,2"], [bad], [DATE, HOSPITAL, ADVICE]], "no 11 3"),
+        ("in line 6, direction 1", 1, [[DATE, HOSPITAL], [ADVICE, KEEPER], [bad]], "no 11 6"),
+        ("in line 2, and 11 in line 3", 2, [[bad], ["2,7,x,2"], [DATE]], "no 11 2"),
+        ("in line 4, and 5 in line 3", 2, [[PATIENT, "6"], [bad], [DATE]], "no 5 3"),
+        ("good, but 13 in line 4", 2, [[PATIENT], [MEMO], [named("すずき")]], "no 13 4"),
+    ]:
+        for order in orders:
+            no("mixed kana, %s, order %d%d%d" % (label, *order),
+               b"".join(list_of(direction, runs)[k] for k in order), answer, room=100)
+    # 2 and 19 come first.
+    pieces = list_of(2, [[bad], [MEMO]])
+    for label, content, answer in [
+        ("a piece missing", pieces[0], "no 19 0"),
+        ("a piece twice", b"".join(pieces + pieces[:1]), "no 19 0"),
+        ("a line in front", b"x\r\n" + b"".join(pieces), "no 19 0"),
+        ("1A twice", b"".join(pieces) + b"\x1a\x1a", "no 2 7"),
+        ("x at the end", b"".join(pieces) + b"x", "no 2 7"),
+        ("another ID", pieces[0] + list_of(2, [[bad], [MEMO]], b"0" * 14)[1], "no 19 0"),
+    ]:
+        no("mixed kana, " + label, content, answer, room=100)
+    mixed_kana("join", len)
 
 
 def two_cuttings(given, no):
@@ -1488,6 +1624,7 @@ def join():
             given("groups of %s in pieces" % days, content, to_provider(PATIENT, *groups))
 
     two_cuttings(given, no)
+    kana_in_pieces(given, no)
 
     # 999 pieces; each but one without a record.
     def many(n, count):

@@ -18,6 +18,7 @@ import itertools
 import os
 import re
 import sys
+import unicodedata
 
 import oracle
 
@@ -163,6 +164,9 @@ def of_the_paper():
     ]
     for label, item, answer in names:
         case(label, to_provider(b"1," + item + b",1,19890108,,,,,,,"), answer)
+        # A kana name has no kanji.
+        for name, read in (("鈴木", "スズキ"), ("太郎", "タロウ")):
+            item = item.replace(raw(name), raw(read))
         case(label + " (kana)",
              to_provider(b"1,A,1,19890108,,,,,,," + item), answer)
 
@@ -494,9 +498,10 @@ def numbers():
 # Items
 # =============================================================================
 
-# Copied from 01, so that the families follow the paper and not the oracle.
+# Copied from 01, so that the families follow the paper and not the oracle; record
+# 1's last item is 02 (viii)'s kana name, K.
 PAPER = """
-1: U40! {1,2}! D! P? N800? X13? N800? N20? W? U40?
+1: U40! {1,2}! D! P? N800? X13? N800? N20? W? K40?
 2: {1,2,3,9}! N120! A!
 3: N120! D? D? A!
 4: N400! D? A!
@@ -559,7 +564,7 @@ def every_item():
                 given(where + "empty", whole(direction, number, joined(number, items)),
                       refusal)
 
-                if kind[0] not in "NUX":
+                if kind[0] not in "NUKX":
                     continue
                 most = int(kind[1:])
                 # Direction 1 asks for a form, and no form has such a unit: the
@@ -594,7 +599,7 @@ def edges():
     for number in NUMBERS:
         for at, (kind, _) in enumerate(ITEMS[number]):
             where = "%d item %d " % (number, at + 1)
-            if kind[0] in "NUX":
+            if kind[0] in "NUKX":
                 text = None if kind[0] != "X" else 11
                 for label, item, refusal in [
                     ("20 first", b" x", 10), ("20 last", b"x ", 10),
@@ -1358,6 +1363,403 @@ def neighbours():
 
 
 # =============================================================================
+# Kana names: 02 (viii)
+# =============================================================================
+
+# The cases of this part, apart from CASES: the other calls choose among those,
+# and so many of one item would leave little room for the rest. They have files
+# with kana names of their own.
+KANA = []
+
+
+def kana_case(label, content, answer):
+    KANA.append((label, content, answer))
+
+
+# The neighbours of the other characters: あ, ア. Trails tell nothing: ア's is an A.
+HIRAGANA, KATAKANA = b"\x82\xa0", WIDE
+LONG, SPACE = b"\x81\x5b", b"\x81\x40"  # the two that go with either script
+
+
+def named(item):
+    """Record 1 with this kana name."""
+    return b"1,A,1,H010108,,,,,,," + raw(item)
+
+
+def kana(label, item, refusal):
+    kana_case(label, to_provider(named(item)), "no %d 2" % refusal if refusal else "ok 1 0 0")
+
+
+def script(character):
+    """From Unicode's names, which know nothing of rows and cells."""
+    if len(character) == 1:
+        return "one-byte"
+    text = character.decode("shift_jis")
+    if character in (LONG, SPACE):
+        assert text in "ー　"
+        return "either"
+    name = unicodedata.name(text)
+    if name.startswith("HIRAGANA LETTER"):
+        assert "\u3041" <= text <= "\u3093"
+        return "hiragana"
+    if name.startswith("KATAKANA LETTER"):
+        assert "\u30a1" <= text <= "\u30f6"
+        return "katakana"
+    return "other"
+
+
+CHARACTERS = sorted(oracle.ONE_BYTE) + sorted(oracle.TWO_BYTE)
+OF_SCRIPT = {
+    name: [one for one in CHARACTERS if script(one) == name]
+    for name in ("one-byte", "hiragana", "katakana", "either", "other")
+}
+assert [len(ones) for ones in OF_SCRIPT.values()] == [158, 83, 86, 2, 6706]
+
+
+def row_of(character):
+    """Its row, by way of EUC-JP; 0 for a one-byte character."""
+    return character.decode("shift_jis").encode("euc_jp")[0] - 0xA0 if len(character) == 2 else 0
+
+
+# A character of each script alone, and beside a hiragana, a katakana, a narrow
+# katakana and a letter: x is 11, the period good.
+NEIGHBOURS = [b"", HIRAGANA, KATAKANA, b"\xb1", b"A"]
+BESIDE = {
+    "one-byte": ".xx..",
+    "hiragana": "..xxx",
+    "katakana": ".x.xx",
+    "either":   "...xx",
+    "other":    "xxxxx",
+}
+# Whatever stands beside these, they are at an edge; and a comma ends the item.
+SOONER = {b" ": 10, SPACE: 10, b",": 7}
+
+
+def kana_characters():
+    """All 158 and 6,877 characters alone, and after a hiragana, a katakana and a
+    narrow katakana; after a letter those of one byte. Before them all but the
+    kanji, and of these the first and the last of each row: a kanji that comes first
+    is refused by itself. The label is K and the item in hexadecimal."""
+    rows = collections.defaultdict(list)
+    for one in CHARACTERS:
+        rows[row_of(one)].append(one)
+    first = set()
+    for number, ones in rows.items():
+        first.update(ones if number < 16 else (ones[0], ones[-1]))
+    assert len(first) == 158 + 524 + 2 * 69
+
+    answers = {}  # two letters come about twice, once as each one's neighbour
+    for one in CHARACTERS:
+        for neighbour, sign in zip(NEIGHBOURS, BESIDE[script(one)]):
+            if neighbour == b"A" and len(one) == 2:
+                continue
+            refusal = SOONER.get(one, {"x": 11, ".": None}[sign])
+            for item in [neighbour + one] + [one + neighbour] * (one in first):
+                assert answers.setdefault(item, refusal) == refusal
+    for item, refusal in answers.items():
+        kana("K " + item.hex().upper(), item, refusal)
+
+
+def kana_runs():
+    """Every character of a script with others of it, up to 40 bytes; then with a
+    last one of the other script."""
+    for name, stranger in (("hiragana", KATAKANA), ("katakana", HIRAGANA)):
+        letters = OF_SCRIPT[name]
+        for at in range(0, len(letters), 20):
+            run = letters[at : at + 20]
+            where = "%s from %s" % (name, run[0].hex().upper())
+            kana("kana run: " + where, b"".join(run), None)
+            kana("kana run: %s, other last" % where, b"".join(run[:19]) + stranger, 11)
+            kana("kana run: %s, other first" % where, stranger + b"".join(run[:19]), 11)
+        for at in range(0, len(letters), 10):
+            run = letters[at : at + 10]
+            where = "%s from %s" % (name, run[0].hex().upper())
+            kana("kana run: %s, each with 815B" % where, b"".join(one + LONG for one in run), None)
+            kana("kana run: %s, 815B before each" % where,
+                 b"".join(LONG + one for one in run), None)
+            kana("kana run: %s, 8140 between" % where, SPACE.join(run), None)
+    letters = [one for one in OF_SCRIPT["one-byte"] if one != b","]
+    for at in range(0, len(letters), 38):
+        run = b"x" + b"".join(letters[at : at + 38]) + b"x"
+        where = "one-byte from %s" % run[1:2].hex().upper()
+        kana("kana run: " + where, run, None)
+        kana("kana run: %s, a wide one last" % where, run[:38] + KATAKANA, 11)
+
+
+# One character for each sign, and the rule in these signs.
+SIGNS = {"h": HIRAGANA, "k": KATAKANA, "-": LONG, "_": SPACE, "m": b"\x81\x45", "j": b"\x8a\xbf",
+         "n": b"\xb1", "A": b"A", "s": b" "}
+ONE_SCRIPT = "[nAs]+|[h_-]+|[k_-]+"
+
+
+def kana_scripts():
+    """Every item of one to three characters, of each sort."""
+    for size in (1, 2, 3):
+        for signs in itertools.product(SIGNS, repeat=size):
+            text = "".join(signs)
+            refusal = None if re.fullmatch(ONE_SCRIPT, text) else 11
+            if text[0] in "_s" or text[-1] in "_s":
+                refusal = 10
+            kana("kana signs " + text, b"".join(SIGNS[sign] for sign in signs), refusal)
+
+
+def kana_places():
+    """Another character at each place of a full item."""
+    def at_each(label, base, size, stranger, refusal, at_ends):
+        for place in range(size):
+            item = base * place + stranger + base * (size - 1 - place)
+            assert len(item) <= 40
+            kana("kana place: %s is %d of %d" % (label, place + 1, size), item,
+                 at_ends if place in (0, size - 1) else refusal)
+
+    greek, letter, dot, kanji = b"\x83\x9f", b"\x82\x60", b"\x81\x45", b"\x8a\xbf"
+    for name, base, strangers in [
+        ("hiragana", HIRAGANA, [KATAKANA, letter, dot, kanji, b"\xb1", b"x", b" "]),
+        ("katakana", KATAKANA, [HIRAGANA, greek, dot, kanji, b"\xb1", b"x", b" "]),
+        ("815B", LONG, [letter, greek, dot, kanji, b"\xb1", b" "]),
+    ]:
+        for stranger in strangers:
+            at_each("%s in %s" % (stranger.hex().upper(), name), base, 20, stranger, 11,
+                    10 if stranger == b" " else 11)
+        at_each("8140 in " + name, base, 20, SPACE, None, 10)
+    for name, base in (("hiragana", HIRAGANA), ("katakana", KATAKANA)):
+        at_each("815B in " + name, base, 20, LONG, None, None)
+        at_each(name + " in 815B", LONG, 20, base, None, None)
+    for stranger in (HIRAGANA, KATAKANA, LONG):
+        at_each(stranger.hex().upper() + " in one-byte", b"x", 39, stranger, 11, 11)
+    at_each("8140 in one-byte", b"x", 39, SPACE, 11, 10)
+    at_each("20 in one-byte", b"x", 40, b" ", None, 10)
+    # Both scripts among 815Bs, wherever they stand.
+    for one, other in itertools.permutations(range(8), 2):
+        item = [LONG] * 8
+        item[one], item[other] = HIRAGANA, KATAKANA
+        kana("kana place: hiragana %d, katakana %d of 8" % (one + 1, other + 1), b"".join(item), 11)
+
+
+def kana_broken():
+    """Pairs that are no characters under the leads of rows 1 to 8: 4, which comes
+    before 11, also where the rest is of one script."""
+    for lead in range(0x81, 0x85):
+        for trail in range(0x3F, 0xFE):
+            pair = bytes([lead, trail])
+            if pair not in oracle.TWO_BYTE:
+                kana("kana broken: " + pair.hex().upper(), HIRAGANA + pair, 4)
+    for label, item in [
+        ("lone 82 at the end", HIRAGANA + b"\x82"), ("lone 83 at the end", KATAKANA + b"\x83"),
+        ("lone 81 at the end", LONG + b"\x81"), ("lone 82 alone", b"\x82"),
+        ("FF", HIRAGANA + b"\xff"), ("00 in both scripts", HIRAGANA + b"\x00" + KATAKANA),
+        ("80 after kanji", b"\x8a\xbf\x80"), ("row 13", KATAKANA + b"\x87\x40"),
+        ("84-5", KATAKANA + b"\xea\xa3"), ("A0", b"\xb1\xa0"), ("UTF-8", "すずき".encode()),
+    ]:
+        kana("kana broken: " + label, item, 4)
+
+
+def kana_names():
+    for label, item, refusal in [
+        ("empty", "", None), ("hiragana", "すずき　たろう", None), ("katakana", "スズキ　タロウ", None),
+        ("narrow katakana", "ｽｽﾞｷ ﾀﾛｳ", None), ("letters", "SUZUKI TARO", None),
+        ("narrow katakana and letters", "ｽｽﾞｷ TARO", None), ("digits and marks", "ｽｽﾞｷ-2/ﾀﾛｳ(3)", None),
+        ("hiragana without space", "すずきたろう", None), ("one hiragana", "あ", None),
+        ("one katakana", KATAKANA, None), ("first and last hiragana", "ぁん", None),
+        ("first and last katakana", "ァヶ", None),
+        ("small and voiced", "っぱゎゐゑを", None), ("small and voiced katakana", "ッパヮヰヱヲヴヵヶ", None),
+        # The two that go with either.
+        ("815B alone", LONG, None), ("815B twice", LONG * 2, None), ("815B twenty times", LONG * 20, None),
+        ("815B last", "スズキ　タロー", None), ("815B first", "ースズキ", None),
+        ("815B inside", "ローラ", None), ("815B last, hiragana", "すずき　たろー", None),
+        ("815B first, hiragana", "ーすずき", None), ("815B inside, hiragana", "ろーら", None),
+        ("815B and 8140", "ー　ー", None), ("815B, 8140 twice, 815B", "ー　　ー", None),
+        ("8140 alone", SPACE, 10), ("8140 twice", SPACE * 2, 10), ("8140 twenty times", SPACE * 20, 10),
+        ("8140 first", "　すずき", 10), ("8140 last", "すずき　", 10), ("8140 at both ends", "　スズキ　", 10),
+        ("8140 then 815B", "　ー", 10), ("815B then 8140", "ー　", 10),
+        ("8140 inside twice", "すずき　　たろう", None), ("8140 several", "マリア　デ　ラ　クルス", None),
+        # Mixtures.
+        ("hiragana then katakana", "すずきタロウ", 11), ("katakana then hiragana", "スズキたろう", 11),
+        ("hiragana, 8140, katakana", "すずき　タロウ", 11), ("katakana, 8140, hiragana", "スズキ　たろう", 11),
+        ("hiragana, 815B, katakana", "ろーラ", 11), ("katakana, 815B, hiragana", "ローら", 11),
+        ("815B, hiragana, katakana", "ーすズ", 11), ("815B, katakana, hiragana", "ースず", 11),
+        ("hiragana, katakana, 815B", "たロー", 11), ("katakana, hiragana, 815B", "タろー", 11),
+        ("hiragana, katakana, hiragana", "すズき", 11), ("katakana, hiragana, katakana", "スずキ", 11),
+        ("hiragana, 8140, 815B, 8140, katakana", "あ　ー　ア", 11),
+        ("narrow and wide katakana", "ｽｽﾞｷ　タロウ", 11), ("wide and narrow katakana", "スズキ ﾀﾛｳ", 11),
+        ("wide katakana, narrow space", "スズキ タロウ", 11), ("hiragana, narrow space", "すずき たろう", 11),
+        ("narrow katakana, wide space", "ｽｽﾞｷ　ﾀﾛｳ", 11), ("narrow katakana, 815B", "ﾀﾛー", 11),
+        ("815B, narrow katakana", "ーﾀﾛ", 11), ("815B and a letter", LONG + b"A", 11),
+        ("a letter and 815B", b"A" + LONG, 11), ("wide katakana, B0", KATAKANA + b"\xb0", 11),
+        ("a letter, 8140, a letter", b"A" + SPACE + b"A", 11), ("hiragana, narrow voicing", "すｽﾞ", 11),
+        ("hiragana and letters", "すずきTARO", 11), ("letters and katakana", "TAROスズキ", 11),
+        # What is of no script, by itself and with each.
+        ("kanji", "鈴木　太郎", 11), ("one kanji", "薬", 11), ("kanji and hiragana", "鈴木たろう", 11),
+        ("hiragana and kanji", "すずき太郎", 11), ("katakana and kanji", "スズキ太郎", 11),
+        ("kanji and katakana", "鈴木タロウ", 11), ("kanji and 815B", "鈴ー", 11),
+        ("8A81 and @", b"\x8a\x81\x40", 11), ("8A81, a kanji", b"\x8a\x81", 11),
+        ("middle dot", "マリア・ルイサ", 11), ("middle dot, hiragana", "まりあ・るいさ", 11),
+        ("middle dot alone", "・", 11), ("narrow middle dot", "ﾏﾘｱ･ﾙｲｻ", None),
+        ("narrow middle dot in wide", "マリア･ルイサ", 11),
+        ("voicing marks 814A", b"\x83\x4a\x81\x4a", 11), ("voicing marks 814B", b"\x82\xcd\x81\x4b", 11),
+        ("iteration mark 8152", b"\x83\x52\x81\x52", 11), ("iteration mark 8153", b"\x83\x52\x81\x53", 11),
+        ("iteration mark 8154", b"\x82\xb1\x81\x54", 11), ("iteration mark 8155", b"\x82\xb1\x81\x55", 11),
+        ("815C, a dash", b"\x83\x8d\x81\x5c", 11), ("815A, a zero", b"\x83\x8d\x81\x5a", 11),
+        ("817C, a minus", b"\x83\x8d\x81\x7c", 11), ("8141", b"\x82\xa0\x81\x41", 11),
+        ("wide letter 8260", b"\x82\x60", 11), ("8260 after hiragana", b"\x82\xa0\x82\x60", 11),
+        ("8260 before hiragana", b"\x82\x60\x82\xa0", 11), ("8260 after katakana", b"\x83\x41\x82\x60", 11),
+        ("wide digit 824F after hiragana", b"\x82\xa0\x82\x4f", 11),
+        ("829A before 829F", b"\x82\x9a\x82\x9f", 11), ("wide letters", "ＳＵＺＵＫＩ", 11),
+        ("Greek 839F", b"\x83\x9f", 11), ("839F after katakana", b"\x83\x41\x83\x9f", 11),
+        ("839F before katakana", b"\x83\x9f\x83\x41", 11), ("839F after 8396", b"\x83\x96\x83\x9f", 11),
+        ("83D6 after katakana", b"\x83\x41\x83\xd6", 11), ("839F after hiragana", b"\x82\xa0\x83\x9f", 11),
+        ("Cyrillic 8440 after katakana", b"\x83\x41\x84\x40", 11), ("box 849F", b"\x84\x9f", 11),
+        # 40 bytes and more: 9 comes before 11.
+        ("40 bytes of hiragana", "あ" * 20, None), ("40 bytes of katakana", "ア" * 20, None),
+        ("40 bytes, one-byte", "ｱ" * 40, None), ("39 bytes, one-byte", "ｱ" * 39, None),
+        ("38 bytes of hiragana", "あ" * 19, None), ("42 bytes of hiragana", "あ" * 21, 9),
+        ("42 bytes of katakana", "ア" * 21, 9), ("41 bytes, one-byte", "ｱ" * 41, 9),
+        ("42 bytes of 815B", LONG * 21, 9), ("42 bytes of 8140", SPACE * 21, 9),
+        ("40 bytes, both scripts", "あ" * 19 + "ア", 11), ("42 bytes, both scripts", "あ" * 20 + "ア", 9),
+        ("42 bytes, katakana first", "ア" + "あ" * 20, 9), ("40 bytes of kanji", "薬" * 20, 11),
+        ("42 bytes of kanji", "薬" * 21, 9), ("40 bytes, both widths", "あ" * 19 + "xx", 11),
+        ("41 bytes, both widths", "あ" * 20 + "x", 9), ("39 bytes, both widths", "x" + "あ" * 19, 11),
+        ("42 bytes, 8140 first", "　" + "あ" * 20, 9), ("42 bytes in quotes", '"' + "あ" * 20 + '"', 9),
+        ("41 bytes, 20 last", "x" * 40 + " ", 9), ("200 bytes of both", "あア" * 50, 9),
+        # Spaces and quotes at the ends: 10 comes before 11.
+        ("20 first, both scripts", " あア", 10), ("20 last, both scripts", "あア ", 10),
+        ("8140 first, both scripts", "　あア", 10), ("8140 last, both scripts", "あア　", 10),
+        ("20 first, hiragana", " すずき", 10), ("20 last, katakana", "スズキ ", 10),
+        ("8140 last, one-byte", "TARO　", 10), ("8140 first, one-byte", "　TARO", 10),
+        ("8140 last, kanji", "太郎　", 10), ("20 alone", " ", 10), ("20 and 8140", " 　", 10),
+        ("22 around hiragana", '"すずき"', 10), ("27 around katakana", "'スズキ'", 10),
+        ("22 around both", '"あア"', 10), ("22 around letters", '"TARO"', 10), ("22 22", '""', 10),
+        ("22 alone", '"', None), ("22 first, letters", '"TARO', None), ("22 to 27, letters", "\"TARO'", None),
+        ("22 first, hiragana", '"すずき', 11), ("27 last, katakana", "スズキ'", 11),
+        ("22 to 27, hiragana", "\"すずき'", 11), ("8140 in 22", '"　"', 10),
+        ("wide quotes", "”すずき”", 11), ("wide quotes 8175", "「スズキ」", 11),
+    ]:
+        kana("kana name: " + label, item, refusal)
+
+    # Where other faults are due in the line: 8 to 11 item by item, the left one first,
+    # whatever the kana name has.
+    mixed = "すずきタロウ"
+    for label, at, item, refusal in [
+        ("8 left of it, name", 0, "", 8), ("8 left of it, sex", 1, "", 8), ("8 left of it, birth", 2, "", 8),
+        ("9 left of it, name", 0, "x" * 41, 9), ("9 left of it, address", 4, "x" * 801, 9),
+        ("9 left of it, telephone", 5, "0" * 14, 9), ("9 left of it, blood", 7, "x" * 21, 9),
+        ("10 left of it, name", 0, " A", 10), ("10 left of it, blood", 7, "A ", 10),
+        ("11 left of it, name", 0, "Aア", 11), ("11 left of it, sex", 1, "3", 11),
+        ("11 left of it, postal code", 3, "1", 11), ("11 left of it, weight", 8, "01", 11),
+    ]:
+        items = ["A", "1", "H010108", "", "", "", "", "", ""]
+        items[at] = item
+        for what, last in (("", mixed), (", good kana", "すずき"), (", 42 bytes", "あ" * 21),
+                           (", 8140 last", "あア　")):
+            kana_case("kana name: " + label + what, to_provider(joined(1, [*items, last])),
+                      "no %d 2" % refusal)
+    for label, content, refusal in [
+        ("7, an item fewer", "1,A,1,H010108,,,,,,すずきタロウ", 7),
+        ("7, an item more", "1,A,1,H010108,,,,,,,すずきタロウ,", 7),
+        ("7, a comma in it", "1,A,1,H010108,,,,,,,すずき,タロウ", 7),
+        ("5, 01", "01,A,1,H010108,,,,,,,すずきタロウ", 5),
+        ("6, 911", "911,A,1,H010108,,,,,,,すずきタロウ", 6),
+        ("2, 0D behind it", b"1,A,1,H010108,,,,,,,\x82\xa0\x83\x41\r", 2),
+        ("2, 0A in it", b"1,A,1,H010108,,,,,,,\x82\xa0\n\x83\x41", 2),
+        ("2, 1A behind it", b"1,A,1,H010108,,,,,,,\x82\xa0\x83\x41\x1a", 2),
+        ("4 in the name", b"1,\xff,1,H010108,,,,,,,\x82\xa0\x83\x41", 4),
+    ]:
+        kana_case("kana name: " + label, to_provider(content), "no %d 2" % refusal)
+    # Which line: the first faulty one.
+    bad = named(mixed)
+    for label, content, answer in [
+        ("before 4 in line 3", to_provider(bad, b"4,\xff,,2"), "no 11 2"),
+        ("before 2 in line 3", to_provider(bad) + b"x", "no 11 2"),
+        ("before 5 in line 3", to_provider(bad, "6"), "no 11 2"),
+        ("before 8 in line 3", to_provider(bad, "4,,,2"), "no 11 2"),
+        ("before 16 in line 4", to_provider(bad, "5,20160410,1", "5,20160411,1"), "no 11 2"),
+        ("without its line end", to_provider(bad)[:-2], "no 2 2"),
+        ("with 0D 0D 0A", to_provider(bad)[:-2] + b"\r\r\n", "no 2 2"),
+        ("after another version", b"JAHISTC03,2\r\n" + bad + b"\r\n", "no 3 1"),
+        ("after 0A in line 1", b"JAHISTC04,2\n\r\n" + bad + b"\r\n", "no 2 1"),
+        ("after 5 in line 2", to_provider("6", bad), "no 5 2"),
+        ("after 11 in line 2", to_provider("2,7,x,2", bad), "no 11 2"),
+        ("after 14 in line 2", to_provider("4,x,,2", bad), "no 14 2"),
+        ("before 13, a second record 1", to_provider(PATIENT, bad), "no 11 3"),
+        ("before 13, after a 4", to_provider(PATIENT, "4,x,,2", bad), "no 11 4"),
+        ("before 13, after a 701", to_provider(PATIENT, KEEPER, bad), "no 11 4"),
+        ("before 13, direction 1", to_patient("2,1,x,2", bad), "no 11 3"),
+        ("before 13, after a 55", to_provider(PATIENT, DATE, DOCTOR, bad), "no 11 5"),
+        ("good, but a second record 1", to_provider(PATIENT, named("すずき")), "no 13 3"),
+        ("before 14 at the end, direction 1", to_patient(bad), "no 11 2"),
+        ("good, 14 at the end, direction 1", to_patient(named("すずき")), "no 14 3"),
+        ("before 14 at a 701, direction 1", to_patient(bad, KEEPER), "no 11 2"),
+        ("with 1A", to_provider(bad) + b"\x1a", "no 11 2"),
+        ("with 1A twice", to_provider(bad) + b"\x1a\x1a", "no 11 2"),
+    ]:
+        kana_case("kana line: " + label, content, answer)
+
+    # Both directions, the whole file with every record, with 1A and without.
+    for direction in (1, 2):
+        for label, item, refusal in [
+            ("one-byte", "ｽｽﾞｷ TARO", None), ("hiragana", "すずき　たろー", None),
+            ("katakana", "スズキ　タロー", None), ("815B", "ー", None), ("empty", "", None),
+            ("both scripts", mixed, 11), ("kanji", "鈴木　太郎", 11), ("both widths", "スズキ ﾀﾛｳ", 11),
+            ("middle dot", "スズキ・タロウ", 11), ("wide letters", "ＴＡＲＯ", 11),
+            ("8140 last", "すずき　", 10), ("42 bytes", "あ" * 21, 9), ("FF", HIRAGANA + b"\xff", 4),
+        ]:
+            content, at, good = whole(direction, 1, named(item))
+            answer = "no %d %d" % (refusal, at) if refusal else good
+            kana_case("kana direction %d: %s" % (direction, label), content, answer)
+            kana_case("kana direction %d: %s, 1A" % (direction, label), content + b"\x1a", answer)
+
+
+def scripts_elsewhere():
+    """Names and texts have no script: the name is of one width, texts are free."""
+    for label, item, refusal in [
+        ("kanji, hiragana and katakana", "鈴木すずきスズキ", None), ("hiragana and katakana", "すずきタロウ", None),
+        ("rows 1 to 8", "・〒Ａあアαд─", None), ("middle dot", "マリア・ルイサ", None),
+        ("kanji", "鈴木　太郎", None), ("wide letters", "ＳＵＺＵＫＩ", None),
+        ("katakana and Greek", b"\x83\x41\x83\x9f", None), ("hiragana and 8260", b"\x82\xa0\x82\x60", None),
+        ("both widths", "鈴木 太郎", 11), ("katakana of both widths", "スズｷ", 11), ("hiragana and a letter", "すA", 11),
+    ]:
+        content = to_provider(b"1," + raw(item) + b",1,H010108,,,,,,,")
+        kana_case("scripts in the name: " + label, content, "no 11 2" if refusal else "ok 1 0 0")
+        # Beside it a kana name, which goes by its own rule.
+        kana_case("scripts in the name: %s, hiragana for kana" % label,
+                  content.replace(b",,,,,,,", b",,,,,,,\x82\xa0"), "no 11 2" if refusal else "ok 1 0 0")
+        kana_case("scripts in the name: %s, both scripts for kana" % label,
+                  content.replace(b",,,,,,,", b",,,,,,,\x82\xa0\x83\x41"), "no 11 2")
+    # All characters in names, twenty or forty at a time, mixed: each run has
+    # those that lie far apart in the list.
+    wide = [one for one in CHARACTERS if len(one) == 2 and one != SPACE]
+    step = -(-len(wide) // 19)
+    for at in range(step):
+        run = wide[at::step]
+        kana_case("scripts in the name: wide run %d" % at,
+                  to_provider(b"1," + b"".join(run[:1] + [SPACE] + run[1:]) + b",1,H010108,,,,,,,"),
+                  "ok 1 0 0")
+    narrow = [one for one in OF_SCRIPT["one-byte"] if one != b","]
+    for at in range(5):
+        kana_case("scripts in the name: narrow run %d" % at,
+                  to_provider(b"1,x" + b"".join(narrow[at::5]) + b"x,1,H010108,,,,,,,"), "ok 1 0 0")
+
+    # Every text, in both directions.
+    text = "漢あアーｱA・"
+    assert len(raw(text)) == 12
+    for number in NUMBERS:
+        for at, (kind, _) in enumerate(ITEMS[number]):
+            if kind[0] != "N":
+                continue
+            where = "scripts in %d item %d" % (number, at + 1)
+            content, _, good = alone(number, changed(number, at, text))
+            kana_case(where, content, good)
+            # Direction 1 asks for a form, and no form has such a unit.
+            if (number, at) != (301, 3):
+                content, _, good = whole(1, number, changed(number, at, text))
+                kana_case(where + ", direction 1", content, good)
+            # The same text as a kana name is the first fault.
+            if number != 1:
+                content = content.replace(raw(PATIENT), raw(PATIENT) + raw(text))
+                kana_case(where + " and as a kana name", content, "no 11 2")
+
+
+# =============================================================================
 # The examples of 15-106
 # =============================================================================
 
@@ -1535,7 +1937,8 @@ def all_cases():
     for family in [of_the_paper, dates, line_ends, version_line, byte_limit, characters,
                    numbers, every_item, edges, kinds, pairs, two_faults, missing_records,
                    usage_and_group, after_51_and_55, prescriptions, doctors,
-                   order_in_a_group, neighbours, examples]:
+                   order_in_a_group, neighbours, examples, kana_names, kana_scripts, kana_places,
+                   kana_runs, kana_characters, kana_broken, scripts_elsewhere]:
         family()
 
 
@@ -1582,7 +1985,7 @@ def check_frames():
     """Label, frame and answer of each case of check."""
     all_cases()
     frames, disagreements = [], 0
-    for label, content, answer in CASES:
+    for label, content, answer in CASES + KANA:
         assert 0 < len(label) < 80 and len(content) <= 65600
         found = answer_of_oracle(content)
         if found != answer:
@@ -1592,10 +1995,12 @@ def check_frames():
     assert disagreements == 0
 
     counts = collections.Counter(
-        "ok" if answer.startswith("ok") else int(answer.split()[1]) for _, _, answer in CASES)
+        "ok" if answer.startswith("ok") else int(answer.split()[1])
+        for _, _, answer in CASES + KANA)
     assert all(counts[number] >= 3 for number in range(1, 17))
-    print("check: %d cases, %d bytes: %d ok" % (
-        len(CASES), sum(len(content) for _, content, _ in CASES), counts.pop("ok")))
+    print("check: %d cases, %d of them of kana names, %d bytes: %d ok" % (
+        len(frames), len(KANA), sum(len(content) for _, content, _ in CASES + KANA),
+        counts.pop("ok")))
     print(", ".join("%d: %d" % pair for pair in sorted(counts.items())))
     return frames
 
@@ -1615,7 +2020,7 @@ def write(out_dir, frames):
         line[: found.start()] for line in stdout.splitlines() for found in re.finditer(": ", line))
     twice = [label for label, _, _ in frames if starts[label] != 1]
     assert twice == [], twice
-    assert len(stdin) < 5_500_000
+    assert len(stdin) < 8_000_000
     folder = os.path.join(out_dir, "cases")
     os.makedirs(folder, exist_ok=True)
     for name, content in (("stdin", stdin), ("stdout", stdout.encode("ascii"))):

@@ -1,6 +1,6 @@
 """A plain reading of document 01 with the requests of document 02 that have
-landed ((i), Reiwa; (v), the clinic in the index; (vii), IDs that have been used),
-for comparing with the gateway.
+landed ((i), Reiwa; (v), the clinic in the index; (vii), IDs that have been used;
+(viii), one script in kana names), for comparing with the gateway.
 
 check(data) answers ("ok", records, groups, drugs) or ("no", number, line).
 Whatever a record's standing depends on is found by looking back over the list
@@ -75,6 +75,26 @@ def characters(raw):
     return found
 
 
+# 02 (viii): "allowed with either two-byte script, or by themselves"
+WITH_EITHER = {b"\x81\x40", b"\x81\x5b"}
+
+
+def of_row(character, row):
+    """Whether this is a two-byte character of the row, or one that goes with it."""
+    if len(character) == 1:
+        return False
+    return character in WITH_EITHER or _row_and_cell(character)[0] == row
+
+
+def one_script(found):
+    """02 (viii): "all one-byte, or all hiragana (row 4), or all katakana (row 5)"."""
+    return (
+        all(len(one) == 1 for one in found)
+        or all(of_row(one, 4) for one in found)
+        or all(of_row(one, 5) for one in found)
+    )
+
+
 # --- items ------------------------------------------------------------------
 
 FIRST_DAY = datetime.date(1873, 1, 1)
@@ -122,11 +142,11 @@ PATTERNS = {
     "X": rb"[A-Za-z0-9.-]+",
 }
 
-# name: items in order. An item is kind, most bytes (N, U, X) or values
-# (braces, written as one string), and its need.
+# name: items in order. An item is kind, most bytes (N, U, K, X) or values
+# (braces, written as one string), and its need. K is 02 (viii)'s kana name.
 TABLE = {
     "1": ["U 40 !", "= 1/2 !", "D !", "P ?", "N 800 ?", "X 13 ?", "N 800 ?",
-          "N 20 ?", "W ?", "U 40 ?"],
+          "N 20 ?", "W ?", "K 40 ?"],
     "2": ["= 1/2/3/9 !", "N 120 !", "A !"],
     "3": ["N 120 !", "D ?", "D ?", "A !"],
     "4": ["N 400 !", "D ?", "A !"],
@@ -159,7 +179,7 @@ def item_fault(direction, item, rule):
     kind, need = parts[0], parts[-1]
     if item == b"":
         return 8 if need == "!" or (need == "+" and direction == 1) else None
-    if kind in ("N", "U", "X"):
+    if kind in ("N", "U", "K", "X"):
         if len(item) > int(parts[1]):
             return 9
         found = characters(item)
@@ -168,6 +188,8 @@ def item_fault(direction, item, rule):
         if len(item) >= 2 and item[:1] == item[-1:] and item[:1] in (b'"', b"'"):
             return 10
         if kind == "U" and len({len(one) for one in found}) > 1:
+            return 11
+        if kind == "K" and not one_script(found):
             return 11
         if kind == "X" and not re.fullmatch(PATTERNS["X"], item):
             return 11

@@ -140,6 +140,47 @@ def sample_written(folder):
     same("notecanon", run("notecanon", folder, data), (0, wanted, b""))
 
 
+# --- kana names ---
+
+# 02 (viii): of one script, and others.
+ONE_SCRIPT = {"one-byte": "ｽｽﾞｷ TARO", "hiragana": "すずき　たろー", "katakana": "スズキ　タロー", "815Bh": "ー", "none": ""}
+MIXED = {"hiragana and katakana": "すずきタロウ", "kanji": "鈴木　太郎", "two widths": "スズキ ﾀﾛｳ", "a middle dot": "スズキ・タロウ"}
+
+
+def named(kana, birth=b"H010108"):
+    return FIRST + b"1,A,1,%s,,,,,,,%s\r\n" % (birth, kana.encode("shift_jis"))
+
+
+def kept(kana, folder):
+    """Every call accepts the name, and its bytes stay."""
+    given, wanted = named(kana, b"19890108"), named(kana)
+    write(folder, {"a.csv": given})
+    same("notebook check", run("notebook check a.csv", folder), (0, b"a.csv: ok 1 0 0\n", b""))
+    same("notecheck", run("notecheck", folder, given), (0, b"ok 1 0 0\n", b""))
+    same("notebook canonical", run("notebook canonical a.csv", folder), (0, wanted, b""))
+    same("notecanon", run("notecanon", folder, given), (0, wanted, b""))
+    same("notebook cut", run("notebook cut --capacity 75 --id %s a.csv" % ID, folder), (0, wanted, b""))
+    same("notecut", run("notecut 75 " + ID, folder, given), (0, wanted, b"ok 1 %d\n" % len(wanted)))
+    same("notebook join", run("notebook join a.csv", folder), (0, given, b""))
+    same("notejoin", run("notejoin a.csv", folder), (0, given, b""))
+
+
+def mixed(kana, folder):
+    """There is no canonical file and no cutting."""
+    given, told = named(kana), (1, b"", b"a.csv: no 11 2: form\n")
+    write(folder, {"a.csv": given})
+    same("notebook check", run("notebook check a.csv", folder), (1, told[2], b""))
+    same("notecheck", run("notecheck", folder, given), (0, b"no 11 2\n", b""))
+    same("notebook index", run("notebook index a.csv", folder), (1, told[2], b""))
+    same("noteindex", run("noteindex", folder, given), (0, b"no 11 2\n", b""))
+    same("notebook canonical", run("notebook canonical a.csv", folder), told)
+    same("notecanon", run("notecanon", folder, given), (0, b"", b"no 11 2\n"))
+    same("notebook cut", run("notebook cut --capacity 75 --id %s a.csv" % ID, folder), told)
+    same("notecut", run("notecut 75 " + ID, folder, given), (0, b"", b"no 11 2\n"))
+    same("notebook join", run("notebook join a.csv", folder), (1, b"", b"join: no 11 2: form\n"))
+    same("notejoin", run("notejoin a.csv", folder), (0, b"", b"no 11 2\n"))
+
+
 # --- refusals that are the operator's ---
 
 # words of the command, words of notecut, number, word, status
@@ -187,6 +228,8 @@ def tests():
         + [("check of the samples", samples_checked)]
         + [("canonical, cut and join of " + one, partial(spelled, written, one)) for written, ones in DAYS.items() for one in ones]
         + [("canonical of the sample", sample_written)]
+        + [("a kana name, " + name, partial(kept, kana)) for name, kana in ONE_SCRIPT.items()]
+        + [("a kana name with " + name, partial(mixed, kana)) for name, kana in MIXED.items()]
         + [("cut %s: %d" % (row[0].replace(ID, "ID"), row[3]), partial(refused_cut, row)) for row in REFUSED_CUTS]
         + [("cut, the cases of document 01", cuts)]
     )
