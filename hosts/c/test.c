@@ -86,6 +86,8 @@ static int same(const uint8_t *at, size_t length, struct bytes b)
 #define LINE_1 "JAHISTC04,2\r\n"
 #define PATIENT "1,A,1,19890108,,,,,,,\r\n"
 #define CANONICAL_PATIENT "1,A,1,H010108,,,,,,,\r\n"
+/* Its kana name is of hiragana and katakana. */
+#define MIXED_NAME "1,A,1,19890108,,,,,,,\x82\xa0\x83\x41\r\n"
 #define MEMO "4,x,,2\r\n"
 #define GROUP "5,20160411,2\r\n"
 #define ID "20261115000001"
@@ -407,6 +409,36 @@ static void days(void)
     }
 }
 
+/* Document 02's kana names, the last item of record 1: of one script, they are kept as they are. */
+static void kana_names(void)
+{
+    static const char *const names[] = {
+        "\xbd\xbd\xde\xb7 \xc0\xdb\xb3",         /* one-byte */
+        "\x82\xa0\x81\x5b\x81\x40\x82\xa0",       /* hiragana with 815Bh and 8140h */
+        "\x83\x41\x81\x5b\x81\x40\x83\x41",       /* katakana with both */
+        "\x81\x5b", "\x81\x5b\x81\x40\x81\x5b", /* these alone */
+    };
+    size_t i;
+    for (i = 0; i < sizeof names / sizeof names[0]; i++) {
+        struct bytes file = text(LINE_1 "1,A,1,H010108,,,,,,,");
+        uint8_t *out = lend(60);
+        file = add(file, names[i], strlen(names[i]));
+        file = add(file, "\r\n", 2);
+        HOLD(result(notebook_check(file.at, file.length), 1, 0, 0));
+        HOLD(result(notebook_canonical(file.at, file.length, out, 60), file.length, 0, 0));
+        HOLD(same(out, file.length, file) && kept(out, 60, file.length));
+        give_back(out);
+
+        out = lend(60);
+        HOLD(result(cut(file, file.length, ID, out, 60), 1, file.length, 0));
+        HOLD(same(out, file.length, file) && kept(out, 60, file.length));
+        give_back(out);
+
+        join_gives(file, file);
+        free(file.at);
+    }
+}
+
 static void cuttings(void)
 {
     struct bytes file = memos(18);
@@ -637,6 +669,10 @@ static void refusals(void)
         {LINE_1 PATIENT "4, x,,2\r\n", NOTEBOOK_REFUSED_EDGE, 3},
         {LINE_1 PATIENT "4,x,,3\r\n", NOTEBOOK_REFUSED_FORM, 3},
         {LINE_1 PATIENT "5,R010430,2\r\n", NOTEBOOK_REFUSED_FORM, 3},
+        {LINE_1 MIXED_NAME, NOTEBOOK_REFUSED_FORM, 2},
+        {LINE_1 "1,A,1,19890108,,,,,,,\x82\xa0\x82\x4f\r\n", NOTEBOOK_REFUSED_FORM, 2},
+        {LINE_1 "1,A,1,19890108,,,,,,,\xb1\x81\x5b\r\n" MEMO, NOTEBOOK_REFUSED_FORM, 2},
+        {LINE_1 "1,A,1,19890108,,,,,,,\x82\xa0\x83\x41\x81\x40\r\n", NOTEBOOK_REFUSED_EDGE, 2},
         {LINE_1 PATIENT GROUP "201,1,x,1,T,2,,2\r\n", NOTEBOOK_REFUSED_PAIR, 4},
         {LINE_1 PATIENT MEMO "2,1,x,2\r\n", NOTEBOOK_REFUSED_PLACE, 4},
         {LINE_1, NOTEBOOK_REFUSED_MISSING, 2},
@@ -677,6 +713,7 @@ static void sets(void)
         {PIECE_1 LINE_1 MEMO, NOTEBOOK_REFUSED_SET, 0},
         {MEMO PIECE_1 PIECE_2, NOTEBOOK_REFUSED_SET, 0},
         {LINE_1 MEMO "911," ID ",2,1\r\n" LINE_1 PATIENT "911," ID ",2,2\r\n", NOTEBOOK_REFUSED_MISSING, 2},
+        {PIECE_2 LINE_1 MIXED_NAME "911," ID ",2,1\r\n", NOTEBOOK_REFUSED_FORM, 2},
     };
     struct bytes pieces = text(PIECE_2 "\x1a" PIECE_1 "\x1a");
     struct bytes file = text(LINE_1 CANONICAL_PATIENT MEMO);
@@ -783,6 +820,7 @@ int main(void)
     small_file();
     clinics();
     days();
+    kana_names();
     cuttings();
     used_ids();
     refusals();

@@ -4,6 +4,7 @@
 use crate::damage::Damage;
 use crate::division::{join_input, mixture, pieces_of, CutInput, TwoCuttings, MOST_PIECES_BYTES};
 use crate::faults::{faults, Fault};
+use crate::kana::Kana;
 use crate::library::{replies, Reply, Told};
 use crate::ordinary::{self, ENTRY_NUMBERS};
 use crate::random::Random;
@@ -37,6 +38,7 @@ pub struct Comparison {
     /// How often each reason for 19 has stood alone; beside another one, a missing k does not count.
     faults: [u64; Fault::ALL.len()],
     days: Days,
+    kana: Kana,
     clinics: Clinics,
     runs: Runs,
     mixtures: Mixtures,
@@ -66,6 +68,7 @@ impl Comparison {
             ],
             faults: [0; Fault::ALL.len()],
             days: Days::default(),
+            kana: Kana::default(),
             clinics: Clinics::default(),
             runs: Runs::default(),
             mixtures: Mixtures::default(),
@@ -111,7 +114,9 @@ impl Comparison {
     pub fn compare(&mut self, file: &[u8], cut: &CutInput, pieces: &[u8]) {
         let mut random = Random::of(self.seed ^ 0xBFF, self.inputs);
         self.inputs += 1;
-        let (ours, theirs) = (ordinary::check(file).reply(), replies::check(file));
+        let answer = ordinary::check(file);
+        self.kana.count(file, answer);
+        let (ours, theirs) = (answer.reply(), replies::check(file));
         self.tallies[0].counts[ours.refusal as usize] += 1;
         if ours != theirs {
             self.tell("check", &[file], &Difference { length: 0, ours, theirs, place: None });
@@ -267,8 +272,8 @@ impl Comparison {
         self.shown.push(text);
     }
 
-    /// What has not occurred though it can: refusals of a call, reasons for 19, spellings of days, records and groups with
-    /// and without a clinic, runs of used IDs near the rule, and mixtures of two cuttings.
+    /// What has not occurred though it can: refusals of a call, reasons for 19, spellings of days, kana names near the rule,
+    /// records and groups with and without a clinic, runs of used IDs near the rule, and mixtures of two cuttings.
     pub fn missing(&self) -> Vec<String> {
         let mut missing = Vec::new();
         for tally in &self.tallies {
@@ -278,14 +283,15 @@ impl Comparison {
         let faults = Fault::ALL.iter().zip(self.faults).filter(|(_, count)| *count == 0);
         missing.extend(faults.map(|(fault, _)| format!("join: 19 has not occurred by {fault:?} alone")));
         missing.extend(self.days.missing());
+        missing.extend(self.kana.missing());
         missing.extend(self.clinics.missing());
         missing.extend(self.runs.missing());
         missing.extend(self.mixtures.missing());
         missing
     }
 
-    /// Tables of refusals by call, of the reasons for 19, of days by letter, of clinics, of runs of used IDs and of mixtures,
-    /// and the last line: inputs and differences.
+    /// Tables of refusals by call, of the reasons for 19, of days by letter, of kana names, of clinics, of runs of used IDs and
+    /// of mixtures, and the last line: inputs and differences.
     pub fn summary(&self) -> String {
         let names: String = self.tallies.iter().map(|tally| format!("{:>10}", tally.call)).collect();
         let mut text = format!("{:<10}{names}\n", "");
@@ -301,6 +307,7 @@ impl Comparison {
         for (letter, [kept, changed]) in ('A'..='Z').zip(self.days.0).filter(|(_, counts)| *counts != [0; 2]) {
             let _ = writeln!(text, "days under {letter} {kept:>17}, and {changed} that are written under another letter");
         }
+        text += &self.kana.summary();
         for (what, [without, with], _) in self.clinics.rows() {
             let _ = writeln!(text, "{what:<32}{without:>6} without a clinic, {with} with one");
         }
@@ -467,9 +474,10 @@ mod tests {
     const INPUTS: u64 = 12_000;
 
     /// The gate's bounded comparison. Every refusal that a call can give, every reason for 19 and every era's letter must occur,
-    /// and one that is read after its era's end must occur there; so must every record of a group with and without a clinic,
-    /// groups with and without one after each other, every kind of run near the rule of 24, and mixtures of two cuttings: a
-    /// comparison that misses one shows nothing of it.
+    /// and one that is read after its era's end must occur there; so must kana names of each script, and such that 11 refuses
+    /// for each two sorts of characters that do not go together, every record of a group with and without a clinic, groups with
+    /// and without one after each other, every kind of run near the rule of 24, and mixtures of two cuttings: a comparison that
+    /// misses one shows nothing of it.
     #[test]
     fn the_library_and_the_ordinary_implementation_answer_alike() {
         let mut comparison = Comparison::new(SEED);
@@ -546,6 +554,14 @@ mod tests {
             "cut: cut with the ID across two by 5: none",
             "cut: 24 by the ID last: none",
             "cut: 24 by bytes more 13: none",
+            "check: kana name accepted of one-byte: none",
+            "check: kana name accepted of hiragana and 8140h and 815Bh: none",
+            "check: kana name accepted of katakana and 8140h and 815Bh: none",
+            "check: kana name accepted of 815Bh: none",
+            "check: kana name refused of hiragana and katakana: none",
+            "check: kana name refused of hiragana and row 3: none",
+            "check: kana name refused of katakana and row 6: none",
+            "check: kana name refused of one-byte and 815Bh: none",
         ] {
             assert!(!missing.contains(wanted), "the corpus: {wanted}");
         }

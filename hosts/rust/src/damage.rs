@@ -2,6 +2,7 @@
 //! Seed and index give the same file on every machine.
 
 use crate::calendar::{beginnings, edges, letters, near_a_beginning, Day};
+use crate::kana;
 use crate::random::Random;
 use crate::sample::{self, sized_from};
 use std::sync::LazyLock;
@@ -20,14 +21,18 @@ impl Default for Damage {
         let starts = beginnings().map(|first| (0..12).fold(first, |day, _| day.after()));
         let newest: Vec<Day> = [sample::NEWEST].into_iter().chain(starts.take(beginnings().count() - 1)).collect();
         let sizes = [1_000, 1_500, 2_500, 4_000];
-        let small = newest.iter().flat_map(|&day| sizes.map(|size| sized_from(day, size))).collect();
+        let mut small: Vec<Vec<u8>> = newest.iter().flat_map(|&day| sizes.map(|size| sized_from(day, size))).collect();
+        for (file, name) in small.iter_mut().zip(KANA_NAMES.iter().cycle()) {
+            kana::rename(file, name);
+        }
         let begun = beginnings().next().expect("there is an era");
         Damage { small, large: sized_from(Day::new(begun.year() + 2, 4, 11), 60_000) }
     }
 }
 
 impl Damage {
-    /// The file of this seed and index: one time in eight without damage, else with one to three damages.
+    /// The file of this seed and index: one time in eight without damage, else with one to three damages. Patients alone, with
+    /// kana names near the rule, are left as they are.
     pub fn file(&self, seed: u64, index: u64) -> Vec<u8> {
         let mut random = Random::of(seed, index);
         let mut file = match random.below(64) {
@@ -36,6 +41,7 @@ impl Damage {
             2..=9 => groups(&mut random),
             10..=31 => walk(&mut random),
             32..=36 => clinics(&mut random),
+            37..=39 => return kana_name(&mut random),
             _ => self.small[random.below(self.small.len())].clone(),
         };
         if random.once_in(3) {
@@ -56,6 +62,15 @@ impl Damage {
     }
 }
 
+/// Kana names of the samples: half-width, hiragana, katakana, the mark of a long vowel alone, and none.
+const KANA_NAMES: &[&[u8]] = &[
+    b"\xC0\xB6\xC2 \xBB\xC1\xBA",
+    b"\x82\xBD\x82\xA9\x82\xC2\x81\x40\x82\xB3\x81\x5B",
+    b"\x83\x5E\x83\x4A\x83\x63\x81\x40\x83\x54\x81\x5B",
+    b"\x81\x5B",
+    b"",
+];
+
 /// Bytes and items that the rules speak of, beside letters of eras and days.
 const BYTES: &[u8] =
     b"\r\n\x1A ,\"'.-0123489@\x7E\x7F\x80\x81\x40\x82\x84\x85\x88\x98\x9F\xA0\xA1\xDF\xE0\xEA\xEB\xEF\xF0\xFC\xFD\x00\x1F";
@@ -67,6 +82,7 @@ const ITEMS: &[&[u8]] = &[
     b"20160411", b"20160431", b"19000229", b"20000229", b"20160412", b"20150101",
     b"A", b"a.b-c", b"a_b", b"a b", b" ", b"\"", b"'", b"\"\"", b"''", b"'x'", b"\"x'", b"2171022F1010", b"12345678901234", b"1013044400000000", b"10130444000000001",
     b"\x92\xB2\x8D\xDC", b"\x93\xFA\x95\xAA", b"\x89\xF1\x95\xAA", b"\x81\x40", b"\x8A\x81\x40", b"\x8A\x81\x81\x40", b"\x83\x41", b"\x83\x41A", b"A\x83\x41", b"\xB1\xB2",
+    b"\x82\xA0", b"\x82\xA0\x83\x41", b"\x83\x41\x81\x5B", b"\x82\xF2", b"\x83\x97",
     b"911", b"", b"",
 ];
 
@@ -84,7 +100,7 @@ fn some_item(random: &mut Random) -> Vec<u8> {
 
 /// Damages the file once. A file without lines stays as it is under damages of lines.
 pub fn damage(random: &mut Random, file: &mut Vec<u8>) {
-    match random.below(22) {
+    match random.below(23) {
         0 => change(random, file, |random| random.below(256) as u8),
         1 => change(random, file, some_byte),
         2 => {
@@ -115,6 +131,7 @@ pub fn damage(random: &mut Random, file: &mut Vec<u8>) {
         ])),
         7 if random.once_in(4) => file.resize(65_537 - random.below(3), b'x'),
         8..=12 => with_lines(file, |lines| damage_lines(random, lines)),
+        13 => kana::rename(file, &kana::name(random)),
         _ => with_lines(file, |lines| {
             let line = 1 + random.below(lines.len().max(2) - 1);
             if let Some(line) = lines.get_mut(line) {
@@ -323,7 +340,7 @@ fn next_day(random: &mut Random, day: Day) -> Day {
 fn short_record(random: &mut Random, number: u16, rp: usize, day: Day, kinds: &[&str]) -> Vec<u8> {
     let rp = if random.once_in(10) { format!("{rp:03}") } else { rp.to_string() };
     let text = match number {
-        1 => format!("1,A,1,{},,,,,,,", some_day(random)),
+        1 => return patient(random),
         2 => "2,1,x,1".to_string(),
         3 => format!("3,x,{},8", two_days(random)),
         4 => format!("4,x,{},2", some_day_or_none(random)),
@@ -345,6 +362,21 @@ fn short_record(random: &mut Random, number: u16, rp: usize, day: Day, kinds: &[
 
 fn some_day(random: &mut Random) -> String {
     String::from_utf8_lossy(&near_a_beginning(random).spelled(random)).into_owned()
+}
+
+/// A record 1, with a kana name half of the time.
+fn patient(random: &mut Random) -> Vec<u8> {
+    let mut record = format!("1,A,1,{},,,,,,,", some_day(random)).into_bytes();
+    if random.once_in(2) {
+        record.extend(kana::name(random));
+    }
+    record
+}
+
+/// Direction 2: a patient alone with a kana name, half of the time a mixed one.
+fn kana_name(random: &mut Random) -> Vec<u8> {
+    let name = if random.once_in(2) { kana::name(random) } else { kana::mixed(random) };
+    [b"JAHISTC04,2\r\n1,A,1,19890108,,,,,,,", &name[..], b"\r\n"].concat()
 }
 
 /// For an item that may be empty.
@@ -434,6 +466,16 @@ mod tests {
         let first_is_older = same.map(|([one, next], _)| Day::read(one).is_some_and(|day| day.in_its_era() == *next));
         let (older, newer): (Vec<bool>, Vec<bool>) = first_is_older.partition(|&older| older);
         assert!(older.len() >= 3 && newer.len() >= 3, "{} and {}", older.len(), newer.len());
+    }
+
+    #[test]
+    fn samples_have_kana_names_of_each_script() {
+        let samples = Damage::default().small;
+        assert!(samples.iter().all(|file| check(file).is_ok()));
+        for name in KANA_NAMES {
+            let record_end = [b",", *name, b"\r\n2,"].concat();
+            assert!(samples.iter().any(|file| file.windows(record_end.len()).any(|part| part == record_end)), "{name:X?}");
+        }
     }
 
     #[test]

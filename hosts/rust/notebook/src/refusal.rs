@@ -28,7 +28,7 @@ pub enum Reason {
     Long,
     /// An item begins or ends with a space, or is in quotes.
     Edge,
-    /// An item is not of its kind.
+    /// An item is not of its kind. A kana name of more than one script is such an item.
     Form,
     /// Two items, or an item and the group, do not agree.
     Pair,

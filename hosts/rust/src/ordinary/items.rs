@@ -1,6 +1,6 @@
 //! The items of a record by their kinds.
 
-use super::characters::{characters, MOST_PARTS};
+use super::characters::{scripts, Script, MOST_PARTS};
 use super::days::{self, Day};
 use super::{rule, Watcher, EDGE, EMPTY, FORM, LONG};
 
@@ -67,9 +67,19 @@ impl<'a, W: Watcher> Items<'a, W> {
     /// Kind U: text, all one-byte or all two-byte characters.
     pub(super) fn one_width(&mut self, most: usize, must: bool) -> Result<(), u8> {
         let item = self.text(most, must)?;
-        let mut widths = characters(item).map(|character| character.len());
-        let first = widths.next();
-        rule(widths.all(|width| Some(width) == first), FORM)
+        let mut narrow = scripts(item).map(|script| script == Script::OneByte);
+        let first = narrow.next();
+        rule(narrow.all(|narrow| Some(narrow) == first), FORM)
+    }
+
+    /// Kind K: a name in kana, "all one-byte, or all hiragana (row 4), or all katakana (row 5)".
+    pub(super) fn kana_name(&mut self, most: usize, must: bool) -> Result<(), u8> {
+        let item = self.text(most, must)?;
+        let all = |of_script: fn(Script) -> bool| scripts(item).all(of_script);
+        let of_one_script = all(|script| script == Script::OneByte)
+            || all(|script| matches!(script, Script::Hiragana | Script::Either))
+            || all(|script| matches!(script, Script::Katakana | Script::Either));
+        rule(of_one_script, FORM)
     }
 
     /// Kind X: letters, digits, period, hyphen.
@@ -220,7 +230,7 @@ fn has_bad_edge(item: &[u8]) -> bool {
         [b' ', ..] | [.., b' '] | [0x81, 0x40, ..] => true,
         [b'"', .., b'"'] | [b'\'', .., b'\''] => true,
         // 81h may be the trail of a kanji and 40h an @, as in 8Ah 81h 40h.
-        [.., 0x81, 0x40] => characters(item).last() == Some(b"\x81\x40"),
+        [.., 0x81, 0x40] => scripts(item).last() != Some(Script::OneByte),
         _ => false,
     }
 }

@@ -49,7 +49,7 @@ pub(super) fn read<W: Watcher>(
             items.text(800, may)?;
             items.text(20, may)?;
             items.decimal(3, 3, may)?;
-            items.one_width(40, may)?;
+            items.kana_name(40, may)?;
         }
         2 => {
             let mut items = items(3)?;

@@ -8,9 +8,9 @@ use std::sync::LazyLock;
 
 type Lines = Vec<Vec<u8>>;
 
-/// Document 01's records; only D, P and R matter here.
+/// Document 01's records, with document 02's kind of kana names; only D, P and R matter here.
 const TABLE: &str = "\
-1: U40! {1,2}! D! P? N800? X13? N800? N20? W? U40?
+1: U40! {1,2}! D! P? N800? X13? N800? N20? W? K40?
 2: {1,2,3,9}! N120! A!
 3: N120! D? D? A! · 4: N400! D? A! · 5: D! A!
 11: N120! F+ {1,3,4}+ C? P? N800? X13? A!

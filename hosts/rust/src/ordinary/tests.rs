@@ -1,8 +1,8 @@
-//! Check, with the cases of document 01.
+//! Check, with the cases of documents 01 and 02.
 
-use super::characters::PAIRS;
+use super::characters::{scripts as scripts_of, Script, PAIRS};
 use super::days;
-use super::{check, Counts, Refusal};
+use super::{canonical, check, cut, index, join, Counts, Refusal};
 
 const PATIENT: &str = "1,A,1,19890108,,,,,,,";
 const PHARMACY: &str = "11,a,13,4,,,,,1";
@@ -164,8 +164,7 @@ fn doses_and_weights() {
 
 #[test]
 fn characters_by_row_and_cell() {
-    let pairs = PAIRS.iter().flatten().filter(|&&allowed| allowed).count();
-    assert_eq!(pairs, 6_877);
+    assert_eq!(PAIRS.iter().flatten().flatten().count(), 6_877);
     let note = |bytes: &[u8]| two(&[[b"4,", bytes, b",,1"].concat()]);
     assert_eq!(note(b"\x81\x41\xEA\xA2\xDF"), ok(2, 0, 0));
     for bytes in [
@@ -191,6 +190,145 @@ fn characters_by_row_and_cell() {
     assert_eq!(name(b"\x83\x41\x83\x41"), ok(1, 0, 0));
     assert_eq!(name(b"\xB1 A"), ok(1, 0, 0));
     assert_eq!(name(b"\x83\x41A"), no(11, 2));
+}
+
+/// A file whose record 1 has this kana name, its last item.
+fn with_kana_name(name: &[u8]) -> Vec<u8> {
+    file(2, &[[b"1,A,1,19890108,,,,,,,", name].concat()])
+}
+
+/// Every character but the comma, with its script by where it lies among the bytes.
+fn characters_with_scripts() -> Vec<(Vec<u8>, Script)> {
+    let singles = (0x20..=0x7E).chain(0xA1..=0xDF).filter(|&byte| byte != b',');
+    let pairs = (0x81..=0xEF).flat_map(|lead| (0x40..=0xFC).map(move |trail| [lead, trail]));
+    let pairs = pairs.filter(|pair| PAIRS[usize::from(pair[0])][usize::from(pair[1])].is_some());
+    let script_of = |pair: [u8; 2]| match u16::from_be_bytes(pair) {
+        0x8140 | 0x815B => Script::Either,
+        0x829F..=0x82F1 => Script::Hiragana,
+        0x8340..=0x8396 => Script::Katakana,
+        _ => Script::Other,
+    };
+    let narrow = singles.map(|byte| (vec![byte], Script::OneByte));
+    narrow.chain(pairs.map(|pair| (pair.to_vec(), script_of(pair)))).collect()
+}
+
+#[test]
+fn the_script_of_every_character() {
+    let characters = characters_with_scripts();
+    let count = |script: Script| characters.iter().filter(|(_, of)| *of == script).count();
+    let scripts = [Script::OneByte, Script::Hiragana, Script::Katakana, Script::Either, Script::Other];
+    assert_eq!(scripts.map(count), [94 + 63, 83, 86, 2, 6_877 - 83 - 86 - 2]);
+    for (character, script) in &characters {
+        assert_eq!(scripts_of(character).collect::<Vec<_>>(), [*script], "{character:X?}");
+    }
+    assert_eq!(scripts_of(b"\x8A\x81\x5B\x81\x5B").collect::<Vec<_>>(), [Script::Other, Script::OneByte, Script::Either]);
+}
+
+/// Each character between two of each script that a name can have.
+#[test]
+fn every_character_in_a_kana_name() {
+    let names: [(&[u8], &[Script]); 4] = [
+        (b"A", &[Script::OneByte]),
+        (b"\x82\xA0", &[Script::Hiragana, Script::Either]),
+        (b"\x83\x41", &[Script::Katakana, Script::Either]),
+        (b"\x81\x5B", &[Script::Hiragana, Script::Katakana, Script::Either]),
+    ];
+    for (character, script) in characters_with_scripts() {
+        for (around, scripts) in names {
+            let name = [around, &character, around].concat();
+            let expected = if scripts.contains(&script) { ok(1, 0, 0) } else { no(11, 2) };
+            assert_eq!(check(&with_kana_name(&name)), expected, "{name:X?}");
+        }
+    }
+}
+
+#[test]
+fn kana_names_of_one_script() {
+    let name = |name: &[u8]| check(&with_kana_name(name));
+    let (hiragana, katakana, wide_space, long) = (b"\x82\xA0", b"\x83\x41", b"\x81\x40", b"\x81\x5B");
+    let good: [&[&[u8]]; 13] = [
+        &[],
+        &[b"\xBD\xBD\xDE\xB7 \xC0\xDB\xB3"],
+        &[b"Aa1\xB1\xDF"],
+        &[hiragana],
+        &[katakana],
+        &[long],
+        &[long, wide_space, long],
+        &[hiragana, wide_space, hiragana, long],
+        &[long, hiragana],
+        &[katakana, wide_space, katakana, long],
+        &[long, katakana],
+        // The first and the last cell of each row; in row 5 also those beside 7Fh, which is no trail.
+        &[b"\x82\x9F\x82\xF1"],
+        &[b"\x83\x40\x83\x7E\x83\x80\x83\x96"],
+    ];
+    for parts in good {
+        assert_eq!(name(&parts.concat()), ok(1, 0, 0), "{parts:X?}");
+    }
+    let bad: [&[&[u8]]; 13] = [
+        &[hiragana, katakana],
+        &[katakana, hiragana],
+        &[hiragana, long, katakana],
+        &[long, hiragana, wide_space, katakana],
+        &[hiragana, b"A"],
+        &[b"\xB1", katakana],
+        &[b"\xB1", long],
+        &[long, b"-"],
+        &[hiragana, b" ", hiragana],
+        &[b"A", wide_space, b"A"],
+        // 8Ah 81h is a kanji, and the [ after it is no part of 815Bh.
+        &[b"\x8A\x81\x5B"],
+        // 82h and 83h also lead the digits of row 3 and the Greek letters of row 6.
+        &[b"\x82\x4F"],
+        &[b"\x83\x9F"],
+    ];
+    for parts in bad {
+        assert_eq!(name(&parts.concat()), no(11, 2), "{parts:X?}");
+    }
+    // Row 1's other marks: the comma, the middle dot, the voiced sound mark, the marks of repetition.
+    for mark in [b"\x81\x41", b"\x81\x45", b"\x81\x4A", b"\x81\x52", b"\x81\x53", b"\x81\x54", b"\x81\x55"] {
+        assert_eq!(name(mark), no(11, 2), "{mark:X?}");
+        assert_eq!(name(&[&katakana[..], mark].concat()), no(11, 2), "{mark:X?}");
+    }
+}
+
+#[test]
+fn what_comes_before_the_script_of_a_kana_name() {
+    let name = |name: &[u8]| check(&with_kana_name(name));
+    let mixed = b"\x82\xA0\x83\x41";
+    assert_eq!(name(&katakana_of(20)), ok(1, 0, 0));
+    assert_eq!(name(&katakana_of(21)), no(9, 2));
+    assert_eq!(name(&mixed.repeat(10)), no(11, 2));
+    assert_eq!(name(&[&mixed.repeat(10)[..], b"A"].concat()), no(9, 2));
+    assert_eq!(name(&[&mixed[..], b"\x82\xF2"].concat()), no(4, 2));
+    for edge in [&b"\x81\x40"[..], b" "] {
+        assert_eq!(name(edge), no(10, 2), "{edge:X?}");
+        assert_eq!(name(&[edge, mixed].concat()), no(10, 2), "{edge:X?}");
+        assert_eq!(name(&[mixed, edge].concat()), no(10, 2), "{edge:X?}");
+    }
+    assert_eq!(name(b"'\x82\xA0'"), no(10, 2));
+    // Items before it are judged first; the next line is not reached.
+    let refused = |records: &[&[u8]]| check(&file(2, records));
+    assert_eq!(refused(&[b"1,A,1,19890108,,, x,,,,\x82\xA0\x83\x41"]), no(10, 2));
+    assert_eq!(refused(&[b"1,A,1,19890108,,,,,,,\x82\xA0\x83\x41", b"x"]), no(11, 2));
+    // The name itself may mix scripts of two bytes, as may every other text.
+    assert_eq!(refused(&[b"1,\x82\xA0\x83\x41\x8A\xBF,1,19890108,,,,,,,", b"4,\x82\xA0\x83\x41A,,1"]), ok(2, 0, 0));
+}
+
+fn katakana_of(characters: usize) -> Vec<u8> {
+    b"\x83\x41".repeat(characters)
+}
+
+#[test]
+fn a_file_refused_for_its_kana_name_has_no_canonical_file_and_no_cutting() {
+    let mixed = with_kana_name(b"\x82\xA0\x83\x41");
+    let refusal = Refusal { number: 11, line: 2 };
+    let mut out = [b'?'; 200];
+    assert_eq!(canonical(&mixed, &mut out), Err(refusal));
+    assert_eq!(cut(&mixed, 1_000, b"12345678901234", b"", &mut out), Err(refusal));
+    assert_eq!(join(&mixed, &mut out), Err(refusal));
+    assert_eq!(out, [b'?'; 200]);
+    assert_eq!(index(&mixed, &mut [0; 7]), Err(refusal));
 }
 
 #[test]

@@ -14,7 +14,7 @@ use notebook_hosts::calendar::Day;
 use notebook_hosts::division::{pieces_of, MOST_PIECES_BYTES};
 use notebook_hosts::library::{replies, Reply, Told};
 use notebook_hosts::timing::{measure, Row, TARGETS};
-use notebook_hosts::{ordinary, sample};
+use notebook_hosts::{kana, ordinary, sample};
 use report::{CALLS, OF_ONE_LENGTH};
 use std::fs;
 use std::path::Path;
@@ -97,6 +97,13 @@ fn measure_calls(newest: Day, wanted: &[&str]) -> Result<(), String> {
                     replies::cut(file, CAPACITY, ID, used, out)
                 },
             ),
+            "check-kana" => compare(
+                call,
+                &with_kana_name(sample::sized_from(newest, TARGETS[0])),
+                0,
+                |file, _: &mut [u8]| ordinary::check(file).reply(),
+                |file, _| replies::check(file),
+            ),
             _ => compare(
                 call,
                 &shuffled(cut_pieces(&fine(), FINE_CAPACITY)),
@@ -170,6 +177,12 @@ fn used() -> Vec<u8> {
     let run = ids.collect::<Vec<_>>().concat();
     assert_eq!(run.len(), USED_BYTES, "an ID has 14 bytes");
     run
+}
+
+/// The file with a kana name of twenty katakana characters, 40 bytes, in place of its short half-width one.
+fn with_kana_name(mut file: Vec<u8>) -> Vec<u8> {
+    kana::rename(&mut file, &b"\x83\x41".repeat(20));
+    file
 }
 
 fn cut_pieces(file: &[u8], capacity: u64) -> Vec<Vec<u8>> {
