@@ -28,10 +28,11 @@ extern "C" {
 /*
  * The version of this header: the major, the minor and the patch as text, and as major * 10000 + minor * 100 + patch. notebook_version
  * tells that of the library. A host should compare the two before other calls: a library of another version may take or fill otherwise
- * than is said here. The entries of an index grew with 0.4.0, and cut takes the used IDs from 0.5.0 on.
+ * than is said here. The entries of an index grew with 0.4.0, and cut takes the used IDs from 0.5.0 on; from
+ * 0.6.0 on the kana name of record 1 has to be in one script.
  */
-#define NOTEBOOK_VERSION_STRING "0.5.0"
-#define NOTEBOOK_VERSION_NUMBER 500
+#define NOTEBOOK_VERSION_STRING "0.6.0"
+#define NOTEBOOK_VERSION_NUMBER 600
 
 /* Limits. */
 enum {
