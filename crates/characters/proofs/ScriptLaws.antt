@@ -1,11 +1,11 @@
 -- The scripts that rows and cells tell are those of their bytes, by one computed test over all pairs; two bytes are no character of one byte. Assumes nothing.
 use Prim.Native.Nat.{ℕ, _+_, _≤_, _<_}
 use mathlib.Core.Path.{_≡_, refl, sym, ap, _∙_}
-use mathlib.Core.Bool.{Bool, true, false, cond, _&&_, _||_, Bool·beq, false≢true}
+use mathlib.Core.Bool.{Bool, true, false, cond, not, _&&_, _||_, Bool·beq, false≢true}
 use lib.Dec.{eqb}
 use native.Mathlib.Omega.{arith}
 use borrow.Author.Tests.{eqb-true}
-use Rattle.lists.proofs.Tests.{both, below, below-at}
+use Rattle.lists.proofs.Tests.{both, neither, not-true′, below, below-at}
 use Rattle.characters.specs.declared.Char.{Char}
 use Rattle.characters.specs.declared.Char.the-variants.{One, Hiragana, Katakana, Either, Other, Bad}
 use Rattle.characters.specs.Cells.{fullRow, partRow, allowed, cellScript, isLead, leadRow, isTrail, trailRow, trailCell, trailScript, pairScript, isOneByte, isHiragana, isKatakana}
@@ -41,7 +41,7 @@ alike c d = eqb (number c) (number d)
 pub alike-is : (c d : Char) → alike c d ≡ true → c ≡ d
 alike-is c d e = sym (own-number c) ∙ ap numbered (eqb-true (number c) (number d) e) ∙ own-number d
 
--- ---- one computed test over all pairs of bytes
+-- ---- one computed test over all pairs of bytes: over all first bytes and, for each that is a lead, all second ones
 
 byTheBytes : ℕ → ℕ → Bool
 byTheBytes a b =
@@ -49,12 +49,32 @@ byTheBytes a b =
     && (Bool·beq (isHiragana (pairScript a b)) (hiraganaBytes a b || sharedBytes a b)
     && Bool·beq (isKatakana (pairScript a b)) (katakanaBytes a b || sharedBytes a b))
 
-all-pairs : below (λ a. below (λ b. byTheBytes a b) 256) 256 ≡ true
-unfolding byTheBytes below number fullRow partRow allowed cellScript trailScript pairScript
+-- the first bytes of the scripts
+abbrev startsScript : ℕ → Bool
+startsScript a = eqb a 0x81 || (eqb a 0x82 || eqb a 0x83)
+
+-- a byte that is no lead begins no pair; what is left to compute of it is that it is none of these
+byTheLead : ℕ → Bool
+byTheLead a = cond (isLead a) (below (λ b. byTheBytes a b) 256) (not (startsScript a))
+
+all-pairs : below (λ a. byTheLead a) 256 ≡ true
+unfolding byTheLead byTheBytes below number fullRow partRow allowed cellScript trailScript pairScript
 all-pairs = refl
 
+no-lead : (a b : ℕ) → isLead a ≡ false → startsScript a ≡ false → byTheBytes a b ≡ true
+unfolding byTheBytes number pairScript
+no-lead a b l n =
+    let m = neither (eqb a 0x81) (eqb a 0x82 || eqb a 0x83) n in
+    let k = neither (eqb a 0x82) (eqb a 0x83) (m .1) in
+    rw (l, m .0, k .0, k .1) refl
+
 of-bytes : (a b : ℕ) → a < 256 → b < 256 → byTheBytes a b ≡ true
-of-bytes a b p q = below-at (λ y. byTheBytes a y) 256 (below-at (λ x. below (λ y. byTheBytes x y) 256) 256 all-pairs a p) b q
+unfolding byTheLead
+of-bytes a b p q = go (isLead a) refl (below-at (λ x. byTheLead x) 256 all-pairs a p)
+  where
+    go : (x : Bool) → isLead a ≡ x → cond x (below (λ y. byTheBytes a y) 256) (not (startsScript a)) ≡ true → byTheBytes a b ≡ true
+    go true l e = below-at (λ y. byTheBytes a y) 256 e b q
+    go false l e = no-lead a b l (not-true′ (startsScript a) e)
 
 beq-is : (x y : Bool) → Bool·beq x y ≡ true → x ≡ y
 beq-is true true e = refl
