@@ -1,10 +1,11 @@
 -- The files of specs/Examples.antt come out as written there, in every call; and the premises of `Mixed-refused` and `Script-alone` hold of names there. Assumes
 -- nothing.
+use Prim.Native.Nat.{ℕ}
 use mathlib.Core.Path.{_≡_, refl, sym, _∙_}
-use mathlib.Core.Bool.{true, false, false≢true}
+use mathlib.Core.Bool.{true, false, _&&_, false≢true}
 use native.Mathlib.Omega.{arith}
 use mathlib.Core.List.{List, [], _∷_, _++_}
-use Rattle.lists.specs.Lists.{bytes}
+use Rattle.lists.specs.Lists.{bytes, All}
 use Rattle.digits.specs.Digits.{value, number, spell, digitCount}
 use Rattle.characters.specs.Rows.{isLine}
 use Rattle.characters.specs.Cells.{fullRow, partRow, allowed, cellScript, trailScript, pairScript}
@@ -35,37 +36,39 @@ use Rattle.division.specs.Pieces.{kindOf, brokenFrom, brokenLine, bodyOf, piece
 use Rattle.division.specs.Join.{unmarked, partOf, allParts, agree, findPart, gather, joinPieces, joinedFile, joinFile, joinResult}
 use Rattle.division.specs.Cut.{pieceBytes, numbered, cutting, cutList, cutResult}
 use Rattle.names.specs.Scripts.{OneScript}
-use Rattle.names.specs.Names.{fileWith, AreItems, Proper}
-use Rattle.names.specs.Examples.{filled, hira, kata, long, said, saidHold, isHiraFile, visitHolds, longest}
+use Rattle.names.specs.Names.{fileAfter, AreItems, Proper}
+use Rattle.names.specs.Examples.{filled, wide, mixed, hira, kata, long, said, saidHold, isHiraFile, visitHolds, piecesHold, lateHolds, longest}
 use Rattle.names.proofs.Scripts.{in-one-script, one-script}
 
 pub hira-file : isHiraFile ≡ true
-unfolding bytes joined fileWith header
+unfolding bytes joined fileAfter header
 hira-file = refl
 
-pub said-hold : saidHold said ≡ true
-unfolding count fileWith fullRow partRow allowed cellScript trailScript pairScript answerIn sevenNumbers entryOf entered entriesFrom entriesAfterHead entriesOf clinicAfter clinicOf listedFrom listOf numbers numbersOf bytes value number spell isLine leap monthLength isReal isDay gregorian eraOf eraOn inEra fromEra readDay writeDay joined table edge oneWidth oneScript isDecimal sized fault valueOf seven postal prefecture itemFault itemValue itemsFault itemsValue rowIn tableRow pairs codePair t911 isMark recordFrom faultFrom lineFault recordOf header write inGroup mayFollow pairBroken misplaced continues closesRp lacking missing valueWrong newerGroup orderRefusal unfinished nothingYet start hadAfter advance refusalOf stepOf finishOf factsOf stepLine closed onward recordsFrom readRows readFile checkResult indexResult recordRows arrange writeFile canonicalBytes canonicalFile canonicalResult total put pack digitCount over serves tries plan validID firstIDs idsIn unused markLine readMark kindOf brokenFrom brokenLine bodyOf piecesIn splitRows split pieceFile unmarked partOf allParts agree findPart gather joinPieces joinedFile joinFile joinResult pieceBytes numbered cutting cutList cutResult groupOf drugOf doctorOf rpOf
-said-hold = refl
+pub files-hold : (saidHold said && (visitHolds && (piecesHold && lateHolds))) ≡ true
+unfolding count fileAfter fullRow partRow allowed cellScript trailScript pairScript answerIn sevenNumbers entryOf entered entriesFrom entriesAfterHead entriesOf clinicAfter clinicOf listedFrom listOf numbers numbersOf bytes value number spell isLine leap monthLength isReal isDay gregorian eraOf eraOn inEra fromEra readDay writeDay joined table edge oneWidth oneScript isDecimal sized fault valueOf seven postal prefecture itemFault itemValue itemsFault itemsValue rowIn tableRow pairs codePair t911 isMark recordFrom faultFrom lineFault recordOf header write inGroup mayFollow pairBroken misplaced continues closesRp lacking missing valueWrong newerGroup orderRefusal unfinished nothingYet start hadAfter advance refusalOf stepOf finishOf factsOf stepLine closed onward recordsFrom readRows readFile checkResult indexResult recordRows arrange writeFile canonicalBytes canonicalFile canonicalResult total put pack digitCount over serves tries plan validID firstIDs idsIn unused markLine readMark kindOf brokenFrom brokenLine bodyOf piecesIn splitRows split pieceFile unmarked partOf allParts agree findPart gather joinPieces joinedFile joinFile joinResult pieceBytes numbered cutting cutList cutResult groupOf drugOf doctorOf rpOf
+files-hold = refl
 
-pub visit-holds : visitHolds ≡ true
-unfolding count fileWith fullRow partRow allowed cellScript trailScript pairScript answerIn sevenNumbers entryOf entered entriesFrom entriesAfterHead entriesOf clinicAfter clinicOf listedFrom listOf numbers numbersOf bytes value number spell isLine leap monthLength isReal isDay gregorian eraOf eraOn inEra fromEra readDay writeDay joined table edge oneWidth oneScript isDecimal sized fault valueOf seven postal prefecture itemFault itemValue itemsFault itemsValue rowIn tableRow pairs codePair t911 isMark recordFrom faultFrom lineFault recordOf header write inGroup mayFollow pairBroken misplaced continues closesRp lacking missing valueWrong newerGroup orderRefusal unfinished nothingYet start hadAfter advance refusalOf stepOf finishOf factsOf stepLine closed onward recordsFrom readRows readFile checkResult indexResult recordRows arrange writeFile canonicalBytes canonicalFile canonicalResult total put pack digitCount over serves tries plan validID firstIDs idsIn unused markLine readMark kindOf brokenFrom brokenLine bodyOf piecesIn splitRows split pieceFile unmarked partOf allParts agree findPart gather joinPieces joinedFile joinFile joinResult pieceBytes numbered cutting cutList cutResult groupOf drugOf doctorOf rpOf
-visit-holds = refl
+-- mixtures: proper, of items, and in no script
+pub proper-mixtures : All Proper mixed
+unfolding bytes fullRow partRow allowed cellScript trailScript pairScript edge
+proper-mixtures =
+    (record { chars = refl; short = omega arith; inner = refl }, (record { chars = refl; short = omega arith; inner = refl }, (record { chars = refl; short = omega arith; inner = refl }, (record { chars = refl; short = omega arith; inner = refl }, tt))))
 
--- a mixture: proper, of items, and in no script
-pub proper-mixture : Proper (hira ++ kata)
-unfolding fullRow partRow allowed cellScript trailScript pairScript edge
-proper-mixture = record { chars = refl; short = omega arith; inner = refl }
-
-pub mixture-items : AreItems filled (hira ++ kata)
+pub mixture-items : AreItems filled (hira ++ kata) × AreItems wide longest × AreItems wide (kata ++ long)
 unfolding bytes
-mixture-items = (refl, (refl, (refl, (refl, (refl, (refl, (refl, (refl, (refl, (refl, tt))))))))))
+mixture-items =
+    ((refl, (refl, (refl, (refl, (refl, (refl, (refl, (refl, (refl, (refl, tt)))))))))), (refl, (refl, (refl, (refl, (refl, (refl, (refl, (refl, (refl, (refl, tt)))))))))), (refl, (refl, (refl, (refl, (refl, (refl, (refl, (refl, (refl, (refl, tt)))))))))))
 
-mixed-is : oneScript (hira ++ kata) ≡ false
-unfolding oneScript fullRow partRow allowed cellScript trailScript pairScript
-mixed-is = refl
+mixed-are : All (λ s. oneScript s ≡ false) mixed
+unfolding bytes oneScript fullRow partRow allowed cellScript trailScript pairScript
+mixed-are = (refl, (refl, (refl, (refl, tt))))
 
-pub no-script : OneScript (hira ++ kata) → ⊥
-no-script h = false≢true (sym mixed-is ∙ one-script (hira ++ kata) h)
+no-scripts : (ss : List (List ℕ)) → All (λ s. oneScript s ≡ false) ss → All (λ s. OneScript s → ⊥) ss
+no-scripts [] a = tt
+no-scripts (s ∷ ss) (e, a) = ((λ h. false≢true (sym e ∙ one-script s h)), no-scripts ss a)
+
+pub no-script : All (λ s. OneScript s → ⊥) mixed
+no-script = no-scripts mixed mixed-are
 
 -- names in one script
 pub proper-names : Proper [] × Proper hira × Proper (kata ++ long)

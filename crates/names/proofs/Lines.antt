@@ -27,7 +27,7 @@ use Rattle.notebook.specs.Facts.{factsOf}
 use Rattle.notebook.specs.Notebook.{Notebook, stepLine, onward, recordsFrom, notebookOf, readRows, readFile}
 use Rattle.notebook.specs.Canonical.{ended, headRow}
 use Rattle.notebook.proofs.Accepted.{row-cut, head-line, head-text, line-no-end}
-use Rattle.names.specs.Names.{Person, itemsWith, fileWith, IsItem, AreItems, Proper}
+use Rattle.names.specs.Names.{Person, itemsWith, fileAfter, fileWith, IsItem, AreItems, Proper}
 
 -- ---- items have no comma, and are clean
 
@@ -151,7 +151,7 @@ module _ (d : Bool) (p : Person) (kana rest : List ℕ) (w : AreItems p kana) (s
   line-row = line-is (lineWith p kana) (line-clean p kana w)
 
   file-rows : rows (fileWith d p kana rest) ≡ headRow d ∷ ended (lineWith p kana) ∷ rows rest
-  unfolding fileWith
+  unfolding fileAfter
   file-rows =
       row-cut (headRow d) (ended (lineWith p kana) ++ rest) (head-line d)
       ∙ ap (λ (rs : List (List ℕ)). headRow d ∷ rs) (row-cut (ended (lineWith p kana)) rest line-row)

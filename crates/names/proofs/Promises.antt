@@ -36,8 +36,9 @@ use Rattle.refusals.specs.Refusals.{Call, check, index, canonical, cut, join, a
 use Rattle.refusals.proofs.Reading.{file-refuses}
 use Rattle.refusals.proofs.Reading.{Refuses as ReadRefuses}
 use Rattle.names.specs.Scripts.{OneScript}
-use Rattle.names.specs.Names.{asked, Refuses, Refused-by-all, Person, fileWith, AreItems, Proper, Accepted-in-one-script, Mixed-refused, Script-alone}
+use Rattle.names.specs.Names.{asked, Refuses, Refused-by-all, Person, fileAfter, fileWith, AreItems, Proper, Accepted-in-one-script, Mixed-refused, Script-alone}
 use Rattle.names.proofs.Scripts.{in-one-script, one-script}
+use Rattle.names.proofs.AnyLine.{no-line-fault}
 use Rattle.names.proofs.Lines.{lineWith, nineFault, kanaFault, line-fault, line-chars, kana-mixed, kana-good, kana-script, file-read, same-facts, one-number, last-chars}
 
 -- ---- one refusal from all calls
@@ -104,21 +105,29 @@ fits f h = go (leb (length f) 65536) refl
     go true e = leb-true (length f) 65536 e
     go false e = absurd (h 1 0 (omega arith) (rw e refl))
 
--- the second line of a file that is read has no fault
+-- a line without a fault has none in its characters, the nine items and the kana name
+fault-parts : (d : Bool) (p : Person) (kana : List ℕ) → AreItems p kana → lineFault d (lineWith p kana) ≡ 0
+    → (allChars (lineWith p kana) ≡ true) × (nineFault d p ≡ 0) × (kanaFault d kana ≡ 0)
+fault-parts d p kana w e =
+    let x = or-zero (unless (allChars (lineWith p kana)) 4) (nineFault d p orElse kanaFault d kana) (sym (line-fault d p kana w) ∙ e) in
+    let y = or-zero (nineFault d p) (kanaFault d kana) (x .1) in
+    (unless-zero (allChars (lineWith p kana)) 3 (x .0), y .0, y .1)
+
+pub accepted-in-one-script : Accepted-in-one-script
+accepted-in-one-script x d before p kana rest w a z = go (readFile (fileAfter d before p kana rest)) refl
+  where
+    go : (r : Res Notebook) → readFile (fileAfter d before p kana rest) ≡ r → OneScript kana
+    go (ok b) e = in-one-script kana (kana-script (b .provider) kana (fault-parts (b .provider) p kana w (no-line-fault d before p kana rest w b e) .2))
+    go (refused n line) e = absurd (reads-some x (fileAfter d before p kana rest) a z e)
+
+-- the second line of a file that is not refused before it has no fault
 no-fault : (d : Bool) (p : Person) (kana rest : List ℕ) → AreItems p kana → ((n line : ℕ) → line ≤ 2 → readFile (fileWith d p kana rest) ≡ refused n line → ⊥)
     → (allChars (lineWith p kana) ≡ true) × (nineFault d p ≡ 0) × (kanaFault d kana ≡ 0)
 no-fault d p kana rest w h = go (lineFault d (lineWith p kana)) refl
   where
     go : (n : ℕ) → lineFault d (lineWith p kana) ≡ n → (allChars (lineWith p kana) ≡ true) × (nineFault d p ≡ 0) × (kanaFault d kana ≡ 0)
-    go zero e =
-        let x = or-zero (unless (allChars (lineWith p kana)) 4) (nineFault d p orElse kanaFault d kana) (sym (line-fault d p kana w) ∙ e) in
-        let y = or-zero (nineFault d p) (kanaFault d kana) (x .1) in
-        (unless-zero (allChars (lineWith p kana)) 3 (x .0), y .0, y .1)
+    go zero e = fault-parts d p kana w e
     go (suc n) e = absurd (h (suc n) 2 (omega arith) (faulty d p kana rest w (fits (fileWith d p kana rest) h) e (λ z. omega arith)))
-
-pub accepted-in-one-script : Accepted-in-one-script
-accepted-in-one-script x d p kana rest w a z =
-    in-one-script kana (kana-script d kana (no-fault d p kana rest w (λ i j l e. reads-some x (fileWith d p kana rest) a z e) .2))
 
 -- ---- a mixture is 11
 

@@ -7,7 +7,7 @@ use mathlib.Core.List.{List, [], _∷_, _++_}
 use lib.Dec.{eqb}
 use Rattle.lists.specs.Lists.{bytes, same, Res, ok, refused}
 use Rattle.refusals.specs.Refusals.{Call, check, index, canonical, cut, join, replied}
-use Rattle.names.specs.Names.{Person, fileWith, asked}
+use Rattle.names.specs.Names.{Person, fileAfter, fileWith, asked}
 
 -- the record 1 of document 01's file of 37 bytes
 abbrev pub someone : Person
@@ -111,6 +111,41 @@ visitHolds =
     && (allSay (calls (visited hira)) 0 0
     && (allSay (calls (visited (hira ++ kata))) 11 2
     && same (visited hira) (bytes "JAHISTC04,1" ++ 0x0d ∷ 0x0a ∷ (bytes "1,A B,2,H010108,105-0004,1 2-3 4,03-3506-8010,C D 03,A +,52.5," ++ 0x82 ∷ 0xa0 ∷ 0x0d ∷ 0x0a ∷ visit))))
+
+-- the two pieces of such a file, the second first
+abbrev pub piecesWith : List ℕ → List ℕ
+piecesWith kana =
+    bytes "JAHISTC04,1" ++ 0x0d ∷ 0x0a ∷ (visit ++ (bytes "911,20261117000001,2,2" ++ 0x0d ∷ 0x0a ∷ (fileWith true filled kana [] ++ (bytes "911,20261117000001,2,1" ++ 0x0d ∷ 0x0a ∷ []))))
+
+abbrev pub joins : List ℕ → List Call
+joins kana = join (piecesWith kana) room ∷ []
+
+abbrev pub piecesHold : Bool
+piecesHold = allAsked (joins hira) (visited hira) && (allSay (joins hira) 0 0 && allSay (joins (hira ++ kata)) 11 2)
+
+-- a record 1 after another record is a file with a record 1 too
+abbrev pub lateHolds : Bool
+lateHolds =
+    same (fileAfter false (bytes "4,x,,2" ∷ []) someone hira [])
+    (bytes "JAHISTC04,2" ++ 0x0d ∷ 0x0a ∷ (bytes "4,x,,2" ++ 0x0d ∷ 0x0a ∷ (bytes "1,A,1,19890108,,,,,,," ++ 0x82 ∷ 0xa0 ∷ 0x0d ∷ 0x0a ∷ [])))
+
+-- a person with items of two-byte characters; the name has 40 bytes, and all scripts in it
+abbrev pub wide : Person
+wide = record {
+  name = 0x8a ∷ 0x81 ∷ (hira ++ kata ++ long ++ hira ++ kata ++ long ++ hira ++ kata ++ long ++ hira ++ kata ++ long ++ hira ++ kata ++ long ++ hira ++ kata ++ long ++ hira);
+  sex = bytes "2";
+  birth = bytes "H010108";
+  postal = [];
+  address = 0x8a ∷ 0x81 ∷ [];
+  telephone = [];
+  emergency = [];
+  blood = [];
+  weight = [];
+}
+
+-- mixtures, and what is of no script: two kana scripts, two widths, a kanji, another mark of row 1
+abbrev pub mixed : List (List ℕ)
+mixed = (hira ++ kata) ∷ (hira ++ bytes "A") ∷ (0x8a ∷ 0x81 ∷ []) ∷ (kata ++ 0x81 ∷ 0x45 ∷ []) ∷ []
 
 -- the bytes of such a file
 abbrev pub hiraFile : List ℕ

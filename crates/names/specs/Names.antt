@@ -5,11 +5,12 @@ use Prim.Native.Nat.{ℕ, _≤_}
 use mathlib.Core.Path.{_≡_}
 use mathlib.Core.Bool.{Bool, true, false, not, _||_}
 use mathlib.Core.Logic.{_⊎_}
-use mathlib.Core.List.{List, [], _∷_, _++_}
+use mathlib.Core.List.{List, [], _∷_, _++_, map}
 use lib.Dec.{eqb}
 use lib.ListN.{length}
 use Rattle.lists.specs.Lists.{All, Res, ok, all}
 use Rattle.characters.specs.Text.{allChars, isStop}
+use Rattle.characters.specs.Rows.{flat}
 use Rattle.records.specs.Split.{joined}
 use Rattle.records.specs.Items.{edge}
 use Rattle.replies.specs.Replies.{refusal}
@@ -56,9 +57,13 @@ abbrev pub itemsWith : Person → List ℕ → List (List ℕ)
 itemsWith p kana =
     p .name ∷ p .sex ∷ p .birth ∷ p .postal ∷ p .address ∷ p .telephone ∷ p .emergency ∷ p .blood ∷ p .weight ∷ kana ∷ []
 
--- a file whose second line is this record 1: "At most one 1", before all other records; rest: all that follows
-unfoldable pub fileWith : Bool → Person → List ℕ → List ℕ → List ℕ
-fileWith provider p kana rest = headRow provider ++ (ended (joined (49 ∷ []) (itemsWith p kana)) ++ rest)
+-- a file with these lines between line 1 and this record 1; rest: all that follows
+unfoldable pub fileAfter : Bool → List (List ℕ) → Person → List ℕ → List ℕ → List ℕ
+fileAfter provider before p kana rest = headRow provider ++ (flat (map ended before) ++ (ended (joined (49 ∷ []) (itemsWith p kana)) ++ rest))
+
+-- a file whose second line it is: "At most one 1", before all other records
+abbrev pub fileWith : Bool → Person → List ℕ → List ℕ → List ℕ
+fileWith provider p kana rest = fileAfter provider [] p kana rest
 
 -- they are items: no comma, no 0Dh, 0Ah and 1Ah in them
 abbrev pub IsItem : List ℕ → Type 0
@@ -75,11 +80,11 @@ pub record Proper (kana : List ℕ) : Type 0 where
 
 -- ---- "The last item of record 1 must be all one-byte, or all hiragana (row 4), or all katakana (row 5)."
 
--- what a call accepts has its kana name in one script
+-- what a call accepts has its kana name in one script, in whichever line a record 1 stands
 abbrev pub Accepted-in-one-script : Type 0
 Accepted-in-one-script =
-    (x : Call) (provider : Bool) (p : Person) (kana rest : List ℕ) → AreItems p kana → asked x ≡ ok (fileWith provider p kana rest)
-    → replied x .refusal ≡ 0 → OneScript kana
+    (x : Call) (provider : Bool) (before : List (List ℕ)) (p : Person) (kana rest : List ℕ) → AreItems p kana
+    → asked x ≡ ok (fileAfter provider before p kana rest) → replied x .refusal ≡ 0 → OneScript kana
 
 -- "Anything else is refused as 11.": a file that is accepted with another kana name, or refused after its second line only, is refused with this one by
 -- every call, with its line

@@ -98,7 +98,7 @@ run-pair {s} {a} {i} v h o =
       plain = rw p (simp (no-comma (getD s i 0) (omega (arith, lead-from-81 (getD s i 0) (q .0))), no-comma (getD s (i + 1) 0) (trail-from-40 (getD s (i + 1) 0) (q .1))));
     })
 
--- ---- the ways through run_end
+-- ---- the ways through run_at
 
 -- what the answers say of the bytes
 one-is : (a b : ℕ) → charOf (a ∷ b ∷ []) ≡ One → isOne a ≡ true
