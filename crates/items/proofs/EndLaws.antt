@@ -5,13 +5,14 @@ use mathlib.Core.Bool.{Bool, true, false, cond, not, _&&_, _||_, or-true}
 use mathlib.Core.Logic.{_⊎_, inl, inr, ⊎-elim}
 use mathlib.Core.List.{List, [], _∷_}
 use native.Mathlib.Omega.{arith}
-use borrow.Author.Tests.{leb-true, le-leb, lt-leb, eqb-true, ne-eqb}
+use borrow.Author.Tests.{leb-true, leb-false, le-leb, lt-leb, eqb-true, ne-eqb}
 use lib.Dec.{leb, eqb}
 use lib.ListN.{length, getD}
 use Rattle.lists.specs.Lists.{within, all}
 use Rattle.lists.specs.Searching.{part}
+use Rattle.lists.proofs.Loops.{past-end}
 use Rattle.lists.proofs.Parts.{part-length, part-none, part-more, part-at}
-use Rattle.lists.proofs.Tests.{both, either, or-first, within-in, all-append, zero-unless}
+use Rattle.lists.proofs.Tests.{both, either, not-true′, or-first, within-in, all-append, zero-unless}
 use Rattle.digits.specs.Digits.{isDigit}
 use Rattle.characters.specs.Cells.{isOne, isOneByte}
 use Rattle.characters.specs.Scanning.{bytesOf}
@@ -24,7 +25,7 @@ use Rattle.records.specs.Items.{isCode, edge, sized, fault}
 use Rattle.records.specs.Records.{itemFault}
 use Rattle.items.specs.Codes.{kindOf, needOf, itemOf}
 use Rattle.items.specs.Ends.{Within, scriptsFit, textForm, sizedEnd, EndOf, CodeRun, DigitAt, DigitFits}
-use Rattle.items.proofs.TextLaws.{edge-free, edge-clear, scripts-within, scripts-fit}
+use Rattle.items.proofs.TextLaws.{edge-free, edge-clear, edge-inner, scripts-within, scripts-fit}
 use Rattle.items.proofs.DispatchLaws.{sized-form, kind-n, kind-u, kind-k, kind-x, item-empty, item-some}
 
 -- 0 says nothing
@@ -114,24 +115,52 @@ module _ (c : ℕ) (s : List ℕ) (a : ℕ) (r : Run) where
   sized-no h = sym (rw (lt-leb (r .end - a) (c / 64) h) refl)
 
   module _ (v : RunOf s a (r .end)) (d : Counted s a (r .end) (r .scripts)) (n : a < r .end) (h : r .end - a ≤ c / 64) where
-    pub sized-clear : (eqb (r .scripts .either) 0 && (eqb (r .scripts .one) 0 || (leb 0x28 (getD s a 0) && leb 0x28 (getD s (r .end - 1) 0)))) ≡ true → r .end ≡ sizedEnd c s a (r .end)
-    unfolding sizedEnd
-    sized-clear t =
-        let e : ℕ = r .end in
-        let p = both (eqb (r .scripts .either) 0) (eqb (r .scripts .one) 0 || (leb 0x28 (getD s a 0) && leb 0x28 (getD s (e - 1) 0))) t in
-        let l : length (part s a e) ≡ e - a = part-length s a e (v .low) (v .high) in
-        let b : a + 0 ≡ a = omega arith in
-        let j : a + (length (part s a e) - 1) ≡ e - 1 = omega (arith, l) in
-        let f : getD (part s a e) 0 0 ≡ getD s a 0 = part-at s a e 0 (omega arith) ∙ ap (λ (j : ℕ). getD s j 0) b in
-        let z : getD (part s a e) (length (part s a e) - 1) 0 ≡ getD s (e - 1) 0 = part-at s a e (length (part s a e) - 1) (omega (arith, l)) ∙ ap (λ (j : ℕ). getD s j 0) j in
-        let o : (bytesOf isOneByte (part s a e) ≡ 0) ⊎ ((0x28 ≤ getD (part s a e) 0 0) × (0x28 ≤ getD (part s a e) (length (part s a e) - 1) 0)) =
-        ⊎-elim
-        (λ x. inl (sym (d .one) ∙ eqb-true _ _ x))
-        (λ x. let q = both (leb 0x28 (getD s a 0)) (leb 0x28 (getD s (e - 1) 0)) x in
-        inr (omega (arith, f, leb-true 0x28 (getD s a 0) (q .0)), omega (arith, z, leb-true 0x28 (getD s (e - 1) 0) (q .1))))
-        (either (eqb (r .scripts .one) 0) (leb 0x28 (getD s a 0) && leb 0x28 (getD s (e - 1) 0)) (p .1)) in
-        let k : edge (part s a e) ≡ false = edge-clear (part s a e) (v .chars) (sym (d .either) ∙ eqb-true _ _ (p .0)) (omega (arith, l)) o in
-        sym (rw (le-leb (e - a) (c / 64) h, k) refl)
+    module _ (t : (eqb (r .scripts .one) 0 || (leb 0x28 (getD s a 0) && leb 0x28 (getD s (r .end - 1) 0))) ≡ true) where
+      l : length (part s a (r .end)) ≡ r .end - a
+      l = part-length s a (r .end) (v .low) (v .high)
+
+      some-bytes : 1 ≤ length (part s a (r .end))
+      some-bytes = omega (arith, l)
+
+      last-byte : getD (part s a (r .end)) (length (part s a (r .end)) - 1) 0 ≡ getD s (r .end - 1) 0
+      last-byte =
+          let j : a + (length (part s a (r .end)) - 1) ≡ r .end - 1 = omega (arith, l) in
+          part-at s a (r .end) (length (part s a (r .end)) - 1) (omega (arith, l)) ∙ ap (λ (j : ℕ). getD s j 0) j
+
+      ends : (bytesOf isOneByte (part s a (r .end)) ≡ 0) ⊎ ((0x28 ≤ getD (part s a (r .end)) 0 0) × (0x28 ≤ getD (part s a (r .end)) (length (part s a (r .end)) - 1) 0))
+      ends =
+          let b : a + 0 ≡ a = omega arith in
+          let f : getD (part s a (r .end)) 0 0 ≡ getD s a 0 = part-at s a (r .end) 0 (omega arith) ∙ ap (λ (j : ℕ). getD s j 0) b in
+          ⊎-elim
+          (λ x. inl (sym (d .one) ∙ eqb-true _ _ x))
+          (λ x. let q = both (leb 0x28 (getD s a 0)) (leb 0x28 (getD s (r .end - 1) 0)) x in
+          inr (omega (arith, f, leb-true 0x28 (getD s a 0) (q .0)), omega (arith, last-byte, leb-true 0x28 (getD s (r .end - 1) 0) (q .1))))
+          (either (eqb (r .scripts .one) 0) (leb 0x28 (getD s a 0) && leb 0x28 (getD s (r .end - 1) 0)) t)
+
+      stays : edge (part s a (r .end)) ≡ false → r .end ≡ sizedEnd c s a (r .end)
+      unfolding sizedEnd
+      stays k = sym (rw (le-leb (r .end - a) (c / 64) h, k) refl)
+
+      pub sized-clear : r .scripts .either ≡ 0 → r .end ≡ sizedEnd c s a (r .end)
+      sized-clear z = stays (edge-clear (part s a (r .end)) (v .chars) some-bytes ends (sym (d .either) ∙ z))
+
+      -- b is the second byte, or one after a run of one
+      inner : {b : ℕ} → b ≡ getD s (a + 1) 0 → (not (eqb b 0x40) && not (eqb (getD s (r .end - 1) 0) 0x40)) ≡ true → r .end ≡ sizedEnd c s a (r .end)
+      inner {b} p q =
+          let f = both (not (eqb b 0x40)) (not (eqb (getD s (r .end - 1) 0) 0x40)) q in
+          stays (edge-inner (part s a (r .end)) (v .chars) some-bytes ends (second (leb 2 (length (part s a (r .end)))) refl (not-true′ (eqb b 0x40) (f .0)))
+          (ap (λ (k : ℕ). eqb k 0x40) last-byte ∙ not-true′ (eqb (getD s (r .end - 1) 0) 0x40) (f .1)))
+        where
+          second : (x : Bool) → leb 2 (length (part s a (r .end))) ≡ x → eqb b 0x40 ≡ false → eqb (getD (part s a (r .end)) 1 0) 0x40 ≡ false
+          second true e n = ap (λ (k : ℕ). eqb k 0x40) (part-at s a (r .end) 1 (omega (arith, l, leb-true 2 (length (part s a (r .end))) e)) ∙ sym p) ∙ n
+          second false e n = ap (λ (k : ℕ). eqb k 0x40) (sym (past-end (part s a (r .end)) 1 (omega (arith, leb-false 2 (length (part s a (r .end))) e))))
+
+    pub sized-inner : {b : ℕ} → b ≡ getD s (a + 1) 0
+        → ((not (eqb b 0x40) && not (eqb (getD s (r .end - 1) 0) 0x40)) && (eqb (r .scripts .one) 0 || (leb 0x28 (getD s a 0) && leb 0x28 (getD s (r .end - 1) 0)))) ≡ true
+        → r .end ≡ sizedEnd c s a (r .end)
+    sized-inner {b} p q =
+        let f = both (not (eqb b 0x40) && not (eqb (getD s (r .end - 1) 0) 0x40)) (eqb (r .scripts .one) 0 || (leb 0x28 (getD s a 0) && leb 0x28 (getD s (r .end - 1) 0))) q in
+        inner (f .1) p (f .0)
 
     pub sized-edged : {x : Bool} → x ≡ edge (part s a (r .end)) → x ≡ true → 0 ≡ sizedEnd c s a (r .end)
     unfolding sizedEnd
@@ -141,7 +170,7 @@ module _ (c : ℕ) (s : List ℕ) (a : ℕ) (r : Run) where
     unfolding sizedEnd
     sized-plain p t = sym (rw (le-leb (r .end - a) (c / 64) h, sym p ∙ t) refl)
 
-pub ruleset sized-laws = (sized-no, sized-clear, sized-edged, sized-plain)
+pub ruleset sized-laws = (sized-no, sized-clear, sized-inner, sized-edged, sized-plain)
 
 -- ---- codes
 

@@ -172,44 +172,45 @@ edge-free s {a} {w} {z} {x} {y} p c q i j h =
     let n : endsWide s ≡ false = simp (z3, and-false) in
     sym (simp (a1, a2, a3, a4, z1, n, and-false))
 
--- characters none of which is of both kana scripts, the first and the last byte above 27h
-edge-above : (l : List ℕ) → allChars l ≡ true → bytesOf isEither l ≡ 0 → 1 ≤ length l → 0x28 ≤ getD l 0 0 → 0x28 ≤ last l → edge l ≡ false
+-- the first and the last byte are above 27h, and 8140h stands at neither end
+edge-above : (l : List ℕ) → 0x28 ≤ getD l 0 0 → 0x28 ≤ last l → (eqb (getD l 0 0) 0x81 && eqb (getD l 1 0) 0x40) ≡ false → endsWide l ≡ false → edge l ≡ false
 unfolding edge
-edge-above l c z n p q =
+edge-above l p q f w =
     let a1 : eqb (getD l 0 0) 0x20 ≡ false = ne-eqb (getD l 0 0) 0x20 (λ d. omega arith) in
     let a3 : eqb (getD l 0 0) 0x22 ≡ false = ne-eqb (getD l 0 0) 0x22 (λ d. omega arith) in
     let a4 : eqb (getD l 0 0) 0x27 ≡ false = ne-eqb (getD l 0 0) 0x27 (λ d. omega arith) in
     let z1 : eqb (getD l (length l - 1) 0) 0x20 ≡ false = ne-eqb (getD l (length l - 1) 0) 0x20 (λ d. omega arith) in
-    simp (a1, a3, a4, z1, no-first l z, no-last l z, and-false)
+    simp (a1, a3, a4, z1, f, w, and-false)
+
+-- it does not where no character is of both kana scripts
+no-first : (l : List ℕ) → bytesOf isEither l ≡ 0 → (eqb (getD l 0 0) 0x81 && eqb (getD l 1 0) 0x40) ≡ false
+no-first [] z = refl
+no-first (a ∷ []) z = and-false (eqb a 0x81)
+no-first (a ∷ b ∷ r) z = go (eqb a 0x81) refl (eqb b 0x40) refl
   where
-    no-first : (l : List ℕ) → bytesOf isEither l ≡ 0 → (eqb (getD l 0 0) 0x81 && eqb (getD l 1 0) 0x40) ≡ false
-    no-first [] z = refl
-    no-first (a ∷ []) z = and-false (eqb a 0x81)
-    no-first (a ∷ b ∷ r) z = go (eqb a 0x81) refl (eqb b 0x40) refl
-      where
-        go : (x : Bool) → eqb a 0x81 ≡ x → (y : Bool) → eqb b 0x40 ≡ y → (x && y) ≡ false
-        go true e true f =
-            let m : bytesOf isEither (0x81 ∷ 0x40 ∷ r) ≡ 0 = sym (ap₂ (λ (x y : ℕ). bytesOf isEither (x ∷ y ∷ r)) (eqb-true a 0x81 e) (eqb-true b 0x40 f)) ∙ z in
-            absurd (omega (arith, blank-first r, m))
-        go true e false f = refl
-        go false e y f = refl
+    go : (x : Bool) → eqb a 0x81 ≡ x → (y : Bool) → eqb b 0x40 ≡ y → (x && y) ≡ false
+    go true e true f =
+        let m : bytesOf isEither (0x81 ∷ 0x40 ∷ r) ≡ 0 = sym (ap₂ (λ (x y : ℕ). bytesOf isEither (x ∷ y ∷ r)) (eqb-true a 0x81 e) (eqb-true b 0x40 f)) ∙ z in
+        absurd (omega (arith, blank-first r, m))
+    go true e false f = refl
+    go false e y f = refl
 
-    no-last : (l : List ℕ) → bytesOf isEither l ≡ 0 → endsWide l ≡ false
-    no-last l z = go (endsWide l) refl
-      where
-        pair : (l : List ℕ) → getD l (length l - 2) 0 ≡ 0x81 → getD l (length l - 1) 0 ≡ 0x40 → 2 ≤ length l
-        pair [] y x = absurd (omega arith)
-        pair (a ∷ []) y x = absurd (omega arith)
-        pair (a ∷ b ∷ r) y x = omega arith
+no-last : (l : List ℕ) → bytesOf isEither l ≡ 0 → endsWide l ≡ false
+no-last l z = go (endsWide l) refl
+  where
+    pair : (l : List ℕ) → getD l (length l - 2) 0 ≡ 0x81 → getD l (length l - 1) 0 ≡ 0x40 → 2 ≤ length l
+    pair [] y x = absurd (omega arith)
+    pair (a ∷ []) y x = absurd (omega arith)
+    pair (a ∷ b ∷ r) y x = omega arith
 
-        go : (x : Bool) → endsWide l ≡ x → x ≡ false
-        go false e = refl
-        go true e =
-            let u = both (eqb (getD l (length l - 2) 0) 0x81) (eqb (last l) 0x40 && allChars (take (length l - 2) l)) e in
-            let v = both (eqb (last l) 0x40) (allChars (take (length l - 2) l)) (u .1) in
-            let y : getD l (length l - 2) 0 ≡ 0x81 = eqb-true _ _ (u .0) in
-            let x : getD l (length l - 1) 0 ≡ 0x40 = eqb-true _ _ (v .0) in
-            absurd (blank-last l (pair l y x) y x (v .1) z)
+    go : (x : Bool) → endsWide l ≡ x → x ≡ false
+    go false e = refl
+    go true e =
+        let u = both (eqb (getD l (length l - 2) 0) 0x81) (eqb (last l) 0x40 && allChars (take (length l - 2) l)) e in
+        let v = both (eqb (last l) 0x40) (allChars (take (length l - 2) l)) (u .1) in
+        let y : getD l (length l - 2) 0 ≡ 0x81 = eqb-true _ _ (u .0) in
+        let x : getD l (length l - 1) 0 ≡ 0x40 = eqb-true _ _ (v .0) in
+        absurd (blank-last l (pair l y x) y x (v .1) z)
 
 last-of : (a b : ℕ) (r : List ℕ) → 0x28 ≤ b → (1 ≤ length r → 0x28 ≤ last r) → 0x28 ≤ last (a ∷ b ∷ r)
 last-of a b [] h f = h
@@ -235,9 +236,17 @@ two-ends (a ∷ b ∷ r) c z n = go (isOne a) (isPair a b) refl (two-ends r) c z
         (omega (arith, lead-from-81 a (p .0)), last-of a b r (omega (arith, trail-from-40 b (p .1))) (λ n. f c (omega arith) n .1))
     go false false t f c z = absurd (true≢false (sym c))
 
--- characters none of which is of both kana scripts, and none of one byte, or the first and the last byte above 27h: no edge
-pub edge-clear : (l : List ℕ) → allChars l ≡ true → bytesOf isEither l ≡ 0 → 1 ≤ length l → (bytesOf isOneByte l ≡ 0) ⊎ ((0x28 ≤ getD l 0 0) × (0x28 ≤ last l)) → edge l ≡ false
-edge-clear l c z n o = let e = ⊎-elim (λ h. two-ends l c h n) (λ h. h) o in edge-above l c z n (e .0) (e .1)
+-- characters none of which is of one byte, or the first and the last byte above 27h: no edge, if none is of both kana scripts, or neither the second
+-- nor the last byte is 40h
+module _ (l : List ℕ) (c : allChars l ≡ true) (n : 1 ≤ length l) (o : (bytesOf isOneByte l ≡ 0) ⊎ ((0x28 ≤ getD l 0 0) × (0x28 ≤ last l))) where
+  ends-above : (0x28 ≤ getD l 0 0) × (0x28 ≤ last l)
+  ends-above = ⊎-elim (λ h. two-ends l c h n) (λ h. h) o
+
+  pub edge-clear : bytesOf isEither l ≡ 0 → edge l ≡ false
+  edge-clear z = edge-above l (ends-above .0) (ends-above .1) (no-first l z) (no-last l z)
+
+  pub edge-inner : eqb (getD l 1 0) 0x40 ≡ false → eqb (last l) 0x40 ≡ false → edge l ≡ false
+  edge-inner b z = edge-above l (ends-above .0) (ends-above .1) (rw b (and-false (eqb (getD l 0 0) 0x81))) (rw z (and-false (eqb (getD l (length l - 2) 0) 0x81)))
 
 -- a digit is of a code
 pub code-digit : {s : List ℕ} {i : ℕ} {x : Bool} → AllLeft isCode s i → i < length s → x ≡ isDigit (getD s i 0) → x ≡ true

@@ -309,7 +309,8 @@ fn blank_end(c: usize, provider: bool, from: usize) -> usize
 }
 
 // Where a run that is not empty ends, if it is not too long and has no edge; else 0. A blank or a quote at an end is 8140h, which is of both kana
-// scripts, or a character of one byte below 28h: most runs have neither.
+// scripts, or a character of one byte below 28h: most runs have neither. Names of drugs often have 815Bh, which is of both too; only where the second
+// byte or the last is 40h can 8140h stand at an end.
 fn sized_end(c: usize, s: &[u8], from: usize, r: scanning::Run) -> usize
     requires { ⌜ RunOf (now s) from (r .end) ⌝ }
     requires { ⌜ Counted (now s) from (r .end) (r .scripts) ⌝ }
@@ -323,8 +324,15 @@ fn sized_end(c: usize, s: &[u8], from: usize, r: scanning::Run) -> usize
     }
     let a = s[from];
     let z = s[end - 1];
-    if (k.either == 0) & ((k.one == 0) | ((0x28 <= a) & (0x28 <= z))) {
-        return end;
+    if k.either == 0 {
+        if (k.one == 0) | ((0x28 <= a) & (0x28 <= z)) {
+            return end;
+        }
+    } else {
+        let b = lists::byte_at(s, from + 1);
+        if (!(b == 0x40) & !(z == 0x40)) & ((k.one == 0) | ((0x28 <= a) & (0x28 <= z))) {
+            return end;
+        }
     }
     if edge(&s[from..end]) { 0 } else { end }
 }

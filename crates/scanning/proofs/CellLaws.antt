@@ -16,7 +16,6 @@ use Rattle.characters.specs.Scanning.{charOf}
 use Rattle.characters.specs.declared.Char.{Char}
 use Rattle.characters.specs.declared.Char.the-variants.{One, Hiragana, Katakana, Either, Other, Bad}
 use Rattle.characters.proofs.ScriptLaws.{number, alike, alike-is}
-use Rattle.scanning.specs.Scans.{CellOf}
 
 -- ---- a test that has one value on a range
 
@@ -83,32 +82,6 @@ no-row r x e =
   where
     part : ((k : ℕ) → hasRow k ≡ true → eqb r k ≡ false) → false ≡ partRow r x
     part n = simp (n 2 refl, n 3 refl, n 4 refl, n 5 refl, n 6 refl, n 7 refl, n 8 refl, n 47 refl, n 84 refl)
-
--- no row has a cell 0, and none a cell after 94
-no-cell : (r c : ℕ) → (c ≡ 0) ⊎ (95 ≤ c) → allowed r c ≡ false
-unfolding allowed partRow
-no-cell r c o =
-    way (fullRow r) (out 1 94 refl refl)
-    (way (eqb r 2) (simp (out 1 14 refl refl, out 26 33 refl refl, out 42 48 refl refl, out 60 74 refl refl, out 82 89 refl refl, no-94))
-    (way (eqb r 3) (simp (out 16 25 refl refl, out 33 58 refl refl, out 65 90 refl refl))
-    (way (eqb r 4) (out 1 83 refl refl)
-    (way (eqb r 5) (out 1 86 refl refl)
-    (way (eqb r 6) (simp (out 1 24 refl refl, out 33 56 refl refl))
-    (way (eqb r 7) (simp (out 1 33 refl refl, out 49 81 refl refl))
-    (way (eqb r 8) (out 1 32 refl refl)
-    (way (eqb r 47) (out 1 51 refl refl)
-    (way (eqb r 84) (out 1 4 refl refl) refl)))))))))
-  where
-    way : (b : Bool) {x y : Bool} → x ≡ false → y ≡ false → cond b x y ≡ false
-    way true p q = p
-    way false p q = q
-
-    out : (lo hi : ℕ) → leb 1 lo ≡ true → leb hi 94 ≡ true → within lo hi c ≡ false
-    out lo hi p q =
-        ⊎-elim (λ z. within-below lo hi c (omega (arith, leb-true 1 lo p, z))) (λ z. within-above lo hi c (omega (arith, leb-true hi 94 q, z))) o
-
-    no-94 : eqb c 94 ≡ false
-    no-94 = ne-eqb c 94 (λ e. ⊎-elim (λ z. omega (arith, z)) (λ z. omega (arith, z)) o)
 
 -- ---- scripts of a row
 
@@ -264,29 +237,31 @@ whole-rows r b {v} p q h = h ∙ go (isTrail b) refl
     go false e = e ∙ no-trail r b (sym e)
 
 -- the same of a script
+pub script-none : (r b : ℕ) → false ≡ isTrail b → Bad ≡ trailScript r b
+unfolding trailScript
+script-none r b e = ap (λ (t : Bool). cond t (cellScript (r + trailRow b) (trailCell b)) Bad) e
+
 module _ (r b : ℕ) {v : Char} where
+  script-at : {n m : ℕ} → true ≡ isTrail b → r + trailRow b ≡ n → trailCell b ≡ m → v ≡ cellScript n m → v ≡ trailScript r b
+  unfolding trailScript
+  script-at t y x h = h ∙ sym (ap₂ cellScript y x) ∙ ap (λ (t : Bool). cond t (cellScript (r + trailRow b) (trailCell b)) Bad) t
+
   pub script-high : 0x9f ≤ b → b < 0xfd → v ≡ cellScript (r + 1) (b - 0x9e) → v ≡ trailScript r b
-  unfolding const trailScript
+  unfolding const
   script-high p q h =
       let i : within 0x9f 0xfc b ≡ true = within-in 0x9f 0xfc b p (omega arith) in
-      let t : isTrail b ≡ true = sym (on isTrail true 0x9f 0xfd refl p q) in
-      let x : trailCell b ≡ b - 0x9e = simp (within-above 0x40 0x7e b (omega arith), within-above 0x80 0x9e b (omega arith), i) in
-      let y : trailRow b ≡ 1 = simp i in
-      h ∙ sym (ap₂ (λ (n m : ℕ). cellScript (r + n) m) y x) ∙ sym (ap (λ (t : Bool). cond t (cellScript (r + trailRow b) (trailCell b)) Bad) t)
+      script-at (on isTrail true 0x9f 0xfd refl p q) (simp i) (simp (within-above 0x40 0x7e b (omega arith), within-above 0x80 0x9e b (omega arith), i)) h
 
-  -- c: what low_cell said
-  pub script-low : {c : ℕ} → within 0x9f 0xfc b ≡ false → CellOf b c → v ≡ cellScript r c → v ≡ trailScript r b
-  unfolding trailScript
-  script-low {c} n w h = go (isTrail b) refl
-    where
-      none : (c ≡ 0) ⊎ (95 ≤ c) → v ≡ Bad
-      none o = h ∙ sym (none-at r c (no-cell r c o))
+  pub script-low : 0x40 ≤ b → b < 0x7f → v ≡ cellScript r (b - 0x3f) → v ≡ trailScript r b
+  unfolding const
+  script-low p q h =
+      script-at (on isTrail true 0x40 0x7f refl p q) (simp (within-below 0x9f 0xfc b (omega arith)) (add-zero r)) (simp (within-in 0x40 0x7e b p (omega arith))) h
 
-      go : (t : Bool) → isTrail b ≡ t → v ≡ cond (isTrail b) (cellScript (r + trailRow b) (trailCell b)) Bad
-      go true e =
-          let y : r + trailRow b ≡ r = simp n (add-zero r) in
-          h ∙ ap₂ cellScript (sym y) (w .trail e) ∙ sym (ap (λ (t : Bool). cond t (cellScript (r + trailRow b) (trailCell b)) Bad) e)
-      go false e = none (w .none e) ∙ sym (ap (λ (t : Bool). cond t (cellScript (r + trailRow b) (trailCell b)) Bad) e)
+  pub script-mid : 0x80 ≤ b → b < 0x9f → v ≡ cellScript r (b - 0x40) → v ≡ trailScript r b
+  unfolding const
+  script-mid p q h =
+      script-at (on isTrail true 0x80 0x9f refl p q) (simp (within-below 0x9f 0xfc b (omega arith)) (add-zero r))
+      (simp (within-above 0x40 0x7e b (omega arith), within-in 0x80 0x9e b p (omega arith))) h
 
   -- a row of kanji: what its cells said
   pub script-kanji : {t : Bool} → 9 ≤ r → t ≡ (isTrail b && allowed (r + trailRow b) (trailCell b)) → v ≡ cond t Other Bad → v ≡ trailScript r b
@@ -304,37 +279,6 @@ module _ (r b : ℕ) {v : Char} where
       go true true x y z = rw (x, y, z) refl
       go true false x y z = refl
       go false w x y z = refl
-
--- ---- the ways through low_cell
-
-module _ (b : ℕ) where
-  pub cell-none : false ≡ isTrail b → CellOf b 0
-  cell-none e = record { trail = λ t. absurd (false≢true (e ∙ t)); none = λ _. inl refl }
-
-  pub cell-low : 0x40 ≤ b → b < 0x7f → CellOf b (b - 0x3f)
-  unfolding const
-  cell-low p q =
-      let t : true ≡ isTrail b = on isTrail true 0x40 0x7f refl p q in
-      record { trail = λ _. sym (simp (within-in 0x40 0x7e b p (omega arith))); none = λ e. absurd (true≢false (t ∙ e)) }
-
-  pub cell-mid : 0x80 ≤ b → b < 256 → within 0x9f 0xfc b ≡ false → CellOf b (b - 0x40)
-  unfolding const
-  cell-mid p u n = go (leb b 0x9e) refl
-    where
-      go : (x : Bool) → leb b 0x9e ≡ x → CellOf b (b - 0x40)
-      go true e =
-          let h : b ≤ 0x9e = leb-true b 0x9e e in
-          let t : true ≡ isTrail b = on isTrail true 0x80 0x9f refl p (omega arith) in
-          record { trail = λ _. sym (simp (within-above 0x40 0x7e b (omega arith), within-in 0x80 0x9e b p h)); none = λ e. absurd (true≢false (t ∙ e)) }
-      go false e =
-          let h : 0x9e < b = leb-false b 0x9e e in
-          let k : 0xfd ≤ b = high (leb b 0xfc) refl in
-          let t : false ≡ isTrail b = on isTrail false 0xfd 256 refl k u in
-          record { trail = λ d. absurd (false≢true (t ∙ d)); none = λ _. inr (omega arith) }
-        where
-          high : (y : Bool) → leb b 0xfc ≡ y → 0xfd ≤ b
-          high true f = absurd (true≢false (sym (within-in 0x9f 0xfc b (omega (arith, leb-false b 0x9e e)) (leb-true b 0xfc f)) ∙ n))
-          high false f = omega (arith, leb-false b 0xfc f)
 
 -- ---- one character of a byte and the one after it
 

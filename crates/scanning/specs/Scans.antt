@@ -9,7 +9,7 @@ use lib.ListN.{length, drop, getD}
 use Rattle.lists.specs.Searching.{part}
 use Rattle.characters.specs.declared.Char.the-variants.{Bad}
 use Rattle.characters.specs.Text.{allChars, text}
-use Rattle.characters.specs.Cells.{isTrail, trailCell, isOneByte}
+use Rattle.characters.specs.Cells.{isOneByte}
 use Rattle.characters.specs.Scanning.{charAt, bytesOf, isOwnHiragana, isOwnKatakana, isEither, commaCount, commasFrom, WholeLine, BrokenRow}
 use Rattle.characters.specs.Rows.{rows, endMark}
 use Rattle.scanning.specs.declared.Scripts.{Scripts}
@@ -60,11 +60,6 @@ Counted s a e k = Bytes (part s a e) k
 -- a run up to i, which is the last byte's place or past it, with the scripts k, is the run r
 pub record Finished (s : List ℕ) (i : ℕ) (k : Scripts) (r : Run) : Type 0 where
   pub holds : (a : ℕ) → RunOf s a i → Counted s a i k → RunOf s a (r .end) × RunEnds s (r .end) × Counted s a (r .end) (r .scripts)
-
--- the cell of a trail below 9Fh; of another byte, none
-pub record CellOf (b c : ℕ) : Type 0 where
-  pub trail : isTrail b ≡ true → c ≡ trailCell b
-  pub none : isTrail b ≡ false → (c ≡ 0) ⊎ (95 ≤ c)
 
 -- whether a list is characters, and their scripts if it is
 pub record ToldOf (s : List ℕ) (t : Told) : Type 0 where

@@ -15,7 +15,7 @@ ghost use Rattle.characters.specs.declared.Char.the-variants.{Other, Bad};
 ghost use Rattle.characters.specs.Cells.{row2, row3, allowed, cellScript, trailScript, trailCell, trailRow, isTrail};
 ghost use Rattle.characters.specs.Text.{allChars, isStop};
 ghost use Rattle.characters.specs.Scanning.{charOf};
-ghost use Rattle.scanning.specs.Scans.{ScanOf, Sixteen, RunOf, RunEnds, Counted, Finished, CellOf, ToldOf, LineOf};
+ghost use Rattle.scanning.specs.Scans.{ScanOf, Sixteen, RunOf, RunEnds, Counted, Finished, ToldOf, LineOf};
 
 // ---- the allowed cells of JIS X 0208-1983
 
@@ -123,18 +123,6 @@ fn kanji_cell(row: u8, cell: u8) -> bool
 
 // ---- one character
 
-// The cell of a trail below 9Fh; of a byte that is no trail, one that no row has.
-fn low_cell(b: u8) -> u8
-    requires { ⌜ within 0x9f 0xfc b ≡ false ⌝ }
-    ensures { λ r. ⌜ CellOf b r ⌝ }
-{
-    if b < 0x7f {
-        if b < 0x40 { 0 } else { b - 0x3f }
-    } else {
-        if b < 0x80 { 0 } else { b - 0x40 }
-    }
-}
-
 // A lead's first row and a trail. The match on the trail stands three times, for rows 1 to 4, 5 to 8 and kanji, so that each is compiled with its
 // own rows.
 fn first_pair(row: u8, b: u8) -> Char
@@ -143,7 +131,11 @@ fn first_pair(row: u8, b: u8) -> Char
 {
     match b {
         0x9f..=0xfc => first_rows(row + 1, b - 0x9e),
-        _ => first_rows(row, low_cell(b)),
+        _ => match b {
+            0x40..=0x7e => first_rows(row, b - 0x3f),
+            0x80..=0x9e => first_rows(row, b - 0x40),
+            _ => Char::Bad,
+        },
     }
 }
 
@@ -154,7 +146,11 @@ fn next_pair(row: u8, b: u8) -> Char
 {
     match b {
         0x9f..=0xfc => next_rows(row + 1, b - 0x9e),
-        _ => next_rows(row, low_cell(b)),
+        _ => match b {
+            0x40..=0x7e => next_rows(row, b - 0x3f),
+            0x80..=0x9e => next_rows(row, b - 0x40),
+            _ => Char::Bad,
+        },
     }
 }
 

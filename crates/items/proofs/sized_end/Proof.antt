@@ -7,6 +7,7 @@ use Rattle.items.proofs.sized_end.Tie as tie
 use Rattle.items.proofs.sized_end.Reads as reads
 use Rattle.items.proofs.sized_end.Lts as lts
 use Rattle.items.proofs.edge.Reads as edge-reads
+use Rattle.lists.proofs.byte_at.Reads as byte-at-reads
 
 sub-if1 : tie.Need-sub-if1
 sub-if1 c = search needs
@@ -26,6 +27,15 @@ shared-slice-read-z c = search needs
 returns-2 : tie.Need-returns-2
 returns-2 c = search (needs, sized-laws)
 
+add-byte-at : tie.Need-add-byte-at
+add-byte-at c = search needs
+
+byte-at-requires : tie.Need-byte-at-requires
+byte-at-requires c κs = search needs
+
+returns-3 : tie.Need-returns-3
+returns-3 c = search (needs, sized-laws)
+
 sub-edge : tie.Need-sub-edge
 sub-edge c = search needs
 
@@ -38,11 +48,11 @@ part-edge-end c = search needs
 edge-requires : tie.Need-edge-requires
 edge-requires c κs = search needs
 
-returns-3 : tie.Need-returns-3
-returns-3 c = search (needs, sized-laws)
-
 returns-4 : tie.Need-returns-4
 returns-4 c = search (needs, sized-laws)
+
+returns-5 : tie.Need-returns-5
+returns-5 c = search (needs, sized-laws)
 
 pub sized-end-spec : {M : Type 1} → statement M
 sized-end-spec =
@@ -54,9 +64,12 @@ sized-end-spec =
     sub-z
     shared-slice-read-z
     returns-2
+    add-byte-at
+    byte-at-requires
+    returns-3
     sub-edge
     part-edge-start
     part-edge-end
     edge-requires
-    returns-3
-    returns-4)
+    returns-4
+    returns-5)
