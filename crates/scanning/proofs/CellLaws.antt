@@ -180,6 +180,19 @@ row-from h = omega arith
 pub no-trail : (r b : ℕ) → false ≡ isTrail b → false ≡ (isTrail b && allowed (r + trailRow b) (trailCell b))
 no-trail r b e = ap (λ (t : Bool). t && allowed (r + trailRow b) (trailCell b)) e
 
+-- the bytes that are no trail
+pub below-trails : {b : ℕ} → b < 0x40 → false ≡ isTrail b
+unfolding const
+below-trails p = under isTrail false 0x40 refl p
+
+pub between-trails : {b : ℕ} → 0x7f ≤ b → b < 0x80 → false ≡ isTrail b
+unfolding const
+between-trails p q = on isTrail false 0x7f 0x80 refl p q
+
+pub above-trails : {b : ℕ} → 0xfd ≤ b → b < 256 → false ≡ isTrail b
+unfolding const
+above-trails p q = on isTrail false 0xfd 256 refl p q
+
 -- a trail is from 40h to FCh, but for 7Fh
 pub trail-test : (b : ℕ) → ((leb 0x40 b && leb b 0xfc) && not (eqb b 0x7f)) ≡ isTrail b
 trail-test b = go (leb b 0x7e) refl (leb 0x80 b) refl

@@ -1,9 +1,6 @@
-use mathlib.Core.Path.{refl}
-use mathlib.Core.Bool.{false}
 use mathlib.Core.Logic.{⊎-elim}
 use borrow.Author.Needs.{needs}
-use Rattle.characters.specs.Cells.{isTrail}
-use Rattle.scanning.proofs.CellLaws.{const, on, under, script-high, script-low, script-mid, script-none, never}
+use Rattle.scanning.proofs.CellLaws.{below-trails, between-trails, above-trails, script-high, script-low, script-mid, script-none, never}
 use Rattle.scanning.proofs.next_pair.Statement.{statement}
 use Rattle.scanning.proofs.next_pair.Tie as tie
 use Rattle.scanning.proofs.next_pair.Reads as reads
@@ -38,18 +35,15 @@ returns-3 : tie.Need-returns-3
 returns-3 c = script-mid _ _ (c .before .before .if5 .left) (c .before .if6 .taken) (c .next-rows3 .ensures)
 
 returns-4 : tie.Need-returns-4
-unfolding const
-returns-4 c = script-none (c .before .before .args .row) (c .before .before .args .b) (under isTrail false 0x40 refl (c .if3 .taken))
+returns-4 c = script-none (c .before .before .args .row) (c .before .before .args .b) (below-trails (c .if3 .taken))
 
 returns-5 : tie.Need-returns-5
-unfolding const
-returns-5 c = script-none (c .before .before .before .before .args .row) (c .before .before .before .before .args .b) (on isTrail false 0x7f 0x80 refl (c .before .if4 .left) (c .if5 .taken))
+returns-5 c = script-none (c .before .before .before .before .args .row) (c .before .before .before .before .args .b) (between-trails (c .before .if4 .left) (c .if5 .taken))
 
 returns-6 : tie.Need-returns-6
-unfolding const
 returns-6 c =
     script-none (c .before .before .before .before .before .args .row) (c .before .before .before .before .before .args .b)
-    (⊎-elim (λ w. never (w .taken) (c .if6 .left)) (λ w. on isTrail false 0xfd 256 refl (w .1 .left) (c .before .before .before .before .before .fits .b .fits)) (c .before .before .before .before .if1 .came))
+    (⊎-elim (λ w. never (w .taken) (c .if6 .left)) (λ w. above-trails (w .1 .left) (c .before .before .before .before .before .fits .b .fits)) (c .before .before .before .before .if1 .came))
 
 pub next-pair-spec : {M : Type 1} → statement M
 next-pair-spec =
