@@ -107,6 +107,19 @@ module _ (provider : Bool) (c : ℕ) (s : List ℕ) (a : ℕ) {e : ℕ} (v : Run
 pub run-within : {s : List ℕ} {a e : ℕ} (k : Scripts) → RunOf s a e → Counted s a e k → Within k (e - a)
 run-within {s} {a} {e} k v d = scripts-within (part s a e) k d (e - a) (sym (part-length s a e (v .low) (v .high)))
 
+-- ---- the ways through no_wide_edge
+
+-- n: the bytes of characters of both scripts
+pub wide-none : {n : ℕ} (w : Bool) → n ≡ 0 → true ≡ (eqb n 0 || w)
+wide-none w e = sym (rw e refl)
+
+-- b: what byte_at said
+pub wide-some : {n b y : ℕ} (z : ℕ) → (n ≡ 0 → ⊥) → b ≡ y → (not (eqb z 0x40) && not (eqb b 0x40)) ≡ (eqb n 0 || (not (eqb z 0x40) && not (eqb y 0x40)))
+wide-some {n} {b} {y} z e q =
+    ap (λ (k : ℕ). not (eqb z 0x40) && not (eqb k 0x40)) q ∙ sym (ap (λ (x : Bool). x || (not (eqb z 0x40) && not (eqb y 0x40))) (ne-eqb n 0 e))
+
+pub ruleset wide-laws = (wide-none, wide-some)
+
 -- ---- the ways through sized_end
 
 module _ (c : ℕ) (s : List ℕ) (a : ℕ) (r : Run) where
@@ -115,52 +128,47 @@ module _ (c : ℕ) (s : List ℕ) (a : ℕ) (r : Run) where
   sized-no h = sym (rw (lt-leb (r .end - a) (c / 64) h) refl)
 
   module _ (v : RunOf s a (r .end)) (d : Counted s a (r .end) (r .scripts)) (n : a < r .end) (h : r .end - a ≤ c / 64) where
-    module _ (t : (eqb (r .scripts .one) 0 || (leb 0x28 (getD s a 0) && leb 0x28 (getD s (r .end - 1) 0))) ≡ true) where
-      l : length (part s a (r .end)) ≡ r .end - a
-      l = part-length s a (r .end) (v .low) (v .high)
+    l : length (part s a (r .end)) ≡ r .end - a
+    l = part-length s a (r .end) (v .low) (v .high)
 
-      some-bytes : 1 ≤ length (part s a (r .end))
-      some-bytes = omega (arith, l)
+    first-byte : getD (part s a (r .end)) 0 0 ≡ getD s a 0
+    first-byte = let b : a + 0 ≡ a = omega arith in part-at s a (r .end) 0 (omega arith) ∙ ap (λ (j : ℕ). getD s j 0) b
 
-      last-byte : getD (part s a (r .end)) (length (part s a (r .end)) - 1) 0 ≡ getD s (r .end - 1) 0
-      last-byte =
-          let j : a + (length (part s a (r .end)) - 1) ≡ r .end - 1 = omega (arith, l) in
-          part-at s a (r .end) (length (part s a (r .end)) - 1) (omega (arith, l)) ∙ ap (λ (j : ℕ). getD s j 0) j
+    last-byte : getD (part s a (r .end)) (length (part s a (r .end)) - 1) 0 ≡ getD s (r .end - 1) 0
+    last-byte =
+        let j : a + (length (part s a (r .end)) - 1) ≡ r .end - 1 = omega (arith, l) in
+        part-at s a (r .end) (length (part s a (r .end)) - 1) (omega (arith, l)) ∙ ap (λ (j : ℕ). getD s j 0) j
 
-      ends : (bytesOf isOneByte (part s a (r .end)) ≡ 0) ⊎ ((0x28 ≤ getD (part s a (r .end)) 0 0) × (0x28 ≤ getD (part s a (r .end)) (length (part s a (r .end)) - 1) 0))
-      ends =
-          let b : a + 0 ≡ a = omega arith in
-          let f : getD (part s a (r .end)) 0 0 ≡ getD s a 0 = part-at s a (r .end) 0 (omega arith) ∙ ap (λ (j : ℕ). getD s j 0) b in
-          ⊎-elim
-          (λ x. inl (sym (d .one) ∙ eqb-true _ _ x))
-          (λ x. let q = both (leb 0x28 (getD s a 0)) (leb 0x28 (getD s (r .end - 1) 0)) x in
-          inr (omega (arith, f, leb-true 0x28 (getD s a 0) (q .0)), omega (arith, last-byte, leb-true 0x28 (getD s (r .end - 1) 0) (q .1))))
-          (either (eqb (r .scripts .one) 0) (leb 0x28 (getD s a 0) && leb 0x28 (getD s (r .end - 1) 0)) t)
+    -- a run of one byte has no second
+    second-byte : eqb (getD s (a + 1) 0) 0x40 ≡ false → eqb (getD (part s a (r .end)) 1 0) 0x40 ≡ false
+    second-byte n = go (leb 2 (length (part s a (r .end)))) refl
+      where
+        go : (x : Bool) → leb 2 (length (part s a (r .end))) ≡ x → eqb (getD (part s a (r .end)) 1 0) 0x40 ≡ false
+        go true e = ap (λ (k : ℕ). eqb k 0x40) (part-at s a (r .end) 1 (omega (arith, l, leb-true 2 (length (part s a (r .end))) e))) ∙ n
+        go false e = ap (λ (k : ℕ). eqb k 0x40) (sym (past-end (part s a (r .end)) 1 (omega (arith, leb-false 2 (length (part s a (r .end))) e))))
 
-      stays : edge (part s a (r .end)) ≡ false → r .end ≡ sizedEnd c s a (r .end)
+    -- x: what no_wide_edge said
+    module _ {x : Bool} (p : x ≡ (eqb (r .scripts .either) 0 || (not (eqb (getD s (r .end - 1) 0) 0x40) && not (eqb (getD s (a + 1) 0) 0x40)))) (t : x ≡ true) where
+      stays : (bytesOf isOneByte (part s a (r .end)) ≡ 0) ⊎ ((0x28 ≤ getD (part s a (r .end)) 0 0) × (0x28 ≤ getD (part s a (r .end)) (length (part s a (r .end)) - 1) 0)) → r .end ≡ sizedEnd c s a (r .end)
       unfolding sizedEnd
-      stays k = sym (rw (le-leb (r .end - a) (c / 64) h, k) refl)
+      stays o =
+          let b : 1 ≤ length (part s a (r .end)) = omega (arith, l) in
+          let k : edge (part s a (r .end)) ≡ false =
+          ⊎-elim (λ z. edge-clear (part s a (r .end)) (v .chars) b o (sym (d .either) ∙ eqb-true _ _ z))
+          (λ z. let f = both (not (eqb (getD s (r .end - 1) 0) 0x40)) (not (eqb (getD s (a + 1) 0) 0x40)) z in
+          edge-inner (part s a (r .end)) (v .chars) b o (second-byte (not-true′ (eqb (getD s (a + 1) 0) 0x40) (f .1)))
+          (ap (λ (k : ℕ). eqb k 0x40) last-byte ∙ not-true′ (eqb (getD s (r .end - 1) 0) 0x40) (f .0)))
+          (either (eqb (r .scripts .either) 0) (not (eqb (getD s (r .end - 1) 0) 0x40) && not (eqb (getD s (a + 1) 0) 0x40)) (sym p ∙ t)) in
+          sym (rw (le-leb (r .end - a) (c / 64) h, k) refl)
 
-      pub sized-clear : r .scripts .either ≡ 0 → r .end ≡ sizedEnd c s a (r .end)
-      sized-clear z = stays (edge-clear (part s a (r .end)) (v .chars) some-bytes ends (sym (d .either) ∙ z))
+      -- no character of one byte
+      pub sized-wide : r .scripts .one ≡ 0 → r .end ≡ sizedEnd c s a (r .end)
+      sized-wide z = stays (inl (sym (d .one) ∙ z))
 
-      -- b is the second byte, or one after a run of one
-      inner : {b : ℕ} → b ≡ getD s (a + 1) 0 → (not (eqb b 0x40) && not (eqb (getD s (r .end - 1) 0) 0x40)) ≡ true → r .end ≡ sizedEnd c s a (r .end)
-      inner {b} p q =
-          let f = both (not (eqb b 0x40)) (not (eqb (getD s (r .end - 1) 0) 0x40)) q in
-          stays (edge-inner (part s a (r .end)) (v .chars) some-bytes ends (second (leb 2 (length (part s a (r .end)))) refl (not-true′ (eqb b 0x40) (f .0)))
-          (ap (λ (k : ℕ). eqb k 0x40) last-byte ∙ not-true′ (eqb (getD s (r .end - 1) 0) 0x40) (f .1)))
-        where
-          second : (x : Bool) → leb 2 (length (part s a (r .end))) ≡ x → eqb b 0x40 ≡ false → eqb (getD (part s a (r .end)) 1 0) 0x40 ≡ false
-          second true e n = ap (λ (k : ℕ). eqb k 0x40) (part-at s a (r .end) 1 (omega (arith, l, leb-true 2 (length (part s a (r .end))) e)) ∙ sym p) ∙ n
-          second false e n = ap (λ (k : ℕ). eqb k 0x40) (sym (past-end (part s a (r .end)) 1 (omega (arith, leb-false 2 (length (part s a (r .end))) e))))
-
-    pub sized-inner : {b : ℕ} → b ≡ getD s (a + 1) 0
-        → ((not (eqb b 0x40) && not (eqb (getD s (r .end - 1) 0) 0x40)) && (eqb (r .scripts .one) 0 || (leb 0x28 (getD s a 0) && leb 0x28 (getD s (r .end - 1) 0)))) ≡ true
-        → r .end ≡ sizedEnd c s a (r .end)
-    sized-inner {b} p q =
-        let f = both (not (eqb b 0x40) && not (eqb (getD s (r .end - 1) 0) 0x40)) (eqb (r .scripts .one) 0 || (leb 0x28 (getD s a 0) && leb 0x28 (getD s (r .end - 1) 0))) q in
-        inner (f .1) p (f .0)
+      pub sized-above : (leb 0x28 (getD s a 0) && leb 0x28 (getD s (r .end - 1) 0)) ≡ true → r .end ≡ sizedEnd c s a (r .end)
+      sized-above z =
+          let q = both (leb 0x28 (getD s a 0)) (leb 0x28 (getD s (r .end - 1) 0)) z in
+          stays (inr (omega (arith, first-byte, leb-true 0x28 (getD s a 0) (q .0)), omega (arith, last-byte, leb-true 0x28 (getD s (r .end - 1) 0) (q .1))))
 
     pub sized-edged : {x : Bool} → x ≡ edge (part s a (r .end)) → x ≡ true → 0 ≡ sizedEnd c s a (r .end)
     unfolding sizedEnd
@@ -170,7 +178,7 @@ module _ (c : ℕ) (s : List ℕ) (a : ℕ) (r : Run) where
     unfolding sizedEnd
     sized-plain p t = sym (rw (le-leb (r .end - a) (c / 64) h, sym p ∙ t) refl)
 
-pub ruleset sized-laws = (sized-no, sized-clear, sized-inner, sized-edged, sized-plain)
+pub ruleset sized-laws = (sized-no, sized-wide, sized-above, sized-edged, sized-plain)
 
 -- ---- codes
 

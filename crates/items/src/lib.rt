@@ -6,7 +6,7 @@ ghost use mathlib.Core.Path.{_≡_};
 ghost use mathlib.Core.Bool.{true, cond, not, _&&_, _||_};
 ghost use Prim.Native.Nat.{_+_, _≤_, _<_, _/_, _%_};
 ghost use lib.Dec.{leb, eqb};
-ghost use lib.ListN.{length};
+ghost use lib.ListN.{length, getD};
 ghost use Rattle.lists.specs.Lists.{all, member as memberOf, unless as unlessOf};
 ghost use Rattle.digits.specs.Digits.{number};
 ghost use Rattle.scanning.specs.Scans.{RunOf, Counted};
@@ -308,9 +308,21 @@ fn blank_end(c: usize, provider: bool, from: usize) -> usize
     if required(c % 4, provider) { 0 } else { from }
 }
 
-// Where a run that is not empty ends, if it is not too long and has no edge; else 0. A blank or a quote at an end is 8140h, which is of both kana
-// scripts, or a character of one byte below 28h: most runs have neither. Names of drugs often have 815Bh, which is of both too; only where the second
-// byte or the last is 40h can 8140h stand at an end.
+// Whether 8140h can stand at neither end of a run, of which z is the last byte: the run has no character of both kana scripts, or, as names of drugs
+// often have 815Bh, which is of both too, neither its second byte nor its last is 40h.
+fn no_wide_edge(k: scanning::Scripts, s: &[u8], from: usize, z: u8) -> bool
+    requires { ⌜ from < length (now s) ⌝ }
+    ensures { λ r. ⌜ r ≡ eqb (k .either) 0 || (not (eqb z 0x40) && not (eqb (getD (now (s .entry)) (from + 1) 0) 0x40)) ⌝ }
+{
+    if k.either == 0 {
+        return true;
+    }
+    let b = lists::byte_at(s, from + 1);
+    !(z == 0x40) & !(b == 0x40)
+}
+
+// Where a run that is not empty ends, if it is not too long and has no edge; else 0. A blank or a quote at an end is 8140h or a character of one byte
+// below 28h: most runs have neither.
 fn sized_end(c: usize, s: &[u8], from: usize, r: scanning::Run) -> usize
     requires { ⌜ RunOf (now s) from (r .end) ⌝ }
     requires { ⌜ Counted (now s) from (r .end) (r .scripts) ⌝ }
@@ -324,13 +336,12 @@ fn sized_end(c: usize, s: &[u8], from: usize, r: scanning::Run) -> usize
     }
     let a = s[from];
     let z = s[end - 1];
-    if k.either == 0 {
-        if (k.one == 0) | ((0x28 <= a) & (0x28 <= z)) {
+    if k.one == 0 {
+        if no_wide_edge(k, s, from, z) {
             return end;
         }
-    } else {
-        let b = lists::byte_at(s, from + 1);
-        if (!(b == 0x40) & !(z == 0x40)) & ((k.one == 0) | ((0x28 <= a) & (0x28 <= z))) {
+    } else if (0x28 <= a) & (0x28 <= z) {
+        if no_wide_edge(k, s, from, z) {
             return end;
         }
     }

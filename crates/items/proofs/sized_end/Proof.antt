@@ -7,7 +7,7 @@ use Rattle.items.proofs.sized_end.Tie as tie
 use Rattle.items.proofs.sized_end.Reads as reads
 use Rattle.items.proofs.sized_end.Lts as lts
 use Rattle.items.proofs.edge.Reads as edge-reads
-use Rattle.lists.proofs.byte_at.Reads as byte-at-reads
+use Rattle.items.proofs.no_wide_edge.Reads as no-wide-edge-reads
 
 sub-if1 : tie.Need-sub-if1
 sub-if1 c = search needs
@@ -24,14 +24,14 @@ sub-z c = search needs
 shared-slice-read-z : tie.Need-shared-slice-read-z
 shared-slice-read-z c = search needs
 
+no-wide-edge-requires : tie.Need-no-wide-edge-requires
+no-wide-edge-requires c κs = search needs
+
 returns-2 : tie.Need-returns-2
 returns-2 c = search (needs, sized-laws)
 
-add-byte-at : tie.Need-add-byte-at
-add-byte-at c = search needs
-
-byte-at-requires : tie.Need-byte-at-requires
-byte-at-requires c κs = search needs
+no-wide-edge-requires-2 : tie.Need-no-wide-edge-requires-2
+no-wide-edge-requires-2 c κs = search needs
 
 returns-3 : tie.Need-returns-3
 returns-3 c = search (needs, sized-laws)
@@ -63,9 +63,9 @@ sized-end-spec =
     shared-slice-read-a
     sub-z
     shared-slice-read-z
+    no-wide-edge-requires
     returns-2
-    add-byte-at
-    byte-at-requires
+    no-wide-edge-requires-2
     returns-3
     sub-edge
     part-edge-start
