@@ -7,6 +7,13 @@ ghost use Rattle.digits.specs.Digits.{spell};
 ghost use Rattle.buffers.specs.Buffers.{Room, Wrote};
 ghost use Rattle.buffers.specs.Entries.{sevenNumbers};
 
+// The lengths of an array for what is made of a short, a middling and any input: clearing the last takes longer than to read a short one.
+pub const SHORT: usize = 2048;
+
+pub const MIDDLING: usize = 16384;
+
+pub const ANY: usize = 65536;
+
 // One byte.
 pub fn put_byte(out: &mut [u8], at: usize, b: u8) -> usize
     requires { ⌜ Room (now out) at (b ∷ []) ⌝ }

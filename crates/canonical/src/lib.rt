@@ -347,26 +347,19 @@ fn canonical_by(s: &[u8], file: &mut [u8], out: &mut [u8]) -> Answer
     }
 }
 
-// The lengths of an array for the canonical file of a short, a middling and any file: clearing the last takes longer than to read a short file.
-pub const SHORT: usize = 2048;
-
-pub const MIDDLING: usize = 16384;
-
-pub const ANY: usize = 65536;
-
 // The same with an array of its own.
 pub fn canonical_file(s: &[u8], out: &mut [u8]) -> Answer
     ensures { λ r. ⌜ Gives (canonicalResult (now (s .entry))) (now (out .entry)) (now (out .exit)) r ⌝ }
 {
     let len = s.len();
-    if len <= SHORT {
-        let mut file = [0u8; SHORT];
+    if len <= buffers::SHORT {
+        let mut file = [0u8; buffers::SHORT];
         return canonical_by(s, &mut file, out);
     }
-    if len <= MIDDLING {
-        let mut file = [0u8; MIDDLING];
+    if len <= buffers::MIDDLING {
+        let mut file = [0u8; buffers::MIDDLING];
         return canonical_by(s, &mut file, out);
     }
-    let mut file = [0u8; ANY];
+    let mut file = [0u8; buffers::ANY];
     canonical_by(s, &mut file, out)
 }

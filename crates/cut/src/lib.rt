@@ -234,14 +234,14 @@ pub fn cut(file: &[u8], capacity: u64, id: &[u8], used: &[u8], out: &mut [u8]) -
     ensures { λ r. ⌜ Gives (cutResult (now (file .entry)) capacity (now (id .entry)) (now (used .entry))) (now (out .entry)) (now (out .exit)) r ⌝ }
 {
     let len = file.len();
-    if len <= canonical::SHORT {
-        let mut bytes = [0u8; canonical::SHORT];
+    if len <= buffers::SHORT {
+        let mut bytes = [0u8; buffers::SHORT];
         return cut_by(file, &mut bytes, capacity, id, used, out);
     }
-    if len <= canonical::MIDDLING {
-        let mut bytes = [0u8; canonical::MIDDLING];
+    if len <= buffers::MIDDLING {
+        let mut bytes = [0u8; buffers::MIDDLING];
         return cut_by(file, &mut bytes, capacity, id, used, out);
     }
-    let mut bytes = [0u8; canonical::ANY];
+    let mut bytes = [0u8; buffers::ANY];
     cut_by(file, &mut bytes, capacity, id, used, out)
 }
