@@ -90,6 +90,17 @@ body-line r e = subst (Spelled r) e (spelled r)
 pub end-is : (r : List ℕ) → kindOf r ≡ end → r ≡ endMark
 end-is r e = subst (Spelled r) e (spelled r)
 
+-- a row with a line 1, after a 1Ah or none
+pub head-bytes : (r : List ℕ) → opens (kindOf r) ≡ true → 13 ≤ length r
+head-bytes r h = go (kindOf r) (spelled r) h
+  where
+    go : (k : RowKind) → Spelled r k → opens k ≡ true → 13 ≤ length r
+    go (head d) e h = omega (arith, ap length e, head-length d)
+    go (endHead d) e h = omega (arith, ap length e, head-length d)
+    go body e h = absurd (false≢true h)
+    go end e h = absurd (false≢true h)
+    go broken e h = absurd (false≢true h)
+
 pub bodies-lines : (rs : List (List ℕ)) → All Body rs → All IsLine rs
 bodies-lines [] h = tt
 bodies-lines (r ∷ rs) (h, t) = (body-line r h, bodies-lines rs t)

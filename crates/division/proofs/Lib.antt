@@ -4,6 +4,7 @@ pub mod MarkLaws
 pub mod Bodies
 pub mod Orders
 pub mod Parts
+pub mod Lengths
 pub mod Own
 pub mod Fewest
 pub mod Answers

@@ -8,10 +8,11 @@ use mathlib.Core.Option.{Option, none, some}
 use mathlib.Core.List.{List, [], _∷_, _++_, append-assoc}
 use borrow.Author.Tests.{eqb-true, eqb-false, eq-eqb, ne-eqb, leb-true, le-leb}
 use lib.Dec.{leb, eqb}
-use lib.ListN.{length}
+use lib.ListN.{length, length-append}
 use Rattle.lists.specs.Lists.{same, All}
 use Rattle.lists.proofs.Tests.{both, same-refl, same-true, not-true′}
 use Rattle.characters.specs.Text.{text}
+use Rattle.characters.specs.Rows.{flat}
 use Rattle.records.specs.Records.{isMark}
 use Rattle.packing.specs.Divisions.{concat}
 use Rattle.division.specs.Marks.{Mark, readMark}
@@ -19,6 +20,7 @@ use Rattle.division.specs.Pieces.{Piece}
 use Rattle.division.specs.Join.{unmarked, Part, rowBefore, lastMark, partOf, partWith, allParts, agree, findPart, rowsOfPart, gather, onePiece, joinParts}
 use Rattle.division.specs.Orders.{Insert, here, there, Perm, nil, cons}
 use Rattle.division.proofs.Orders.{all-append, all-map}
+use Rattle.division.proofs.Chunks.{flat-append}
 
 pub no-none : {A : Type 0} {a : A} → _≡_ {A = Option A} none (some a) → ⊥
 no-none e = let z : _≡_ {A = ℕ} 0 1 = cc in omega arith
@@ -361,3 +363,27 @@ parts-joined (p ∷ ps) w e = go (agree p ps && (leb 2 (p .mark .count) && eqb (
 -- parts that are joined have the places 1 to n, each once
 pub set-once : (ps : List Part) (w : Piece) → joinParts (some ps) ≡ some w → EachOnce 1 ps
 set-once ps w e = let j : Joined ps w = parts-joined ps w e in each-once (j .count) 1 ps (w .rows) (j .many) (j .gathered)
+
+-- ---- the joined rows are no longer than those of the pieces
+
+-- the bytes of the pieces' rows
+abbrev pub bytesIn : List Part → ℕ
+bytesIn [] = 0
+bytesIn (p ∷ ps) = length (flat (p .rows)) + bytesIn ps
+
+insert-bytes : {p : Part} {qs ps : List Part} → Insert p qs ps → bytesIn ps ≡ length (flat (p .rows)) + bytesIn qs
+insert-bytes here = refl
+insert-bytes (there i) = omega (arith, insert-bytes i)
+
+-- a piece that was found is not found again
+pub gather-bytes : (n k : ℕ) (ps : List Part) (ls : List (List ℕ)) → gather ps n k ≡ some ls → length (flat ls) ≤ bytesIn ps
+unfolding gather
+gather-bytes zero k ps ls e = omega (arith, ap (λ (z : List (List ℕ)). length (flat z)) (some-inj e))
+gather-bytes (suc n) k ps ls e =
+    let s : Step ps n k ls = step ps n k ls e in
+    let f : Found k ps (s .part) = found k ps (s .part) (s .found) in
+    let r : length (flat (s .rest)) ≤ bytesIn (f .others) =
+    gather-bytes n (suc k) (f .others) (s .rest) (sym (gather-without n (suc k) (f .insert) (omega (arith, f .place))) ∙ s .gathered) in
+    let a : length (flat ls) ≡ length (flat (s .part .rows)) + length (flat (s .rest)) =
+    ap (λ (z : List (List ℕ)). length (flat z)) (sym (s .all)) ∙ (ap length (flat-append (s .part .rows) (s .rest)) ∙ length-append (flat (s .part .rows)) (flat (s .rest))) in
+    omega (arith, a, r, insert-bytes (f .insert))
