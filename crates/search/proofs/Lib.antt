@@ -1,0 +1,5 @@
+pub mod AllExamples
+pub mod Looks
+pub mod Pieces
+pub mod Whole
+pub mod Promises

@@ -1,0 +1,4 @@
+pub mod Places
+pub mod Looks
+pub mod Search
+pub mod Examples
