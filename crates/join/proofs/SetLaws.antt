@@ -1,42 +1,39 @@
--- The parts of a set as spans in two tables by place. Assumes nothing.
-use Prim.Native.Nat.{ℕ, zero, suc, _+_, _-_, _≤_, _<_}
+-- The parts of a set in tables, as they lie, and their rows gathered by k. Assumes nothing.
+use Prim.Native.Nat.{ℕ, zero, suc, _+_, _-_, _*_, _≤_, _<_}
 use mathlib.Core.Path.{_≡_, refl, sym, ap, ap₂, _∙_, subst}
-use mathlib.Core.Bool.{Bool, true, false, cond, _&&_, Bool·beq, false≢true, and-false}
+use mathlib.Core.Bool.{Bool, true, false, _&&_, Bool·beq, false≢true, and-false}
+use mathlib.Core.Logic.{_⊎_, inl, inr}
 use mathlib.Core.Option.{Option, none, some}
 use mathlib.Core.List.{List, [], _∷_, _++_, append-assoc, append-nil}
 use native.Mathlib.Omega.{arith}
 use native.Mathlib.Numerals.{add-one}
 use borrow.Author.Tests.{eq-eqb, ne-eqb, eqb-true, eqb-false}
+use mir.Val.{Fits}
+use mir.Syntax.{w64}
 use lib.Dec.{eqb}
 use lib.ListN.{length, getD, set, take, drop, length-set, length-append}
-use lib.Seq.{sets, getD-set-same, getD-set-other}
+use lib.Seq.{length-take-le, take-suc-set, getD-take, getD-set-same, getD-set-other}
 use Rattle.lists.specs.Lists.{same}
 use Rattle.lists.specs.Searching.{part}
 use Rattle.lists.proofs.Tests.{same-refl}
 use Rattle.characters.specs.Rows.{rows, flat}
-use Rattle.buffers.specs.Buffers.{Room, Wrote}
-use Rattle.buffers.proofs.Runs.{carry}
+use Rattle.buffers.specs.Buffers.{Wrote}
+use Rattle.buffers.proofs.Runs.{then}
 use Rattle.division.specs.Pieces.{Piece, bodyOf, piecesIn}
 use Rattle.join.specs.declared.Next.{Next}
 use Rattle.join.specs.declared.Next.the-variants.{Opens, Over, Stray}
 use Rattle.join.specs.declared.Member.{Member}
 use Rattle.join.specs.declared.Member.the-variants.{Of, Foreign}
-use Rattle.join.specs.declared.Filled.the-variants.{Full, Large}
+use Rattle.join.specs.declared.Spot.{Spot}
+use Rattle.join.specs.declared.Spot.the-variants.{Rows, Nowhere}
+use Rattle.join.specs.declared.Filled.the-variants.{Full, Short, Missing}
 use Rattle.division.specs.Join.{Part, partOf, partWith, allParts, agree, findPart, rowsOfPart, gather}
-use Rattle.join.specs.Spans.{unbroken, goesOn, partBy, Opened, Ended, NextMeans, NextIs, like, agreed, isSet, Within, MemberAt, MemberMeans, MemberIs, Sizes, Bounds, Slot, Slots, Blank, Stored, CollectMeans, CollectIs, taken, spans, FillIs, FillRoom}
+use Rattle.join.specs.Spans.{unbroken, goesOn, partBy, Opened, Ended, NextMeans, NextIs, like, agreed, isSet, Within, MemberAt, MemberMeans, MemberIs, Free, Stored, Sizes, Bounds, Listed, Ready, CollectMeans, CollectIs, Wanted, SpotAt, SpotMeans, SpotIs, PutIs, FillIs, FillRoom}
+use Rattle.search.specs.Places.{CountIs}
+use Rattle.search.specs.Search.{ksOf, pieceAfter}
+use Rattle.search.proofs.Pieces.{count-one, count-most, piece-found, piece-missing}
 use Rattle.lists.proofs.Parts.{part-length}
 use Rattle.join.proofs.BodyLaws.{flat-append}
-
--- ---- storing
-
-module _ (a b : List ℕ) (k from to : ℕ) where
-  pub store-free : getD a k 0 ≡ 0 → Stored a b k from to (set a k from) (set b k to)
-  store-free h = record { starts = sym (rw (eq-eqb (getD a k 0) 0 h)); ends = sym (rw (eq-eqb (getD a k 0) 0 h)) }
-
-  pub store-taken : (getD a k 0 ≡ 0 → ⊥) → Stored a b k from to a b
-  store-taken h = record { starts = sym (rw (ne-eqb (getD a k 0) 0 h)); ends = sym (rw (ne-eqb (getD a k 0) 0 h)) }
-
-pub ruleset store-laws = (store-free, store-taken)
 
 -- ---- parts after others
 
@@ -89,150 +86,143 @@ agree-self d i n k rs ps = rw (go d, same-refl i, eq-eqb n n refl)
 
 -- ---- the tables
 
-decEq : (j k : ℕ) → Dec (j ≡ k)
-decEq j k = go (eqb j k) refl
+ks-more : (seen : List Part) (p : Part) → ksOf (seen ++ p ∷ []) ≡ ksOf seen ++ (p .mark .place ∷ [])
+ks-more [] p = refl
+ks-more (q ∷ seen) p = ap (λ (l : List ℕ). q .mark .place ∷ l) (ks-more seen p)
+
+ks-length : (ps : List Part) → length (ksOf ps) ≡ length ps
+ks-length [] = refl
+ks-length (p ∷ ps) = ap suc (ks-length ps)
+
+-- one of the pieces before, or the new one
+abbrev Either : List Part → Part → ℕ → Part → Type 0
+Either seen p i q = ((pieceAfter i seen ≡ some q) × (i < length seen)) ⊎ ((i ≡ length seen) × (p ≡ q))
+
+after-more : (seen : List Part) (p : Part) (i : ℕ) (q : Part) → pieceAfter i (seen ++ p ∷ []) ≡ some q → Either seen p i q
+after-more [] p zero q e = inr (refl, cc)
+after-more [] p (suc i) q e = let z : _≡_ {A = ℕ} 0 1 = cc in absurd (omega arith)
+after-more (x ∷ seen) p zero q e = inl (e, omega arith)
+after-more (x ∷ seen) p (suc i) q e = go (after-more seen p i q e)
   where
-    go : (b : Bool) → eqb j k ≡ b → Dec (j ≡ k)
-    go true e = yes (eqb-true j k e)
-    go false e = no (eqb-false j k e)
+    go : Either seen p i q → Either (x ∷ seen) p (suc i) q
+    go (inl (f, h)) = inl (f, omega arith)
+    go (inr (f, h)) = inr (ap suc f, h)
 
-abbrev orFind : Option Part → Option Part → Option Part
-orFind none o = o
-orFind (some p) o = some p
-
-or-none : (o : Option Part) → orFind o none ≡ o
-or-none none = refl
-or-none (some p) = refl
-
-find-snoc : (j : ℕ) (seen : List Part) (p : Part) → findPart j (seen ++ p ∷ []) ≡ orFind (findPart j seen) (cond (eqb (p .mark .place) j) (some p) none)
-unfolding findPart
-find-snoc j [] p = refl
-find-snoc j (q ∷ seen) p = go (eqb (q .mark .place) j) (find-snoc j seen p)
+listed-more : {s ks a b : List ℕ} {seen : List Part} (p : Part) (e last m : ℕ) → Listed s ks a b seen → m ≡ length seen → Free ks a b m
+    → flat (p .rows) ≡ part s e last → Listed s (set ks m (p .mark .place)) (set a m e) (set b m last) (seen ++ p ∷ [])
+listed-more {s} {ks} {a} {b} {seen} p e last m v c f w = record { places = here; bytes = λ i q x. go i q (after-more seen p i q x) }
   where
-    go : (t : Bool) → findPart j (seen ++ p ∷ []) ≡ orFind (findPart j seen) (cond (eqb (p .mark .place) j) (some p) none)
-        → cond t (some q) (findPart j (seen ++ p ∷ [])) ≡ orFind (cond t (some q) (findPart j seen)) (cond (eqb (p .mark .place) j) (some p) none)
-    go true i = refl
-    go false i = i
+    n : length (seen ++ p ∷ []) ≡ suc m
+    n = omega (arith, length-append seen (p ∷ []), c)
 
-module _ {s a b : List ℕ} {seen : List Part} (sz : Sizes a b) (v : Slots s a b seen) (p : Part) (e last : ℕ) (place : p .mark .place ≤ 999)
-    (low : 1 ≤ e) (bytes : flat (p .rows) ≡ part s e last) where
-  -- another place than p's
-  other : (j : ℕ) → (p .mark .place ≡ j → ⊥) → findPart j (seen ++ p ∷ []) ≡ findPart j seen
-  other j h = find-snoc j seen p ∙ rw (ne-eqb (p .mark .place) j h) (or-none (findPart j seen))
+    here : take (length (seen ++ p ∷ [])) (set ks m (p .mark .place)) ≡ ksOf (seen ++ p ∷ [])
+    here =
+        ap (λ (j : ℕ). take j (set ks m (p .mark .place))) n
+        ∙ (take-suc-set ks m (p .mark .place) (f .places)
+        ∙ (ap (λ (l : List ℕ). l ++ (p .mark .place ∷ [])) (ap (λ (j : ℕ). take j ks) c ∙ v .places) ∙ sym (ks-more seen p)))
 
-  slots-free : getD a (p .mark .place) 0 ≡ 0 → Slots s (set a (p .mark .place) e) (set b (p .mark .place) last) (seen ++ p ∷ [])
-  slots-free h = record { at = λ j g. go j g (decEq (p .mark .place) j) }
-    where
-      none-yet : (o : Option Part) → Slot s (getD a (p .mark .place) 0) (getD b (p .mark .place) 0) o → orFind o (some p) ≡ some p
-      none-yet none w = refl
-      none-yet (some q) w = absurd (omega (arith, w .0))
+    go : (i : ℕ) (q : Part) → Either seen p i q → flat (q .rows) ≡ part s (getD (set a m e) i 0) (getD (set b m last) i 0)
+    go i q (inl (x, h)) =
+        let z : i ≡ m → ⊥ = λ r. omega (arith, r, c, h) in rw (getD-set-other a m i e 0 z, getD-set-other b m i last 0 z) (v .bytes i q x)
+    go i q (inr (x, y)) =
+        let z : i ≡ m = x ∙ sym c in
+        sym (ap (λ (r : Part). flat (r .rows)) y) ∙ rw (z, getD-set-same a m e 0 (f .starts), getD-set-same b m last 0 (f .ends)) w
 
-      go : (j : ℕ) → j < 1000 → Dec (p .mark .place ≡ j)
-          → Slot s (getD (set a (p .mark .place) e) j 0) (getD (set b (p .mark .place) last) j 0) (findPart j (seen ++ p ∷ []))
-      go j g (yes q) =
-          let k : ℕ = p .mark .place in
-          let f : findPart k (seen ++ p ∷ []) ≡ some p = find-snoc k seen p ∙ rw (eq-eqb k k refl) (none-yet (findPart k seen) (v .at k (omega arith))) in
-          let x : getD (set a k e) k 0 ≡ e = getD-set-same a k e 0 (omega (arith, sz .starts)) in
-          let y : getD (set b k last) k 0 ≡ last = getD-set-same b k last 0 (omega (arith, sz .ends)) in
-          subst (λ (i : ℕ). Slot s (getD (set a k e) i 0) (getD (set b k last) i 0) (findPart i (seen ++ p ∷ []))) q (rw (f, x, y) (low, bytes))
-      go j g (no q) =
-          let n : j ≡ p .mark .place → ⊥ = λ r. q (sym r) in
-          rw (other j q, getD-set-other a (p .mark .place) j e 0 n, getD-set-other b (p .mark .place) j last 0 n) (v .at j g)
-
-  slots-taken : (getD a (p .mark .place) 0 ≡ 0 → ⊥) → Slots s a b (seen ++ p ∷ [])
-  slots-taken h = record { at = λ j g. go j g (decEq (p .mark .place) j) }
-    where
-      there : (o x : Option Part) → Slot s (getD a (p .mark .place) 0) (getD b (p .mark .place) 0) o → orFind o x ≡ o
-      there none x w = absurd (h w)
-      there (some q) x w = refl
-
-      go : (j : ℕ) → j < 1000 → Dec (p .mark .place ≡ j) → Slot s (getD a j 0) (getD b j 0) (findPart j (seen ++ p ∷ []))
-      go j g (yes q) =
-          let k : ℕ = p .mark .place in
-          let w : Slot s (getD a k 0) (getD b k 0) (findPart k seen) = v .at k (omega arith) in
-          let f : findPart k (seen ++ p ∷ []) ≡ findPart k seen = find-snoc k seen p ∙ there (findPart k seen) (cond (eqb k k) (some p) none) w in
-          subst (λ (i : ℕ). Slot s (getD a i 0) (getD b i 0) (findPart i (seen ++ p ∷ []))) q (rw f w)
-      go j g (no q) = rw (other j q) (v .at j g)
-
-bounds-set : {s a b : List ℕ} (k e last : ℕ) → Sizes a b → Bounds s a b → k ≤ 999 → e ≤ last → last ≤ length s → Bounds s (set a k e) (set b k last)
-bounds-set {s} {a} {b} k e last sz v h g l = record { low = λ j i. low j i (decEq j k); high = λ j i. high j i (decEq j k) }
+bounds-set : {s a b : List ℕ} {n : ℕ} (m e last : ℕ) → Bounds s n a b → m < length a → m < length b → e ≤ last → last ≤ length s
+    → Bounds s n (set a m e) (set b m last)
+bounds-set {s} {a} {b} {n} m e last v x y g l = record { low = λ i h. low i h (eqb i m) refl; high = λ i h. high i h (eqb i m) refl }
   where
-    low : (j : ℕ) → j < 1000 → Dec (j ≡ k) → getD (set a k e) j 0 ≤ getD (set b k last) j 0
-    low j i (yes q) = rw (q, getD-set-same a k e 0 (omega (arith, sz .starts)), getD-set-same b k last 0 (omega (arith, sz .ends))) g
-    low j i (no q) = rw (getD-set-other a k j e 0 q, getD-set-other b k j last 0 q) (v .low j i)
+    low : (i : ℕ) → i < n → (t : Bool) → eqb i m ≡ t → getD (set a m e) i 0 ≤ getD (set b m last) i 0
+    low i h true q = rw (eqb-true i m q, getD-set-same a m e 0 x, getD-set-same b m last 0 y) g
+    low i h false q = let z : i ≡ m → ⊥ = eqb-false i m q in rw (getD-set-other a m i e 0 z, getD-set-other b m i last 0 z) (v .low i h)
 
-    high : (j : ℕ) → j < 1000 → Dec (j ≡ k) → getD (set b k last) j 0 ≤ length s
-    high j i (yes q) = rw (q, getD-set-same b k last 0 (omega (arith, sz .ends))) l
-    high j i (no q) = rw (getD-set-other b k j last 0 q) (v .high j i)
+    high : (i : ℕ) → i < n → (t : Bool) → eqb i m ≡ t → getD (set b m last) i 0 ≤ length s
+    high i h true q = rw (eqb-true i m q, getD-set-same b m last 0 y) l
+    high i h false q = let z : i ≡ m → ⊥ = eqb-false i m q in rw (getD-set-other b m i last 0 z) (v .high i h)
 
 -- ---- the collecting loop
 
-pub record Tables (s a b : List ℕ) (seen : List Part) : Type 0 where
-  pub sizes : Sizes a b
-  pub bounds : Bounds s a b
-  pub slots : Slots s a b seen
+pub record Tables (s : List ℕ) (n : ℕ) (ks a b : List ℕ) (seen : List Part) : Type 0 where
+  pub sizes : Sizes n ks a b
+  pub bounds : Bounds s n a b
+  pub listed : Listed s ks a b seen
 
-tables-store : {s a b a₁ b₁ : List ℕ} {seen : List Part} (p : Part) (e last : ℕ) → Tables s a b seen → p .mark .place ≤ 999 → 1 ≤ e → e ≤ last
-    → last ≤ length s
-    → flat (p .rows) ≡ part s e last → Stored a b (p .mark .place) e last a₁ b₁ → Tables s a₁ b₁ (seen ++ p ∷ [])
-tables-store {s} {a} {b} {a₁} {b₁} {seen} p e last t h l g i w st = go (eqb (getD a (p .mark .place) 0) 0) refl (st .starts) (st .ends)
-  where
-    go : (x : Bool) → eqb (getD a (p .mark .place) 0) 0 ≡ x → a₁ ≡ cond x (set a (p .mark .place) e) a → b₁ ≡ cond x (set b (p .mark .place) last) b
-        → Tables s a₁ b₁ (seen ++ p ∷ [])
-    go true q x y =
-        rw (x, y) (record {
-          sizes = record { starts = simp length-set (t .sizes .starts); ends = simp length-set (t .sizes .ends) };
-          bounds = bounds-set (p .mark .place) e last (t .sizes) (t .bounds) h g i;
-          slots = slots-free (t .sizes) (t .slots) p e last h l w (eqb-true (getD a (p .mark .place) 0) 0 q);
-        })
-    go false q x y =
-        rw (x, y) (record { sizes = t .sizes; bounds = t .bounds; slots = slots-taken (t .sizes) (t .slots) p e last h l w (eqb-false (getD a (p .mark .place) 0) 0 q) })
+tables-store : {s ks a b ks₁ a₁ b₁ : List ℕ} {n : ℕ} {seen : List Part} (p : Part) (e last m : ℕ) → Tables s n ks a b seen → m ≡ length seen → m < n
+    → e ≤ last → last ≤ length s → flat (p .rows) ≡ part s e last → Stored ks a b m (p .mark .place) e last ks₁ a₁ b₁
+    → Tables s n ks₁ a₁ b₁ (seen ++ p ∷ [])
+tables-store {s} {ks} {a} {b} {ks₁} {a₁} {b₁} {n} {seen} p e last m t c h g i w st =
+    let f : Free ks a b m =
+    record { places = omega (arith, t .sizes .places); starts = omega (arith, t .sizes .starts); ends = omega (arith, t .sizes .ends) } in
+    rw (st .places, st .starts, st .ends) (record {
+      sizes = record { places = simp length-set (t .sizes .places); starts = simp length-set (t .sizes .starts); ends = simp length-set (t .sizes .ends) };
+      bounds = bounds-set m e last (t .bounds) (f .starts) (f .ends) g i;
+      listed = listed-more p e last m (t .listed) c f w;
+    })
 
-pub record Collecting (s : List ℕ) (d : Bool) (i : List ℕ) (n : ℕ) (a b : List ℕ) (m at : ℕ) : Type 0 where
+-- the tables stay as long as they were
+pub record Kept (ks₀ a₀ b₀ ks a b : List ℕ) : Type 0 where
+  pub places : length ks ≡ length ks₀
+  pub starts : length a ≡ length a₀
+  pub ends : length b ≡ length b₀
+
+pub record Collecting (s : List ℕ) (d : Bool) (i : List ℕ) (n : ℕ) (ks₀ a₀ b₀ ks a b : List ℕ) (m at : ℕ) : Type 0 where
+  pub kept : Kept ks₀ a₀ b₀ ks a b
+  pub few : n ≤ 999
   pub small : length s ≤ 131072
   pub inside : at ≤ length s
   pub seen : List Part
   pub parts : allParts (piecesIn (rows s)) ≡ after seen (allParts (piecesIn (rows (drop at s))))
   pub agrees : agree (like d i n) seen ≡ true
   pub count : m ≡ length seen
-  pub tables : Tables s a b seen
+  pub tables : Tables s n ks a b seen
   pub over : goesOn (rows (drop at s)) ≡ false
   pub whole : unbroken (rows s) ≡ unbroken (rows (drop at s))
 
-pub collect-start : (s : List ℕ) (d : Bool) (i : List ℕ) (n : ℕ) (a b : List ℕ) → Blank s a b → Collecting s d i n a b 0 0
-unfolding agree findPart
-collect-start s d i n a b z = record {
+pub collect-start : (s : List ℕ) (d : Bool) (i : List ℕ) (n : ℕ) (ks a b : List ℕ) → Ready s n ks a b → Collecting s d i n ks a b ks a b 0 0
+unfolding agree
+collect-start s d i n ks a b z = record {
+  kept = record { places = refl; starts = refl; ends = refl };
+  few = z .count;
   small = z .small;
   inside = omega arith;
   seen = [];
   parts = after-none (allParts (piecesIn (rows s)));
   agrees = refl;
   count = refl;
-  tables = record {
-    sizes = z .sizes;
-    bounds = record { low = λ k h. omega (arith, z .starts k h); high = λ k h. omega (arith, z .ends k h) };
-    slots = record { at = λ k h. z .starts k h };
-  };
+  tables = record { sizes = z .sizes; bounds = z .bounds; listed = record { places = refl; bytes = λ i p e. nothing i p e } };
   over = z .over;
   whole = refl;
 }
+  where
+    nothing : (i : ℕ) (p : Part) → pieceAfter i [] ≡ some p → flat (p .rows) ≡ part s (getD a i 0) (getD b i 0)
+    nothing i p e = let z : _≡_ {A = ℕ} 0 1 = cc in absurd (omega arith)
 
-module _ {s : List ℕ} {d : Bool} {i : List ℕ} {n : ℕ} {a b : List ℕ} {m at : ℕ} (v : Collecting s d i n a b m at) where
+module _ {s : List ℕ} {d : Bool} {i : List ℕ} {n : ℕ} {ks₀ a₀ b₀ ks a b : List ℕ} {m at : ℕ} (v : Collecting s d i n ks₀ a₀ b₀ ks a b m at) where
+  pub collect-kept : Kept ks₀ a₀ b₀ ks a b
+  collect-kept = v .kept
+
   pub collect-at : at ≤ length s
   collect-at = v .inside
 
-  pub collect-sizes : Sizes a b
-  collect-sizes = v .tables .sizes
+  pub collect-fits : m < n → Fits w64 (m + 1)
+  collect-fits h = omega (arith, v .few)
+
+  pub collect-free : m < n → Free ks a b m
+  collect-free h = record {
+    places = omega (arith, v .tables .sizes .places);
+    starts = omega (arith, v .tables .sizes .starts);
+    ends = omega (arith, v .tables .sizes .ends);
+  }
 
   module _ {r : Next} (x : NextIs s at r) where
-    pub collect-over : r ≡ Over → CollectIs s d i n a b (eqb m n)
+    pub collect-over : r ≡ Over → CollectIs s d i n ks a b (eqb m n)
     unfolding allParts
     collect-over q =
         let f : Ended s at = subst (NextMeans s at) q (x .means) in
         let w : allParts (piecesIn (rows s)) ≡ some (v .seen) = v .parts ∙ (ap (λ (t : List Piece). after (v .seen) (allParts t)) (f .is) ∙ ap some (append-nil (v .seen))) in
         record { means = go (eqb m n) refl w (v .whole ∙ f .whole) }
       where
-        go : (t : Bool) → eqb m n ≡ t → allParts (piecesIn (rows s)) ≡ some (v .seen) → unbroken (rows s) ≡ true → CollectMeans s d i n a b t
+        go : (t : Bool) → eqb m n ≡ t → allParts (piecesIn (rows s)) ≡ some (v .seen) → unbroken (rows s) ≡ true → CollectMeans s d i n ks a b t
         go true e w u = record {
           seen = v .seen;
           parts = w;
@@ -240,7 +230,7 @@ module _ {s : List ℕ} {d : Bool} {i : List ℕ} {n : ℕ} {a b : List ℕ} {m 
           count = omega (arith, v .count, eqb-true m n e);
           sizes = v .tables .sizes;
           bounds = v .tables .bounds;
-          slots = v .tables .slots;
+          listed = v .tables .listed;
           whole = u;
         }
         go false e w u =
@@ -249,7 +239,7 @@ module _ {s : List ℕ} {d : Bool} {i : List ℕ} {n : ℕ} {a b : List ℕ} {m 
             ∙ (ap (λ (t : Bool). agree (like d i n) (v .seen) && t) (ne-eqb (length (v .seen)) n z) ∙ and-false (agree (like d i n) (v .seen)))
 
     -- only a broken row goes on with no piece and opens none
-    pub collect-stray : r ≡ Stray → CollectIs s d i n a b false
+    pub collect-stray : r ≡ Stray → CollectIs s d i n ks a b false
     collect-stray q = record { means = λ u. absurd (false≢true (sym (subst (NextMeans s at) q (x .means) (v .over)) ∙ (sym (v .whole) ∙ u))) }
 
     module _ {e : ℕ} {side : Bool} (q : r ≡ Opens e side) where
@@ -264,7 +254,7 @@ module _ {s : List ℕ} {d : Bool} {i : List ℕ} {n : ℕ} {a b : List ℕ} {m 
       left-is = ap allParts (opening .is)
 
       module _ {y : Member} (z : MemberIs s e side d i n y) where
-        pub collect-foreign : y ≡ Foreign → CollectIs s d i n a b false
+        pub collect-foreign : y ≡ Foreign → CollectIs s d i n ks a b false
         collect-foreign t =
             let f = subst (MemberMeans s e side d i n) t (z .means) in
             record {
@@ -290,15 +280,21 @@ module _ {s : List ℕ} {d : Bool} {i : List ℕ} {n : ℕ} {a b : List ℕ} {m 
           longer : length (v .seen ++ partBy d i n k (member .lines) ∷ []) ≡ m + 1
           longer = omega (arith, v .count, length-append (v .seen) (partBy d i n k (member .lines) ∷ []))
 
-          pub collect-many : n ≤ m → CollectIs s d i n a b false
+          pub collect-many : n ≤ m → CollectIs s d i n ks a b false
           collect-many h = record {
             means = λ _. ap (isSet d i n) one-more
                 ∙ too-many d i n (v .seen ++ partBy d i n k (member .lines) ∷ []) (allParts (piecesIn (rows (drop stop s)))) (omega (arith, longer));
           }
 
-          pub collect-go : {a₁ b₁ : List ℕ} → Stored a b k e last a₁ b₁ → Collecting s d i n a₁ b₁ (m + 1) stop
+          pub collect-go : {ks₁ a₁ b₁ : List ℕ} → m < n → Stored ks a b m k e last ks₁ a₁ b₁ → Collecting s d i n ks₀ a₀ b₀ ks₁ a₁ b₁ (m + 1) stop
           unfolding agree
-          collect-go st = record {
+          collect-go h st = record {
+            few = v .few;
+            kept = record {
+              places = ap length (st .places) ∙ (length-set ks m k ∙ v .kept .places);
+              starts = ap length (st .starts) ∙ (length-set a m e ∙ v .kept .starts);
+              ends = ap length (st .ends) ∙ (length-set b m last ∙ v .kept .ends);
+            };
             small = v .small;
             inside = member .high;
             seen = v .seen ++ partBy d i n k (member .lines) ∷ [];
@@ -306,151 +302,223 @@ module _ {s : List ℕ} {d : Bool} {i : List ℕ} {n : ℕ} {a b : List ℕ} {m 
             agrees = agree-append (like d i n) (v .seen) (partBy d i n k (member .lines) ∷ [])
                 ∙ ap₂ _&&_ (v .agrees) (agree-self d i n k (member .lines) []);
             count = sym longer;
-            tables = tables-store (partBy d i n k (member .lines)) e last (v .tables) (member .place)
-                (omega (arith, opening .low)) (member .low) (omega (arith, member .mid, member .high)) (member .bytes) st;
+            tables = tables-store (partBy d i n k (member .lines)) e last m (v .tables) (v .count) h
+                (member .low) (omega (arith, member .mid, member .high)) (member .bytes) st;
             over = member .over;
             whole = v .whole ∙ (opening .whole ∙ member .whole);
           }
 
+module _ {ks₀ a₀ b₀ ks a b : List ℕ} (v : Kept ks₀ a₀ b₀ ks a b) where
+  pub kept-places : length ks ≡ length ks₀
+  kept-places = v .places
+
+  pub kept-starts : length a ≡ length a₀
+  kept-starts = v .starts
+
+  pub kept-ends : length b ≡ length b₀
+  kept-ends = v .ends
+
+pub ruleset kept-laws = (collect-kept, kept-places, kept-starts, kept-ends)
+
 pub ruleset collect-laws =
-    (collect-start, collect-at, collect-sizes, collect-over, collect-stray, collect-within, collect-foreign, collect-place, collect-less, collect-many, collect-go)
+    (collect-start, collect-at, collect-fits, collect-free, collect-over, collect-stray, collect-within, collect-foreign, collect-place, collect-less, collect-many, collect-go)
 
--- ---- every place is taken
+-- ---- a piece that is looked for
 
-pub record Taking (a : List ℕ) (n k : ℕ) : Type 0 where
-  pub size : length a ≡ 1000
-  pub few : n ≤ 999
-  pub high : k ≤ n + 1
-  pub left : taken a n 1 ≡ taken a (n + 1 - k) k
+module _ {ks a b : List ℕ} {n k : ℕ} (v : Wanted ks a b n k) where
+  pub spot-part : n ≤ length ks
+  spot-part = v .sizes .places
 
-pub taking-start : (a : List ℕ) (n : ℕ) → length a ≡ 1000 → n ≤ 999 → Taking a n 1
-taking-start a n h g =
-    let z : n + 1 - 1 ≡ n = omega arith in record { size = h; few = g; high = omega arith; left = ap (λ (f : ℕ). taken a f 1) (sym z) }
+  pub spot-k : k ≤ 999
+  spot-k = v .place
 
-module _ {a : List ℕ} {n k : ℕ} (v : Taking a n k) where
-  taken-step : k ≤ n → taken a (n + 1 - k) k ≡ cond (eqb (getD a k 0) 0) false (taken a (n + 1 - (k + 1)) (k + 1))
-  unfolding taken
-  taken-step h =
-      let q : n + 1 - k ≡ suc (n + 1 - (k + 1)) = omega arith in
-      ap (λ (f : ℕ). taken a f k) q ∙ ap (λ (j : ℕ). cond (eqb (getD a k 0) 0) false (taken a (n + 1 - (k + 1)) j)) (sym (add-one k))
+  module _ {c : ℕ} (x : CountIs k (take (n - 0) (drop 0 ks)) c) where
+    first-n : length (take (n - 0) (drop 0 ks)) ≡ n
+    first-n = let z : n - 0 ≡ n = omega arith in ap (λ (j : ℕ). length (take j ks)) z ∙ length-take-le n ks (v .sizes .places)
 
-  pub taking-index : k ≤ n → k < 1000
-  taking-index h = omega (arith, v .few)
+    pub spot-low : 1 ≤ c
+    spot-low = count-one x (omega (arith, first-n, v .some))
 
-  pub taking-inside : k ≤ n → k < length a
-  taking-inside h = omega (arith, v .few, v .size)
+    below : c - 1 < n
+    below = omega (arith, spot-low, count-most x, first-n)
 
-  pub taking-free : k ≤ n → getD a k 0 ≡ 0 → false ≡ taken a n 1
-  taking-free h e = sym (v .left ∙ (taken-step h ∙ rw (eq-eqb (getD a k 0) 0 e)))
+    pub spot-place : c - 1 < length ks
+    spot-place = omega (arith, below, v .sizes .places)
 
-  pub taking-go : k ≤ n → (getD a k 0 ≡ 0 → ⊥) → Taking a n (k + 1)
-  taking-go h e = record { size = v .size; few = v .few; high = omega arith; left = v .left ∙ (taken-step h ∙ rw (ne-eqb (getD a k 0) 0 e)) }
+    pub spot-start : c - 1 < length a
+    spot-start = omega (arith, below, v .sizes .starts)
 
-  pub taking-out : n < k → true ≡ taken a n 1
-  unfolding taken
-  taking-out h = let q : n + 1 - k ≡ 0 = omega arith in sym (v .left ∙ rw q)
+    pub spot-end : c - 1 < length b
+    spot-end = omega (arith, below, v .sizes .ends)
 
-pub ruleset taking-laws = (taking-start, taking-index, taking-inside, taking-free, taking-go, taking-out)
+    module _ (ps : List Part) (q : length ps ≡ n) (l : take (length ps) ks ≡ ksOf ps) where
+      these : take (n - 0) (drop 0 ks) ≡ ksOf ps
+      these = let z : n - 0 ≡ length ps = omega (arith, q) in ap (λ (j : ℕ). take j ks) z ∙ l
 
--- ---- the bytes by place
+      among : CountIs k (ksOf ps) c
+      among = subst (λ (t : List ℕ). CountIs k t c) these x
 
-pub record Gathering (d₀ d : List ℕ) (at : ℕ) (s a b : List ℕ) (n o k : ℕ) : Type 0 where
-  pub given : FillRoom d₀ at s a b n
-  pub high : k ≤ n + 1
-  pub inside : o ≤ length d
-  pub size : length d ≡ length d₀
-  pub room : o + length (spans s a b (n + 1 - k) k) ≡ at + length (spans s a b n 1)
-  pub list : sets d o (spans s a b (n + 1 - k) k) ≡ sets d₀ at (spans s a b n 1)
+      k-there : getD ks (c - 1) 0 ≡ getD (ksOf ps) (c - 1) 0
+      k-there = let z : n ≡ n - 0 = omega arith in sym (getD-take n ks (c - 1) 0 below) ∙ ap (λ (t : List ℕ). getD t (c - 1) 0) (ap (λ (j : ℕ). take j ks) z ∙ these)
 
-pub gathering-start : {d : List ℕ} {at : ℕ} {s a b : List ℕ} {n : ℕ} → FillRoom d at s a b n → Gathering d d at s a b n at 1
-gathering-start {d} {at} {s} {a} {b} {n} h =
-    let z : n + 1 - 1 ≡ n = omega arith in
-    record {
-      given = h;
-      high = omega arith;
-      inside = h .room;
-      size = refl;
-      room = ap (λ (f : ℕ). at + length (spans s a b f 1)) z;
-      list = ap (λ (f : ℕ). sets d at (spans s a b f 1)) z;
+      many : 1 ≤ length (ksOf ps)
+      many = omega (arith, ks-length ps, q, v .some)
+
+    pub spot-nowhere : (getD ks (c - 1) 0 ≡ k → ⊥) → SpotIs ks a b n k Nowhere
+    spot-nowhere e = record { means = λ ps q l. piece-missing ps (among ps q l) (many ps q l) (λ y. e (k-there ps q l ∙ y)) }
+
+    pub spot-rows : getD ks (c - 1) 0 ≡ k → SpotIs ks a b n k (Rows (getD a (c - 1) 0) (getD b (c - 1) 0))
+    spot-rows e = record {
+      means = record {
+        index = c - 1;
+        inside = below;
+        starts = refl;
+        ends = refl;
+        found = λ ps q l. piece-found ps (among ps q l) (many ps q l) (sym (k-there ps q l) ∙ e);
+      };
     }
 
-module _ {d₀ d : List ℕ} {at : ℕ} {s a b : List ℕ} {n o k : ℕ} (v : Gathering d₀ d at s a b n o k) where
-  no-more : n < k → spans s a b (n + 1 - k) k ≡ []
-  unfolding spans
-  no-more h = let q : n + 1 - k ≡ 0 = omega arith in rw q
+pub ruleset spot-laws = (spot-part, spot-k, spot-low, spot-place, spot-start, spot-end, spot-nowhere, spot-rows)
 
-  pub gathering-out : n < k → FillIs d₀ d at (spans s a b n 1) (Full o)
-  gathering-out h = record {
-    means = record {
-      next = omega (arith, v .room, ap length (no-more h));
-      list = rw (no-more h) at (v .list);
-      size = v .size;
-      high = omega (arith, v .inside, v .size);
-    };
+-- ---- the rows by k
+
+abbrev rowsBefore : List (List ℕ) → Option (List (List ℕ)) → Option (List (List ℕ))
+rowsBefore done none = none
+rowsBefore done (some rs) = some (done ++ rs)
+
+-- the rows found so far, and those that are left
+pub record Going (d₀ d : List ℕ) (at : ℕ) (ps : List Part) (n o k : ℕ) : Type 0 where
+  pub done : List (List ℕ)
+  pub left : gather ps n 1 ≡ rowsBefore done (gather ps (n + 1 - k) k)
+  pub count : o ≡ at + length (flat done)
+  pub wrote : o ≤ length d → Wrote d₀ d at o (flat done)
+
+pub record Gathering (d₀ d : List ℕ) (at : ℕ) (s ks a b : List ℕ) (n o k : ℕ) : Type 0 where
+  pub given : FillRoom d₀ at s ks a b n
+  pub low : 1 ≤ k
+  pub high : k ≤ n + 1
+  pub small : o ≤ 13 + 131072 * (k - 1)
+  pub size : length d ≡ length d₀
+  pub going : (ps : List Part) → length ps ≡ n → Listed s ks a b ps → Going d₀ d at ps n o k
+
+no-rows : (o : Option (List (List ℕ))) → o ≡ rowsBefore [] o
+no-rows none = refl
+no-rows (some rs) = refl
+
+rows-more : (done : List (List ℕ)) (p : Part) (o : Option (List (List ℕ))) → rowsBefore done (rowsOfPart (some p) o) ≡ rowsBefore (done ++ p .rows) o
+rows-more done p none = refl
+rows-more done p (some rs) = ap some (sym (append-assoc done (p .rows) rs))
+
+-- nothing written
+wrote-none : (d : List ℕ) (at : ℕ) → at ≤ length d → Wrote d d at at []
+wrote-none d at h = record { next = omega arith; list = refl; size = refl; high = h }
+
+pub gathering-start : {d : List ℕ} {at : ℕ} {s ks a b : List ℕ} {n : ℕ} → FillRoom d at s ks a b n → Gathering d d at s ks a b n at 1
+gathering-start {d} {at} {s} {ks} {a} {b} {n} h = record {
+  given = h;
+  low = omega arith;
+  high = omega arith;
+  small = omega (arith, h .start);
+  size = refl;
+  going = λ ps c v. record {
+    done = [];
+    left = let z : n ≡ n + 1 - 1 = omega arith in ap (λ (f : ℕ). gather ps f 1) z ∙ no-rows (gather ps (n + 1 - 1) 1);
+    count = omega arith;
+    wrote = λ _. wrote-none d at (h .room);
+  };
+}
+
+module _ {d₀ d : List ℕ} {at : ℕ} {s ks a b : List ℕ} {n o k : ℕ} (v : Gathering d₀ d at s ks a b n o k) where
+  pub gathering-size : length d ≡ length d₀
+  gathering-size = v .size
+
+  all-found : n < k → (ps : List Part) (c : length ps ≡ n) (l : Listed s ks a b ps) → gather ps n 1 ≡ some (v .going ps c l .done)
+  unfolding gather
+  all-found h ps c l =
+      let g = v .going ps c l in
+      let z : n + 1 - k ≡ 0 = omega arith in
+      g .left ∙ (ap (λ (f : ℕ). rowsBefore (g .done) (gather ps f k)) z ∙ ap some (append-nil (g .done)))
+
+  pub gathering-full : n < k → o ≤ length d → FillIs d₀ d at s ks a b n (Full o)
+  gathering-full h q = record { means = λ ps c l. (v .going ps c l .done, all-found h ps c l, v .going ps c l .wrote q); size = v .size }
+
+  pub gathering-short : n < k → length d < o → FillIs d₀ d at s ks a b n Short
+  gathering-short h q = record {
+    means = λ ps c l. (v .going ps c l .done, all-found h ps c l, omega (arith, v .going ps c l .count, v .size));
     size = v .size;
   }
 
   module _ (h : k ≤ n) where
-    pub gathering-start-index : k < length a
-    gathering-start-index = omega (arith, v .given .sizes .starts, v .given .count)
+    pub gathering-wanted : Wanted ks a b n k
+    gathering-wanted = record { sizes = v .given .sizes; some = v .given .some; place = omega (arith, v .given .count) }
 
-    pub gathering-end-index : k < length b
-    gathering-end-index = omega (arith, v .given .sizes .ends, v .given .count)
+    step : (ps : List Part) → gather ps (n + 1 - k) k ≡ rowsOfPart (findPart k ps) (gather ps (n + 1 - (k + 1)) (k + 1))
+    unfolding gather
+    step ps =
+        let z : n + 1 - k ≡ suc (n + 1 - (k + 1)) = omega arith in
+        ap (λ (f : ℕ). gather ps f k) z ∙ ap (λ (j : ℕ). rowsOfPart (findPart k ps) (gather ps (n + 1 - (k + 1)) j)) (sym (add-one k))
 
-    pub gathering-low : getD a k 0 ≤ getD b k 0
-    gathering-low = v .given .bounds .low k (omega (arith, v .given .count))
+    module _ {y : Spot} (x : SpotIs ks a b n k y) where
+      spotted : {r : Spot} → y ≡ r → SpotMeans ks a b n k r
+      spotted t = subst (SpotMeans ks a b n k) t (x .means)
 
-    pub gathering-high : getD b k 0 ≤ length s
-    gathering-high = v .given .bounds .high k (omega (arith, v .given .count))
-
-    step : spans s a b (n + 1 - k) k ≡ part s (getD a k 0) (getD b k 0) ++ spans s a b (n + 1 - (k + 1)) (k + 1)
-    unfolding spans
-    step =
-        let q : n + 1 - k ≡ suc (n + 1 - (k + 1)) = omega arith in
-        ap (λ (f : ℕ). spans s a b f k) q ∙ ap (λ (j : ℕ). part s (getD a k 0) (getD b k 0) ++ spans s a b (n + 1 - (k + 1)) j) (sym (add-one k))
-
-    here : length (part s (getD a k 0) (getD b k 0)) ≡ getD b k 0 - getD a k 0
-    here = part-length s (getD a k 0) (getD b k 0) gathering-low gathering-high
-
-    sizes : length (spans s a b (n + 1 - k) k) ≡ (getD b k 0 - getD a k 0) + length (spans s a b (n + 1 - (k + 1)) (k + 1))
-    sizes = omega (arith, ap length step, length-append (part s (getD a k 0) (getD b k 0)) (spans s a b (n + 1 - (k + 1)) (k + 1)), here)
-
-    pub gathering-large : length d - o < getD b k 0 - getD a k 0 → FillIs d₀ d at (spans s a b n 1) Large
-    gathering-large l = record { means = omega (arith, v .size, v .room, v .inside, sizes); size = v .size }
-
-    module _ (l : getD b k 0 - getD a k 0 ≤ length d - o) where
-      pub gathering-room : Room d o (take (getD b k 0 - getD a k 0) (drop (getD a k 0) s))
-      gathering-room = omega (arith, here, v .inside)
-
-      pub gathering-go : {d₁ : List ℕ} {o₁ : ℕ} → Wrote d d₁ o o₁ (take (getD b k 0 - getD a k 0) (drop (getD a k 0) s))
-          → Gathering d₀ d₁ at s a b n o₁ (k + 1)
-      gathering-go {d₁} {o₁} p = record {
-        given = v .given;
-        high = omega arith;
-        inside = omega (arith, p .high, p .size);
-        size = p .size ∙ v .size;
-        room = omega (arith, p .next, here, v .room, sizes);
-        list = carry (spans s a b (n + 1 - (k + 1)) (k + 1)) p (rw step at (v .list));
+      pub gathering-missing : y ≡ Nowhere → FillIs d₀ d at s ks a b n Missing
+      gathering-missing t = record {
+        means = λ ps q l. v .going ps q l .left ∙ ap (rowsBefore (v .going ps q l .done))
+            (step ps ∙ ap (λ (p : Option Part). rowsOfPart p (gather ps (n + 1 - (k + 1)) (k + 1))) (spotted t ps q (l .places)));
+        size = v .size;
       }
 
+      module _ {from to : ℕ} (t : y ≡ Rows from to) where
+        spot : SpotAt ks a b n k from to
+        spot = spotted t
+
+        pub gathering-low : from ≤ to
+        gathering-low = omega (arith, spot .starts, spot .ends, v .given .bounds .low (spot .index) (spot .inside))
+
+        pub gathering-high : to ≤ length s
+        gathering-high = omega (arith, spot .ends, v .given .bounds .high (spot .index) (spot .inside))
+
+        span-length : length (part s from to) ≡ to - from
+        span-length = part-length s from to gathering-low gathering-high
+
+        pub gathering-fits : o + length (take (to - from) (drop from s)) ≤ 200000000
+        gathering-fits = omega (arith, span-length, v .small, v .given .small, v .given .count, gathering-high)
+
+        pub gathering-go : {d₁ : List ℕ} {o₁ : ℕ} → PutIs d d₁ o o₁ (take (to - from) (drop from s)) → Gathering d₀ d₁ at s ks a b n o₁ (k + 1)
+        gathering-go {d₁} {o₁} u = record {
+          given = v .given;
+          low = omega arith;
+          high = omega arith;
+          small = omega (arith, u .next, span-length, gathering-high, v .given .small, v .small, v .low);
+          size = u .size ∙ v .size;
+          going = λ ps q l. go ps l (v .going ps q l) (spot .found ps q (l .places));
+        }
+          where
+            go : (ps : List Part) → Listed s ks a b ps → Going d₀ d at ps n o k → (p : Part) × (findPart k ps ≡ some p) × (pieceAfter (spot .index) ps ≡ some p)
+                → Going d₀ d₁ at ps n o₁ (k + 1)
+            go ps l g (p, f, i) =
+                let b : flat (g .done ++ p .rows) ≡ flat (g .done) ++ part s from to =
+                flat-append (g .done) (p .rows)
+                ∙ ap (λ (z : List ℕ). flat (g .done) ++ z) (l .bytes (spot .index) p i ∙ rw (sym (spot .starts), sym (spot .ends))) in
+                record {
+                  done = g .done ++ p .rows;
+                  left = g .left ∙ (ap (rowsBefore (g .done)) (step ps ∙ ap (λ (z : Option Part). rowsOfPart z (gather ps (n + 1 - (k + 1)) (k + 1))) f)
+                      ∙ rows-more (g .done) p (gather ps (n + 1 - (k + 1)) (k + 1)));
+                  count = omega (arith, u .next, g .count, ap length b, length-append (flat (g .done)) (part s from to));
+                  wrote = λ w. subst (λ (z : List ℕ). Wrote d₀ d₁ at o₁ z) (sym b) (then (g .wrote (omega (arith, u .next, u .size))) (u .wrote (omega (arith, u .size))));
+                }
+
 pub ruleset gathering-laws =
-    (gathering-start, gathering-out, gathering-start-index, gathering-end-index, gathering-low, gathering-high, gathering-large, gathering-room, gathering-go)
+    (gathering-start, gathering-size, gathering-full, gathering-short, gathering-wanted, gathering-low, gathering-high, gathering-missing, gathering-fits, gathering-go)
 
--- ---- what is gathered from the parts is what is gathered from the tables
+-- ---- bytes that fit, or not
 
-abbrev pub Gathers : List ℕ → List ℕ → List ℕ → ℕ → ℕ → Option (List (List ℕ)) → Type 0
-Gathers s a b f k none = taken a f k ≡ false
-Gathers s a b f k (some rs) = (taken a f k ≡ true) × (flat rs ≡ spans s a b f k)
+module _ {d : List ℕ} {at : ℕ} {w : List ℕ} where
+  pub put-over : length d < at + length w → PutIs d d at (at + length w) w
+  put-over h = record { next = refl; size = refl; wrote = λ l. absurd (omega (arith, l)) }
 
-pub gathers : {s a b : List ℕ} {ps : List Part} → Slots s a b ps → (f k : ℕ) → k + f ≤ 1000 → Gathers s a b f k (gather ps f k)
-unfolding gather taken spans
-gathers v zero k h = (refl, refl)
-gathers {s} {a} {b} {ps} v (suc f) k h = go (findPart k ps) (v .at k (omega arith)) (gather ps f (suc k)) (gathers v f (suc k) (omega arith))
-  where
-    go : (o : Option Part) → Slot s (getD a k 0) (getD b k 0) o → (w : Option (List (List ℕ))) → Gathers s a b f (suc k) w
-        → Gathers s a b (suc f) k (rowsOfPart o w)
-    go none x w y = rw (eq-eqb (getD a k 0) 0 x)
-    go (some p) x none y = let z : getD a k 0 ≡ 0 → ⊥ = λ e. omega (arith, x .0) in rw (ne-eqb (getD a k 0) 0 z) y
-    go (some p) x (some rs) y =
-        let z : getD a k 0 ≡ 0 → ⊥ = λ e. omega (arith, x .0) in
-        (rw (ne-eqb (getD a k 0) 0 z) (y .0), flat-append (p .rows) rs ∙ ap₂ _++_ (x .1) (y .1))
+  pub put-wrote : {d₁ : List ℕ} {r : ℕ} → Wrote d d₁ at r w → PutIs d d₁ at r w
+  put-wrote x = record { next = x .next; size = x .size; wrote = λ _. x }
+
+pub ruleset put-laws = (put-over, put-wrote)

@@ -1,12 +1,12 @@
 -- Vocabulary of the code.
--- Pieces by positions in the input, as the code of joining carries them: a body is the bytes from a position to a position, and the spans
--- of the parts lie in two tables by place. The laws in proofs/ show that they stand for the lists of rows of Join.antt; the call's own
+-- Pieces by positions in the input, as the code of joining carries them: a body is the bytes from a position to a position, and three tables
+-- have the k's of the parts and their bodies, as they lie. The laws in proofs/ show that they stand for the lists of rows of Join.antt; the call's own
 -- contract names Join.antt alone.
-use Prim.Native.Nat.{ℕ, zero, suc, _+_, _≤_, _<_}
+use Prim.Native.Nat.{ℕ, _+_, _≤_, _<_}
 use mathlib.Core.Path.{_≡_}
-use mathlib.Core.Bool.{Bool, true, false, cond, _&&_}
+use mathlib.Core.Bool.{Bool, true, false, _&&_}
 use mathlib.Core.Option.{Option, none, some}
-use mathlib.Core.List.{List, [], _∷_, _++_}
+use mathlib.Core.List.{List, [], _∷_}
 use lib.Dec.{eqb}
 use lib.ListN.{length, take, drop, getD, set}
 use Rattle.lists.specs.Lists.{Res, ok, refused}
@@ -23,11 +23,14 @@ use Rattle.join.specs.declared.Lines.{Lines}
 use Rattle.join.specs.declared.Lines.the-variants.{Plain, Marked, Wrong}
 use Rattle.join.specs.declared.Member.{Member}
 use Rattle.join.specs.declared.Member.the-variants.{Of, Foreign}
+use Rattle.join.specs.declared.Spot.{Spot}
+use Rattle.join.specs.declared.Spot.the-variants.{Rows, Nowhere}
 use Rattle.join.specs.declared.Filled.{Filled}
-use Rattle.join.specs.declared.Filled.the-variants.{Full, Large}
+use Rattle.join.specs.declared.Filled.the-variants.{Full, Short, Missing}
 use Rattle.join.specs.declared.Made.{Made}
-use Rattle.join.specs.declared.Made.the-variants.{Bytes, No}
-use Rattle.division.specs.Join.{unmarked, Part, lastMark, partOf, partWith, allParts, agree, findPart, thenChecked}
+use Rattle.join.specs.declared.Made.the-variants.{Bytes, Large, No}
+use Rattle.division.specs.Join.{unmarked, Part, lastMark, partOf, partWith, allParts, agree, findPart, gather, onePiece, orSet, thenChecked}
+use Rattle.search.specs.Search.{ksOf, pieceAfter}
 
 -- ---- rows that break no rule of line ends, so that the pieces are read before it is known where one does
 
@@ -214,117 +217,159 @@ MemberMeans s e side d i n Foreign = ForeignAt s e side d i n
 pub record MemberIs (s : List ℕ) (e : ℕ) (side d : Bool) (i : List ℕ) (n : ℕ) (r : Member) : Type 0 where
   pub means : MemberMeans s e side d i n r
 
--- ---- the tables: at index k the span of the first part with place k, 0 for none
+-- ---- the tables of the parts as they lie: the k's, and where their rows begin and end
 
-pub record Sizes (a b : List ℕ) : Type 0 where
-  pub starts : length a ≡ 1000
-  pub ends : length b ≡ 1000
+-- index i lies in all three
+pub record Free (ks a b : List ℕ) (i : ℕ) : Type 0 where
+  pub places : i < length ks
+  pub starts : i < length a
+  pub ends : i < length b
 
--- the bytes from a[k] to b[k] lie in s
-pub record Bounds (s a b : List ℕ) : Type 0 where
-  pub low : (k : ℕ) → k < 1000 → getD a k 0 ≤ getD b k 0
-  pub high : (k : ℕ) → k < 1000 → getD b k 0 ≤ length s
+-- what is stored there
+pub record Stored (ks a b : List ℕ) (i k from to : ℕ) (ks′ a′ b′ : List ℕ) : Type 0 where
+  pub places : ks′ ≡ set ks i k
+  pub starts : a′ ≡ set a i from
+  pub ends : b′ ≡ set b i to
 
-abbrev pub Slot : List ℕ → ℕ → ℕ → Option Part → Type 0
-Slot s from to none = from ≡ 0
-Slot s from to (some p) = (1 ≤ from) × (flat (p .rows) ≡ part s from to)
+-- they have room for n parts
+pub record Sizes (n : ℕ) (ks a b : List ℕ) : Type 0 where
+  pub places : n ≤ length ks
+  pub starts : n ≤ length a
+  pub ends : n ≤ length b
 
-pub record Slots (s a b : List ℕ) (ps : List Part) : Type 0 where
-  pub at : (k : ℕ) → k < 1000 → Slot s (getD a k 0) (getD b k 0) (findPart k ps)
+-- the bytes from a[i] to b[i] lie in s
+pub record Bounds (s : List ℕ) (n : ℕ) (a b : List ℕ) : Type 0 where
+  pub low : (i : ℕ) → i < n → getD a i 0 ≤ getD b i 0
+  pub high : (i : ℕ) → i < n → getD b i 0 ≤ length s
 
--- tables that are free at every place, and an input that does not begin in the middle of a piece
-pub record Blank (s a b : List ℕ) : Type 0 where
+-- the first entries are these parts
+pub record Listed (s ks a b : List ℕ) (ps : List Part) : Type 0 where
+  pub places : take (length ps) ks ≡ ksOf ps
+  pub bytes : (i : ℕ) (p : Part) → pieceAfter i ps ≡ some p → flat (p .rows) ≡ part s (getD a i 0) (getD b i 0)
+
+-- tables for n parts, and an input that does not begin in the middle of a piece
+pub record Ready (s : List ℕ) (n : ℕ) (ks a b : List ℕ) : Type 0 where
   pub small : length s ≤ 131072
+  pub count : n ≤ 999
   pub over : goesOn (rows s) ≡ false
-  pub sizes : Sizes a b
-  pub starts : (k : ℕ) → k < 1000 → getD a k 0 ≡ 0
-  pub ends : (k : ℕ) → k < 1000 → getD b k 0 ≡ 0
+  pub sizes : Sizes n ks a b
+  pub bounds : Bounds s n a b
 
--- a span stored at a place that is free
-pub record Stored (a b : List ℕ) (k from to : ℕ) (a′ b′ : List ℕ) : Type 0 where
-  pub starts : a′ ≡ cond (eqb (getD a k 0) 0) (set a k from) a
-  pub ends : b′ ≡ cond (eqb (getD a k 0) 0) (set b k to) b
-
-pub record Collected (s : List ℕ) (d : Bool) (i : List ℕ) (n : ℕ) (a b : List ℕ) : Type 0 where
+pub record Collected (s : List ℕ) (d : Bool) (i : List ℕ) (n : ℕ) (ks a b : List ℕ) : Type 0 where
   pub seen : List Part
   pub parts : allParts (piecesIn (rows s)) ≡ some seen
   pub agrees : agree (like d i n) seen ≡ true
   pub count : length seen ≡ n
-  pub sizes : Sizes a b
-  pub bounds : Bounds s a b
-  pub slots : Slots s a b seen
+  pub sizes : Sizes n ks a b
+  pub bounds : Bounds s n a b
+  pub listed : Listed s ks a b seen
   pub whole : unbroken (rows s) ≡ true
 
 -- of rows that are broken, false says nothing
-abbrev pub CollectMeans : List ℕ → Bool → List ℕ → ℕ → List ℕ → List ℕ → Bool → Type 0
-CollectMeans s d i n a b true = Collected s d i n a b
-CollectMeans s d i n a b false = unbroken (rows s) ≡ true → isSet d i n (allParts (piecesIn (rows s))) ≡ false
+abbrev pub CollectMeans : List ℕ → Bool → List ℕ → ℕ → List ℕ → List ℕ → List ℕ → Bool → Type 0
+CollectMeans s d i n ks a b true = Collected s d i n ks a b
+CollectMeans s d i n ks a b false = unbroken (rows s) ≡ true → isSet d i n (allParts (piecesIn (rows s))) ≡ false
 
-pub record CollectIs (s : List ℕ) (d : Bool) (i : List ℕ) (n : ℕ) (a b : List ℕ) (r : Bool) : Type 0 where
-  pub means : CollectMeans s d i n a b r
+pub record CollectIs (s : List ℕ) (d : Bool) (i : List ℕ) (n : ℕ) (ks a b : List ℕ) (r : Bool) : Type 0 where
+  pub means : CollectMeans s d i n ks a b r
 
--- f places from k on are all taken
-unfoldable pub taken : List ℕ → ℕ → ℕ → Bool
-taken a zero k = true
-taken a (suc f) k = cond (eqb (getD a k 0) 0) false (taken a f (suc k))
+-- ---- a piece that is looked for
 
--- the bytes of f places from k on
-unfoldable pub spans : List ℕ → List ℕ → List ℕ → ℕ → ℕ → List ℕ
-spans s a b zero k = []
-spans s a b (suc f) k = part s (getD a k 0) (getD b k 0) ++ spans s a b f (suc k)
+pub record Wanted (ks a b : List ℕ) (n k : ℕ) : Type 0 where
+  pub sizes : Sizes n ks a b
+  pub some : 1 ≤ n
+  pub place : k ≤ 999
 
--- ---- the buffer: w from index at on, or w does not fit
+-- its index in the tables, of whichever n parts they have
+pub record SpotAt (ks a b : List ℕ) (n k from to : ℕ) : Type 0 where
+  pub index : ℕ
+  pub inside : index < n
+  pub starts : from ≡ getD a index 0
+  pub ends : to ≡ getD b index 0
+  pub found : (ps : List Part) → length ps ≡ n → take (length ps) ks ≡ ksOf ps → (p : Part) × (findPart k ps ≡ some p) × (pieceAfter index ps ≡ some p)
 
-abbrev pub FillMeans : List ℕ → List ℕ → ℕ → List ℕ → Filled → Type 0
-FillMeans d d′ at w (Full r) = Wrote d d′ at r w
-FillMeans d d′ at w Large = length d < at + length w
+abbrev pub SpotMeans : List ℕ → List ℕ → List ℕ → ℕ → ℕ → Spot → Type 0
+SpotMeans ks a b n k (Rows from to) = SpotAt ks a b n k from to
+SpotMeans ks a b n k Nowhere = (ps : List Part) → length ps ≡ n → take (length ps) ks ≡ ksOf ps → findPart k ps ≡ none
 
-pub record FillIs (d d′ : List ℕ) (at : ℕ) (w : List ℕ) (r : Filled) : Type 0 where
-  pub means : FillMeans d d′ at w r
+pub record SpotIs (ks a b : List ℕ) (n k : ℕ) (r : Spot) : Type 0 where
+  pub means : SpotMeans ks a b n k r
+
+-- ---- the buffer: the gathered rows from index at on; or they do not fit; or a part is missing
+
+-- w from index at on, if it fits
+pub record PutIs (d d′ : List ℕ) (at r : ℕ) (w : List ℕ) : Type 0 where
+  pub next : r ≡ at + length w
+  pub size : length d′ ≡ length d
+  pub wrote : r ≤ length d → Wrote d d′ at r w
+
+abbrev pub FillMeans : List ℕ → List ℕ → ℕ → Option (List (List ℕ)) → Filled → Type 0
+FillMeans d d′ at w (Full r) = (rs : List (List ℕ)) × (w ≡ some rs) × Wrote d d′ at r (flat rs)
+FillMeans d d′ at w Short = (rs : List (List ℕ)) × (w ≡ some rs) × (length d < at + length (flat rs))
+FillMeans d d′ at w Missing = w ≡ none
+
+-- of whichever n parts the tables have
+pub record FillIs (d d′ : List ℕ) (at : ℕ) (s ks a b : List ℕ) (n : ℕ) (r : Filled) : Type 0 where
+  pub means : (ps : List Part) → length ps ≡ n → Listed s ks a b ps → FillMeans d d′ at (gather ps n 1) r
   pub size : length d′ ≡ length d
 
-pub record FillRoom (d : List ℕ) (at : ℕ) (s a b : List ℕ) (n : ℕ) : Type 0 where
-  pub sizes : Sizes a b
-  pub bounds : Bounds s a b
+pub record FillRoom (d : List ℕ) (at : ℕ) (s ks a b : List ℕ) (n : ℕ) : Type 0 where
+  pub sizes : Sizes n ks a b
+  pub bounds : Bounds s n a b
+  pub some : 1 ≤ n
   pub count : n ≤ 999
   pub room : at ≤ length d
-  pub small : length d ≤ 65536
+  pub start : at ≤ 13
+  pub small : length s ≤ 131072
 
--- ---- the joined file in a buffer of 65,536 bytes, or the refusal
+-- ---- the joined file in a buffer of m bytes; or the refusal
 
 abbrev pub MadeMeans : Res (List ℕ) → List ℕ → Made → Type 0
 MadeMeans x d (Bytes t) = (x ≡ ok (take t d)) × (t ≤ length d)
+MadeMeans x d Large = (w : List ℕ) × (x ≡ ok w) × (length d < length w)
 MadeMeans x d (No n line) = thenChecked x ≡ refused n line
 
-pub record MadeIs (x : Res (List ℕ)) (d : List ℕ) (r : Made) : Type 0 where
+pub record MadeIs (m : ℕ) (x : Res (List ℕ)) (d : List ℕ) (r : Made) : Type 0 where
   pub means : MadeMeans x d r
-  pub size : length d ≡ 65536
+  pub size : length d ≡ m
+
+-- the rows of a set, line 1 of a direction before them
+abbrev pub withHead : Bool → Option (List (List ℕ)) → Res (List ℕ)
+withHead side x = orSet (onePiece side x)
+
+-- the same of whichever n parts the tables have
+pub record SetIs (m : ℕ) (side : Bool) (s ks a b : List ℕ) (n : ℕ) (d : List ℕ) (r : Made) : Type 0 where
+  pub made : (ps : List Part) → length ps ≡ n → Listed s ks a b ps → MadeIs m (withHead side (gather ps n 1)) d r
+  pub size : length d ≡ m
 
 -- the same, of a sound input
 abbrev pub SoundMeans : List ℕ → Res (List ℕ) → List ℕ → Made → Type 0
-SoundMeans s x d (Bytes t) = (sound (rows s) ≡ true) × (x ≡ ok (take t d)) × (t ≤ length d)
-SoundMeans s x d (No n line) = sound (rows s) ≡ true → thenChecked x ≡ refused n line
+SoundMeans s x d (Bytes t) = (sound (rows s) ≡ true) × MadeMeans x d (Bytes t)
+SoundMeans s x d Large = (sound (rows s) ≡ true) × MadeMeans x d Large
+SoundMeans s x d (No n line) = sound (rows s) ≡ true → MadeMeans x d (No n line)
 
-pub record SoundIs (s : List ℕ) (x : Res (List ℕ)) (d : List ℕ) (r : Made) : Type 0 where
+pub record SoundIs (m : ℕ) (s : List ℕ) (x : Res (List ℕ)) (d : List ℕ) (r : Made) : Type 0 where
   pub means : SoundMeans s x d r
-  pub size : length d ≡ 65536
+  pub size : length d ≡ m
 
 -- the buffer, and a span of the input
 pub record Given (d s : List ℕ) (from stop : ℕ) : Type 0 where
-  pub size : length d ≡ 65536
+  pub line : 13 ≤ length d
   pub low : from ≤ stop
   pub high : stop ≤ length s
 
 -- the buffer, and the tables of a set of n pieces
-pub record GivenSet (d s a b : List ℕ) (n : ℕ) : Type 0 where
-  pub size : length d ≡ 65536
-  pub sizes : Sizes a b
-  pub bounds : Bounds s a b
+pub record GivenSet (d s ks a b : List ℕ) (n : ℕ) : Type 0 where
+  pub line : 13 ≤ length d
+  pub small : length s ≤ 131072
+  pub sizes : Sizes n ks a b
+  pub bounds : Bounds s n a b
+  pub some : 1 ≤ n
   pub count : n ≤ 999
 
 -- the buffer, and the first of a set: its record 911 begins at last
 pub record First (d s : List ℕ) (side : Bool) (last n : ℕ) : Type 0 where
-  pub size : length d ≡ 65536
+  pub line : 13 ≤ length d
   pub small : length s ≤ 131072
   pub ident : last + 18 ≤ length s
   pub count : n ≤ 999
@@ -335,7 +380,20 @@ pub record First (d s : List ℕ) (side : Bool) (last n : ℕ) : Type 0 where
   pub over : goesOn (rows s) ≡ false
   pub sound : sound (rows s) ≡ unbroken (rows s)
 
+-- the same with tables for n pieces
+pub record FirstIn (d s : List ℕ) (side : Bool) (last n : ℕ) (ks a b : List ℕ) : Type 0 where
+  pub first : First d s side last n
+  pub more : 1 < n
+  pub sizes : Sizes n ks a b
+  pub bounds : Bounds s n a b
+
 -- the buffer, and an input within the limit
 pub record Input (d s : List ℕ) : Type 0 where
-  pub size : length d ≡ 65536
+  pub line : 13 ≤ length d
   pub small : length s ≤ 131072
+
+-- a buffer as long as the input, or as the longest file
+pub record Holds (s d : List ℕ) : Type 0 where
+  pub room : length d < length s → length d ≡ 65536
+  pub line : 13 ≤ length d
+  pub small : length d ≤ 65536

@@ -1,10 +1,10 @@
 // Joining: pieces in any order to one file, which is then checked. The call's definition: division, specs/Join.antt. Inside, a piece is carried by
-// positions (specs/Spans.antt): its rows are the bytes from after its line 1 to its record 911, and the tables `starts` and `ends`
-// have them by place, so that each piece is looked at once. Only where the pieces cannot be joined is the input read again for a broken
-// line, whose number 2 goes before 19.
+// positions (specs/Spans.antt): its rows are the bytes from after its line 1 to its record 911. One pass over the bytes fills three tables of the
+// pieces as they lie: `ks` has the k of each, `starts` and `ends` its rows. Then pieces 1 to n are looked for among the k's, one after another (document
+// 02 (iv); crate search). Only where the pieces cannot be joined is the input read again for a broken line, whose number 2 goes before 19.
 ghost use mathlib.Core.Path.{_≡_};
 ghost use mathlib.Core.List.{_++_};
-ghost use Prim.Native.Nat.{_≤_, _<_};
+ghost use Prim.Native.Nat.{_+_, _≤_, _<_};
 ghost use lib.ListN.{length, drop};
 ghost use Rattle.lists.specs.Lists.{ok};
 ghost use Rattle.lists.specs.Searching.{part};
@@ -14,7 +14,7 @@ ghost use Rattle.buffers.specs.Buffers.{Wrote};
 ghost use Rattle.division.specs.Pieces.{brokenLine, startsWell, piecesIn};
 ghost use Rattle.division.specs.Join.{allParts, joinParts, joinPieces, orSet, joinedFile, joinResult};
 ghost use Rattle.replies.specs.Contracts.{Gives};
-ghost use Rattle.join.specs.Spans.{NextIs, FirstIs, goesOn, LineAt, LastIs, LinesAre, Within, MemberIs, Sizes, Blank, Stored, CollectIs, taken, spans, FillIs, FillRoom, MadeIs, SoundIs, Given, GivenSet, First, Input};
+ghost use Rattle.join.specs.Spans.{NextIs, FirstIs, goesOn, LineAt, LastIs, LinesAre, Within, MemberIs, Free, Stored, Ready, CollectIs, Wanted, SpotIs, PutIs, FillIs, FillRoom, MadeIs, SetIs, SoundIs, Given, GivenSet, First, FirstIn, Input, Holds};
 use replies::Answer;
 
 // The line of the first row that breaks the rule of line ends, 0 for none. A 1Ah is in place after a piece only.
@@ -241,22 +241,37 @@ fn read_member(s: &[u8], e: usize, side: bool, d: bool, id: &[u8], n: usize) -> 
     }
 }
 
-// A span at a place that is free. A place that is taken stays: of n pieces with n places, none has another's.
-fn store(starts: &mut [usize], ends: &mut [usize], k: usize, from: usize, to: usize)
+// What is known of the piece after i others: its k, and where its rows are.
+fn store(
+    ks: &mut [u16],
+    starts: &mut [usize],
+    ends: &mut [usize],
+    i: usize,
+    k: usize,
+    from: usize,
+    to: usize,
+)
     requires { ⌜ k ≤ 999 ⌝ }
-    requires { ⌜ Sizes (now starts) (now ends) ⌝ }
-    ensures { λ _. ⌜ Stored (now (starts .entry)) (now (ends .entry)) k from to (now (starts .exit)) (now (ends .exit)) ⌝ }
+    requires { ⌜ Free (now ks) (now starts) (now ends) i ⌝ }
+    ensures { λ _. ⌜ Stored (now (ks .entry)) (now (starts .entry)) (now (ends .entry)) i k from to (now (ks .exit)) (now (starts .exit)) (now (ends .exit)) ⌝ }
 {
-    if starts[k] == 0 {
-        starts[k] = from;
-        ends[k] = to;
-    }
+    ks[i] = k as u16;
+    starts[i] = from;
+    ends[i] = to;
 }
 
-// The spans of a set's pieces by their places; whether there are n pieces that agree.
-fn collect(s: &[u8], d: bool, id: &[u8], n: usize, starts: &mut [usize], ends: &mut [usize]) -> bool
-    requires { ⌜ Blank (now s) (now starts) (now ends) ⌝ }
-    ensures { λ r. ⌜ CollectIs (now (s .entry)) d (now (id .entry)) n (now (starts .exit)) (now (ends .exit)) r ⌝ }
+// The tables of a set's pieces as they lie; whether there are n pieces that agree.
+fn collect(
+    s: &[u8],
+    d: bool,
+    id: &[u8],
+    n: usize,
+    ks: &mut [u16],
+    starts: &mut [usize],
+    ends: &mut [usize],
+) -> bool
+    requires { ⌜ Ready (now s) n (now ks) (now starts) (now ends) ⌝ }
+    ensures { λ r. ⌜ CollectIs (now (s .entry)) d (now (id .entry)) n (now (ks .exit)) (now (starts .exit)) (now (ends .exit)) r ⌝ }
 {
     let mut m: usize = 0;
     let mut at: usize = 0;
@@ -277,7 +292,7 @@ fn collect(s: &[u8], d: bool, id: &[u8], n: usize, starts: &mut [usize], ends: &
                         if n <= m {
                             return false;
                         }
-                        store(starts, ends, place, e, last);
+                        store(ks, starts, ends, m, place, e, last);
                         m += 1;
                         at = end;
                     }
@@ -287,49 +302,82 @@ fn collect(s: &[u8], d: bool, id: &[u8], n: usize, starts: &mut [usize], ends: &
     }
 }
 
-// Whether the places 1 to n are all taken.
-fn complete(starts: &[usize], n: usize) -> bool
-    requires { ⌜ length (now starts) ≡ 1000 ⌝ }
-    requires { ⌜ n ≤ 999 ⌝ }
-    ensures { λ r. ⌜ r ≡ taken (now (starts .entry)) n 1 ⌝ }
+// Where the rows of a piece lie.
+pub enum Spot {
+    Rows(usize, usize),
+    Nowhere,
+}
+
+// Piece k of n, looked for among the pieces as they lie. The one at the count is looked at once more: the last and none have one count.
+fn find_rows(ks: &[u16], starts: &[usize], ends: &[usize], n: usize, k: usize) -> Spot
+    requires { ⌜ Wanted (now ks) (now starts) (now ends) n k ⌝ }
+    ensures { λ r. ⌜ SpotIs (now (ks .entry)) (now (starts .entry)) (now (ends .entry)) n k r ⌝ }
 {
-    let mut k: usize = 1;
-    while k <= n {
-        if starts[k] == 0 {
-            return false;
-        }
-        k += 1;
+    let wanted = k as u16;
+    let count = search::find_piece(&ks[0..n], wanted);
+    let i = count - 1;
+    if ks[i] != wanted {
+        return Spot::Nowhere;
     }
-    true
+    Spot::Rows(starts[i], ends[i])
 }
 
 pub enum Filled {
     Full(usize),
-    Large,
+    // The buffer cannot hold them.
+    Short,
+    // A k from 1 to n that no piece has.
+    Missing,
 }
 
-// The bytes of the places 1 to n, from an index on.
-fn gather(out: &mut [u8], at: usize, s: &[u8], starts: &[usize], ends: &[usize], n: usize) -> Filled
-    requires { ⌜ FillRoom (now out) at (now s) (now starts) (now ends) n ⌝ }
-    ensures { λ r. ⌜ FillIs (now (out .entry)) (now (out .exit)) at (spans (now (s .entry)) (now (starts .entry)) (now (ends .entry)) n 1) r ⌝ }
+// Bytes from an index on, where the buffer can hold them; the index after them in any case.
+fn put_if_room(out: &mut [u8], at: usize, w: &[u8]) -> usize
+    requires { ⌜ at + length (now w) ≤ 200000000 ⌝ }
+    ensures { λ r. ⌜ PutIs (now (out .entry)) (now (out .exit)) at r (now (w .entry)) ⌝ }
+{
+    let end = at + w.len();
+    if out.len() < end {
+        return end;
+    }
+    buffers::put_all(out, at, w)
+}
+
+// The rows of pieces 1 to n, from an index on. A k that is missing goes before bytes that do not fit, so the search goes on after these.
+fn gather(
+    out: &mut [u8],
+    at: usize,
+    s: &[u8],
+    ks: &[u16],
+    starts: &[usize],
+    ends: &[usize],
+    n: usize,
+) -> Filled
+    requires { ⌜ FillRoom (now out) at (now s) (now ks) (now starts) (now ends) n ⌝ }
+    ensures { λ r. ⌜ FillIs (now (out .entry)) (now (out .exit)) at (now (s .entry)) (now (ks .entry)) (now (starts .entry)) (now (ends .entry)) n r ⌝ }
 {
     let mut o = at;
     let mut k: usize = 1;
     while k <= n {
-        let a = starts[k];
-        let e = ends[k];
-        if out.len() - o < e - a {
-            return Filled::Large;
+        match find_rows(ks, starts, ends, n, k) {
+            Spot::Nowhere => {
+                return Filled::Missing;
+            }
+            Spot::Rows(a, e) => {
+                o = put_if_room(out, o, &s[a..e]);
+            }
         }
-        o = buffers::put_all(out, o, &s[a..e]);
         k += 1;
+    }
+    if out.len() < o {
+        return Filled::Short;
     }
     Filled::Full(o)
 }
 
-// The joined file in a buffer: how many bytes; or a refusal's number and line.
+// The joined file in a buffer: how many bytes; that the buffer cannot hold it; or a refusal's number and line.
 pub enum Made {
     Bytes(usize),
+    Large,
     No(u32, u32),
 }
 
@@ -345,53 +393,89 @@ fn put_head(out: &mut [u8], d: bool) -> usize
 // One piece without a record 911: line 1 of its direction, and its rows.
 fn join_one(s: &[u8], d: bool, from: usize, stop: usize, buf: &mut [u8]) -> Made
     requires { ⌜ Given (now buf) (now s) from stop ⌝ }
-    ensures { λ r. ⌜ MadeIs (ok (headRow d ++ part (now (s .entry)) from stop)) (now (buf .exit)) r ⌝ }
+    ensures { λ r. ⌜ MadeIs (length (now (buf .entry))) (ok (headRow d ++ part (now (s .entry)) from stop)) (now (buf .exit)) r ⌝ }
 {
     let o = put_head(buf, d);
     if buf.len() - o < stop - from {
-        return Made::No(1, 0);
+        return Made::Large;
     }
     let t = buffers::put_all(buf, o, &s[from..stop]);
     Made::Bytes(t)
 }
 
-// A set: line 1, and the rows of its pieces by place.
-fn join_spans(s: &[u8], d: bool, starts: &[usize], ends: &[usize], n: usize, buf: &mut [u8]) -> Made
-    requires { ⌜ GivenSet (now buf) (now s) (now starts) (now ends) n ⌝ }
-    ensures { λ r. ⌜ MadeIs (ok (headRow d ++ spans (now (s .entry)) (now (starts .entry)) (now (ends .entry)) n 1)) (now (buf .exit)) r ⌝ }
+// A set: line 1, and the rows of its pieces by k.
+fn join_found(
+    s: &[u8],
+    d: bool,
+    ks: &[u16],
+    starts: &[usize],
+    ends: &[usize],
+    n: usize,
+    buf: &mut [u8],
+) -> Made
+    requires { ⌜ GivenSet (now buf) (now s) (now ks) (now starts) (now ends) n ⌝ }
+    ensures { λ r. ⌜ SetIs (length (now (buf .entry))) d (now (s .entry)) (now (ks .entry)) (now (starts .entry)) (now (ends .entry)) n (now (buf .exit)) r ⌝ }
 {
     let o = put_head(buf, d);
-    match gather(buf, o, s, starts, ends, n) {
-        Filled::Large => Made::No(1, 0),
+    match gather(buf, o, s, ks, starts, ends, n) {
+        Filled::Missing => Made::No(19, 0),
+        Filled::Short => Made::Large,
         Filled::Full(t) => Made::Bytes(t),
     }
 }
 
-// The pieces as a set like its first, whose record 911 begins at last.
+// The pieces as a set like its first, whose record 911 begins at last, by tables that have room for n pieces.
+fn join_listed(
+    s: &[u8],
+    d: bool,
+    last: usize,
+    n: usize,
+    ks: &mut [u16],
+    starts: &mut [usize],
+    ends: &mut [usize],
+    buf: &mut [u8],
+) -> Made
+    requires { ⌜ FirstIn (now buf) (now s) d last n (now ks) (now starts) (now ends) ⌝ }
+    ensures { λ r. ⌜ SoundIs (length (now (buf .entry))) (now (s .entry)) (orSet (joinParts (allParts (piecesIn (rows (now (s .entry))))))) (now (buf .exit)) r ⌝ }
+{
+    let x = last + 4;
+    let y = last + 18;
+    if !collect(s, d, &s[x..y], n, ks, starts, ends) {
+        return Made::No(19, 0);
+    }
+    join_found(s, d, ks, starts, ends, n, buf)
+}
+
+// The pieces for which the shorter tables have room, so that a small set clears little.
+const FEW: usize = 64;
+
+// "n (2–999, value)"
+const MOST: usize = 999;
+
+// The same with tables of its own.
 fn join_set(s: &[u8], d: bool, last: usize, n: usize, buf: &mut [u8]) -> Made
     requires { ⌜ First (now buf) (now s) d last n ⌝ }
-    ensures { λ r. ⌜ SoundIs (now (s .entry)) (orSet (joinParts (allParts (piecesIn (rows (now (s .entry))))))) (now (buf .exit)) r ⌝ }
+    ensures { λ r. ⌜ SoundIs (length (now (buf .entry))) (now (s .entry)) (orSet (joinParts (allParts (piecesIn (rows (now (s .entry))))))) (now (buf .exit)) r ⌝ }
 {
     if n <= 1 {
         return Made::No(19, 0);
     }
-    let x = last + 4;
-    let y = last + 18;
-    let mut starts = [0usize; 1000];
-    let mut ends = [0usize; 1000];
-    if !collect(s, d, &s[x..y], n, &mut starts, &mut ends) {
-        return Made::No(19, 0);
+    if n <= FEW {
+        let mut ks = [0u16; FEW];
+        let mut starts = [0usize; FEW];
+        let mut ends = [0usize; FEW];
+        return join_listed(s, d, last, n, &mut ks, &mut starts, &mut ends, buf);
     }
-    if !complete(&starts, n) {
-        return Made::No(19, 0);
-    }
-    join_spans(s, d, &starts, &ends, n, buf)
+    let mut ks = [0u16; MOST];
+    let mut starts = [0usize; MOST];
+    let mut ends = [0usize; MOST];
+    join_listed(s, d, last, n, &mut ks, &mut starts, &mut ends, buf)
 }
 
 // The pieces: one without a record 911, or a set.
 fn join_pieces(s: &[u8], buf: &mut [u8]) -> Made
     requires { ⌜ Input (now buf) (now s) ⌝ }
-    ensures { λ r. ⌜ SoundIs (now (s .entry)) (orSet (joinPieces (piecesIn (rows (now (s .entry)))))) (now (buf .exit)) r ⌝ }
+    ensures { λ r. ⌜ SoundIs (length (now (buf .entry))) (now (s .entry)) (orSet (joinPieces (piecesIn (rows (now (s .entry)))))) (now (buf .exit)) r ⌝ }
 {
     match first_piece(s) {
         Next::Over => Made::No(19, 0),
@@ -410,14 +494,15 @@ fn join_pieces(s: &[u8], buf: &mut [u8]) -> Made
 
 // The joined file before it is checked: 1 and 2 on the input, then 19.
 fn join_into(s: &[u8], buf: &mut [u8]) -> Made
-    requires { ⌜ length (now buf) ≡ 65536 ⌝ }
-    ensures { λ r. ⌜ MadeIs (joinedFile (now (s .entry))) (now (buf .exit)) r ⌝ }
+    requires { ⌜ 13 ≤ length (now buf) ⌝ }
+    ensures { λ r. ⌜ MadeIs (length (now (buf .entry))) (joinedFile (now (s .entry))) (now (buf .exit)) r ⌝ }
 {
     if 131072 < s.len() {
         return Made::No(1, 0);
     }
     match join_pieces(s, buf) {
         Made::Bytes(t) => Made::Bytes(t),
+        Made::Large => Made::Large,
         Made::No(number, place) => {
             let line = broken_line(s);
             if line != 0 {
@@ -431,25 +516,44 @@ fn join_into(s: &[u8], buf: &mut [u8]) -> Made
     }
 }
 
-// Pieces in any order to one file. The output is written where the joined file is accepted and fits, and is as it was otherwise.
-pub fn join(pieces: &[u8], out: &mut [u8]) -> Answer
+// The joined file, checked, or the one refusal; file: an array for it, so that a refusal leaves the output as it was. It is as long as the input, which
+// no joined file exceeds, or as the longest file.
+fn join_by(pieces: &[u8], file: &mut [u8], out: &mut [u8]) -> Answer
+    requires { ⌜ Holds (now pieces) (now file) ⌝ }
     ensures { λ r. ⌜ Gives (joinResult (now (pieces .entry))) (now (out .entry)) (now (out .exit)) r ⌝ }
 {
-    let mut buf = [0u8; 65536];
-    match join_into(pieces, &mut buf) {
+    match join_into(pieces, file) {
         Made::No(n, line) => Answer::Refused(n, line),
+        Made::Large => Answer::Refused(1, 0),
         Made::Bytes(t) => {
             let from = 0;
-            match checking::check(&buf[from..t]) {
+            match checking::check(&file[from..t]) {
                 Answer::Refused(n, line) => Answer::Refused(n, line),
                 Answer::Done(_, _, _) => {
                     if out.len() < t {
                         return Answer::Refused(20, 0);
                     }
-                    buffers::put_all(out, 0, &buf[from..t]);
+                    buffers::put_all(out, 0, &file[from..t]);
                     Answer::Done(t as u32, 0, 0)
                 }
             }
         }
     }
+}
+
+// Pieces in any order to one file. The output is written where the joined file is accepted and fits, and is as it was otherwise.
+pub fn join(pieces: &[u8], out: &mut [u8]) -> Answer
+    ensures { λ r. ⌜ Gives (joinResult (now (pieces .entry))) (now (out .entry)) (now (out .exit)) r ⌝ }
+{
+    let len = pieces.len();
+    if len <= buffers::SHORT {
+        let mut file = [0u8; buffers::SHORT];
+        return join_by(pieces, &mut file, out);
+    }
+    if len <= buffers::MIDDLING {
+        let mut file = [0u8; buffers::MIDDLING];
+        return join_by(pieces, &mut file, out);
+    }
+    let mut file = [0u8; buffers::ANY];
+    join_by(pieces, &mut file, out)
 }

@@ -1,7 +1,9 @@
 use borrow.Author.Needs.{needs}
 use Prim.Native.Nat.{_-_}
 use lib.ListN.{length}
-use Rattle.join.proofs.SetLaws.{Collecting, collect-laws}
+use Prim.Native.Nat.{_-_}
+use lib.ListN.{length}
+use Rattle.join.proofs.SetLaws.{Collecting, collect-laws, kept-laws}
 use Rattle.join.proofs.collect.Statement.{statement}
 use Rattle.join.proofs.collect.Tie as tie
 use Rattle.join.proofs.collect.Reads as reads
@@ -11,10 +13,10 @@ use Rattle.join.proofs.read_member.Reads as read-member-reads
 use Rattle.join.proofs.store.Reads as store-reads
 
 abbrev Inv-loop : tie.InvT-loop
-Inv-loop s d id n starts₀ ends₀ m₀ at₀ starts ends m at = Collecting s d id n starts ends m at
+Inv-loop s d id n ks₀ starts₀ ends₀ m₀ at₀ ks starts ends m at = Collecting s d id n ks₀ starts₀ ends₀ ks starts ends m at
 
 abbrev μ-loop : tie.MeasureT-loop
-μ-loop s d id n starts₀ ends₀ m₀ at₀ starts ends m at = length s - at
+μ-loop s d id n ks₀ starts₀ ends₀ m₀ at₀ ks starts ends m at = length s - at
 
 loop-holds : tie.Need-loop-holds Inv-loop μ-loop
 loop-holds c = search (needs, collect-laws)
@@ -26,10 +28,13 @@ enum-told : tie.Need-enum-told Inv-loop μ-loop
 enum-told c = search (needs, collect-laws)
 
 same-length : tie.Need-same-length Inv-loop μ-loop
-same-length c = search (needs, collect-laws)
+same-length c = search (needs, kept-laws)
 
 same-length-2 : tie.Need-same-length-2 Inv-loop μ-loop
-same-length-2 c = search (needs, collect-laws)
+same-length-2 c = search (needs, kept-laws)
+
+same-length-3 : tie.Need-same-length-3 Inv-loop μ-loop
+same-length-3 c = search (needs, kept-laws)
 
 returns : tie.Need-returns Inv-loop μ-loop
 returns c = search (needs, collect-laws)
@@ -37,11 +42,14 @@ returns c = search (needs, collect-laws)
 enum-told-2 : tie.Need-enum-told-2 Inv-loop μ-loop
 enum-told-2 c = search (needs, collect-laws)
 
-same-length-3 : tie.Need-same-length-3 Inv-loop μ-loop
-same-length-3 c = search (needs, collect-laws)
-
 same-length-4 : tie.Need-same-length-4 Inv-loop μ-loop
-same-length-4 c = search (needs, collect-laws)
+same-length-4 c = search (needs, kept-laws)
+
+same-length-5 : tie.Need-same-length-5 Inv-loop μ-loop
+same-length-5 c = search (needs, kept-laws)
+
+same-length-6 : tie.Need-same-length-6 Inv-loop μ-loop
+same-length-6 c = search (needs, kept-laws)
 
 returns-2 : tie.Need-returns-2 Inv-loop μ-loop
 returns-2 c = search (needs, collect-laws)
@@ -55,11 +63,14 @@ read-member-requires c κs = search (needs, collect-laws)
 enum-told-3 : tie.Need-enum-told-3 Inv-loop μ-loop
 enum-told-3 c = search (needs, collect-laws)
 
-same-length-5 : tie.Need-same-length-5 Inv-loop μ-loop
-same-length-5 c = search (needs, collect-laws)
+same-length-7 : tie.Need-same-length-7 Inv-loop μ-loop
+same-length-7 c = search (needs, kept-laws)
 
-same-length-6 : tie.Need-same-length-6 Inv-loop μ-loop
-same-length-6 c = search (needs, collect-laws)
+same-length-8 : tie.Need-same-length-8 Inv-loop μ-loop
+same-length-8 c = search (needs, kept-laws)
+
+same-length-9 : tie.Need-same-length-9 Inv-loop μ-loop
+same-length-9 c = search (needs, kept-laws)
 
 returns-3 : tie.Need-returns-3 Inv-loop μ-loop
 returns-3 c = search (needs, collect-laws)
@@ -67,11 +78,14 @@ returns-3 c = search (needs, collect-laws)
 enum-known-last : tie.Need-enum-known-last Inv-loop μ-loop
 enum-known-last c = search (needs, collect-laws)
 
-same-length-7 : tie.Need-same-length-7 Inv-loop μ-loop
-same-length-7 c = search (needs, collect-laws)
+same-length-10 : tie.Need-same-length-10 Inv-loop μ-loop
+same-length-10 c = search (needs, kept-laws)
 
-same-length-8 : tie.Need-same-length-8 Inv-loop μ-loop
-same-length-8 c = search (needs, collect-laws)
+same-length-11 : tie.Need-same-length-11 Inv-loop μ-loop
+same-length-11 c = search (needs, kept-laws)
+
+same-length-12 : tie.Need-same-length-12 Inv-loop μ-loop
+same-length-12 c = search (needs, kept-laws)
 
 returns-4 : tie.Need-returns-4 Inv-loop μ-loop
 returns-4 c = search (needs, collect-laws)
@@ -99,20 +113,24 @@ collect-spec =
     enum-told
     same-length
     same-length-2
+    same-length-3
     returns
     enum-told-2
-    same-length-3
     same-length-4
+    same-length-5
+    same-length-6
     returns-2
     enum-known-e
     read-member-requires
     enum-told-3
-    same-length-5
-    same-length-6
-    returns-3
-    enum-known-last
     same-length-7
     same-length-8
+    same-length-9
+    returns-3
+    enum-known-last
+    same-length-10
+    same-length-11
+    same-length-12
     returns-4
     store-requires
     add-m

@@ -1,94 +1,62 @@
 use borrow.Author.Needs.{needs}
-use Rattle.join.proofs.JoinLaws.{join-end, join-fits, join-no, join-refused, join-short, join-written}
+use Prim.Native.Nat.{_-_}
+use lib.ListN.{length}
+use Rattle.join.proofs.JoinLaws.{holds-short, holds-any}
 use Rattle.join.proofs.join.Statement.{statement}
 use Rattle.join.proofs.join.Tie as tie
 use Rattle.join.proofs.join.Reads as reads
 use Rattle.join.proofs.join.Lts as lts
-use Rattle.buffers.proofs.put_all.Reads as put-all-reads
-use Rattle.join.proofs.join_into.Reads as join-into-reads
-use Rattle.checking.proofs.check.Reads as check-reads
+use Rattle.join.proofs.join_by.Reads as join-by-reads
 
-slice-aggregate-join-into : tie.Need-slice-aggregate-join-into
-slice-aggregate-join-into c = search needs
+slice-aggregate-join-by : tie.Need-slice-aggregate-join-by
+slice-aggregate-join-by c = search (needs, holds-short, holds-any)
 
-join-into-requires : tie.Need-join-into-requires
-join-into-requires c κs = search needs
-
-enum-known-n : tie.Need-enum-known-n
-enum-known-n c = search needs
-
-enum-known-t : tie.Need-enum-known-t
-enum-known-t c = search needs
-
-sub-check : tie.Need-sub-check
-sub-check c = search needs
-
-part-check-start : tie.Need-part-check-start
-part-check-start c = search needs
-
-part-check-end : tie.Need-part-check-end
-part-check-end c = search join-end
-
-check-requires : tie.Need-check-requires
-check-requires c κs = search needs
-
-enum-known-n-2 : tie.Need-enum-known-n-2
-enum-known-n-2 c = search needs
-
-enum-told : tie.Need-enum-told
-enum-told c = search needs
-
-returns : tie.Need-returns
-returns c = search join-short
-
-sub-put-all : tie.Need-sub-put-all
-sub-put-all c = search needs
-
-part-put-all-start : tie.Need-part-put-all-start
-part-put-all-start c = search needs
-
-part-put-all-end : tie.Need-part-put-all-end
-part-put-all-end c = search join-end
-
-put-all-requires : tie.Need-put-all-requires
-put-all-requires c κs = search needs
-
-cast-t30 : tie.Need-cast-t30
-cast-t30 c = search join-fits
-
-returns-2 : tie.Need-returns-2
-returns-2 c = search join-no
-
-returns-3 : tie.Need-returns-3
-returns-3 c = search join-refused
+join-by-requires : tie.Need-join-by-requires
+join-by-requires c κs = search (needs, holds-short, holds-any)
 
 same-length : tie.Need-same-length
-same-length c = search needs
+same-length c = search (needs, holds-short, holds-any)
 
-returns-4 : tie.Need-returns-4
-returns-4 c = search join-written
+returns : tie.Need-returns
+returns c = search (needs, holds-short, holds-any)
+
+slice-aggregate-join-by-2 : tie.Need-slice-aggregate-join-by-2
+slice-aggregate-join-by-2 c = search (needs, holds-short, holds-any)
+
+join-by-requires-2 : tie.Need-join-by-requires-2
+join-by-requires-2 c κs = search (needs, holds-short, holds-any)
+
+same-length-2 : tie.Need-same-length-2
+same-length-2 c = search (needs, holds-short, holds-any)
+
+returns-2 : tie.Need-returns-2
+returns-2 c = search (needs, holds-short, holds-any)
+
+slice-aggregate-join-by-3 : tie.Need-slice-aggregate-join-by-3
+slice-aggregate-join-by-3 c = search (needs, holds-short, holds-any)
+
+join-by-requires-3 : tie.Need-join-by-requires-3
+join-by-requires-3 c κs = search (needs, holds-short, holds-any)
+
+same-length-3 : tie.Need-same-length-3
+same-length-3 c = search (needs, holds-short, holds-any)
+
+returns-3 : tie.Need-returns-3
+returns-3 c = search (needs, holds-short, holds-any)
 
 pub join-spec : {M : Type 1} → statement M
 join-spec =
     tie.close
     (tie.spec
-    slice-aggregate-join-into
-    join-into-requires
-    enum-known-n
-    enum-known-t
-    sub-check
-    part-check-start
-    part-check-end
-    check-requires
-    enum-known-n-2
-    enum-told
-    returns
-    sub-put-all
-    part-put-all-start
-    part-put-all-end
-    put-all-requires
-    cast-t30
-    returns-2
-    returns-3
+    slice-aggregate-join-by
+    join-by-requires
     same-length
-    returns-4)
+    returns
+    slice-aggregate-join-by-2
+    join-by-requires-2
+    same-length-2
+    returns-2
+    slice-aggregate-join-by-3
+    join-by-requires-3
+    same-length-3
+    returns-3)

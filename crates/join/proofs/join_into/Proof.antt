@@ -1,4 +1,6 @@
 use borrow.Author.Needs.{needs}
+use Prim.Native.Nat.{_-_}
+use lib.ListN.{length}
 use Rattle.join.proofs.JoinLaws.{into-laws}
 use Rattle.join.proofs.join_into.Statement.{statement}
 use Rattle.join.proofs.join_into.Tie as tie
@@ -16,6 +18,9 @@ join-pieces-requires c κs = search (needs, into-laws)
 
 enum-known-t : tie.Need-enum-known-t
 enum-known-t c = search (needs, into-laws)
+
+enum-told : tie.Need-enum-told
+enum-told c = search (needs, into-laws)
 
 enum-known-number : tie.Need-enum-known-number
 enum-known-number c = search (needs, into-laws)
@@ -50,6 +55,12 @@ same-length-4 c = search (needs, into-laws)
 returns-5 : tie.Need-returns-5
 returns-5 c = search (needs, into-laws)
 
+same-length-5 : tie.Need-same-length-5
+same-length-5 c = search (needs, into-laws)
+
+returns-6 : tie.Need-returns-6
+returns-6 c = search (needs, into-laws)
+
 pub join-into-spec : {M : Type 1} → statement M
 join-into-spec =
     tie.close
@@ -57,6 +68,7 @@ join-into-spec =
     returns
     join-pieces-requires
     enum-known-t
+    enum-told
     enum-known-number
     broken-line-requires
     same-length
@@ -67,4 +79,6 @@ join-into-spec =
     same-length-3
     returns-4
     same-length-4
-    returns-5)
+    returns-5
+    same-length-5
+    returns-6)

@@ -1,4 +1,6 @@
 use borrow.Author.Needs.{needs}
+use Prim.Native.Nat.{_-_}
+use lib.ListN.{length}
 use Rattle.join.proofs.JoinLaws.{one-laws}
 use Rattle.join.proofs.join_one.Statement.{statement}
 use Rattle.join.proofs.join_one.Tie as tie

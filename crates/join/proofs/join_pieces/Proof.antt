@@ -1,4 +1,6 @@
 use borrow.Author.Needs.{needs}
+use Prim.Native.Nat.{_-_}
+use lib.ListN.{length}
 use Rattle.join.proofs.JoinLaws.{pieces-laws}
 use Rattle.join.proofs.join_pieces.Statement.{statement}
 use Rattle.join.proofs.join_pieces.Tie as tie
