@@ -1329,6 +1329,270 @@ def two_cuttings(given, no):
            b"".join(first[:k] + first[k + 1 :] + second[k : k + 1]), "no 19 0")
 
 
+def seen_apart(n):
+    """Runs for n pieces of which no two are the same: record 1, then a memo with k each."""
+    return [[ONE]] + [["4,%d,,2" % k] for k in range(2, n + 1)]
+
+
+def whole_of(runs):
+    return to_provider(*itertools.chain(*runs))
+
+
+def both_ways(label, pieces):
+    return [(label, pieces), (label + ", reversed", pieces[::-1])]
+
+
+def few_pieces(given):
+    """Sets: five pieces in all orders, nine with the first and the last at each place."""
+    five = list_of(2, seen_apart(5))
+    for order in itertools.permutations(range(5)):
+        given("looking, order %d%d%d%d%d" % order, b"".join(five[k] for k in order),
+              whole_of(seen_apart(5)))
+    # The piece that is looked for first, and the one that is looked for last, at each place.
+    for k, at in itertools.product((0, 8), range(9)):
+        pieces = list_of(2, seen_apart(9))
+        rest = pieces[:k] + pieces[k + 1 :]
+        for label, others in both_ways("looking, %d of 9 at place %d" % (k + 1, at + 1), rest):
+            given(label, b"".join(others[:at] + [pieces[k]] + others[at:]),
+                  whole_of(seen_apart(9)), in_buffers if at in (0, 8) else accepted)
+
+
+def wrong_sets(no_set):
+    """Two to six pieces with each k twice, missing, too many, out of range and foreign."""
+    for n in range(2, 7):
+        runs = seen_apart(n)
+        pieces, whole = list_of(2, runs), whole_of(runs)
+        # Other pieces with the same k; and pieces of which only the first has a record.
+        others = list_of(2, [["4,other,,2"]] * n)
+        empty = list_of(2, [[ONE]] + [[]] * (n - 1))
+
+        def in_place(label, at, piece, among=pieces):
+            """This piece in place of one of the set: in order, reversed."""
+            changed = among[:at] + [piece] + among[at + 1 :]
+            for name, laid in both_ways("looking, n %d, %s of %d" % (n, label, at + 1), changed):
+                no_set(name, laid, whole)
+
+        def too_many(label, piece):
+            for at in range(n + 1):
+                no_set("looking, n %d and %s at place %d" % (n, label, at + 1),
+                       pieces[:at] + [piece] + pieces[at:], whole)
+
+        # n pieces with one k twice, so that another one is missing.
+        for at, twice in itertools.permutations(range(n), 2):
+            in_place("%d again in place" % (twice + 1), at, pieces[twice])
+            in_place("another %d in place" % (twice + 1), at, others[twice])
+            # Taken for the missing one, it would give the right bytes.
+            in_place("%d without records again in place" % (twice + 1), at, empty[twice], empty)
+        for at in range(n):
+            name = "looking, n %d, none is %d" % (n, at + 1)
+            for label, laid in both_ways(name, pieces[:at] + pieces[at + 1 :]):
+                no_set(label, laid, whole)
+            for k in (0, n + 1, at + 1 + 256, 999):
+                in_place("k %d in place" % k, at, one_piece(2, runs[at], n, k))
+            for label, piece in [
+                ("another ID", one_piece(2, runs[at], n, at + 1, changed_id(13, ord("5")))),
+                ("another direction", one_piece(1, runs[at], n, at + 1)),
+                ("one more as n", one_piece(2, runs[at], n + 1, at + 1)),
+                ("one less as n", one_piece(2, runs[at], n - 1, at + 1)),
+            ]:
+                in_place(label + " in place", at, piece)
+                if n < 5:
+                    too_many("%d with %s" % (at + 1, label), piece)
+            if n < 6:
+                too_many("%d again" % (at + 1), pieces[at])
+                too_many("another %d" % (at + 1), others[at])
+        for k in (0, n + 1):
+            too_many("k %d" % k, one_piece(2, [MEMO], n, k))
+
+
+def spelled_k(given, no_set):
+    """k is a value: 7, 07 and 007 are one."""
+    runs = seen_apart(10)
+    pieces, whole = list_of(2, runs), whole_of(runs)
+    rest = pieces[:6] + pieces[7:]
+    for k, at in itertools.product(("07", "007"), range(10)):
+        seventh = one_piece(2, runs[6], 10, k)
+        given("looking, k %s at place %d" % (k, at + 1),
+              b"".join(rest[:at] + [seventh] + rest[at:]), whole)
+        no_set("looking, 10 pieces and another %s at place %d" % (k, at + 1),
+               pieces[:at] + [seventh] + pieces[at:], whole)
+        if at != 6:
+            no_set("looking, k %s and 7, none is %d" % (k, at + 1),
+                   pieces[:at] + [seventh] + pieces[at + 1 :], whole)
+    for n, first, last in [(9, "01", "9"), (9, "1", "09"), (9, "001", "009"), (10, "001", "010"),
+                           (99, "01", "099"), (99, "001", "99")]:
+        runs = seen_apart(n)
+        pieces = list_of(2, runs)
+        pieces[0], pieces[-1] = one_piece(2, runs[0], n, first), one_piece(2, runs[-1], n, last)
+        for label, laid in both_ways("looking, k %s to %s" % (first, last), pieces):
+            given(label, b"".join(laid), whole_of(runs))
+    for digits in ("%02d", "%03d"):
+        laid = [one_piece(2, run, 10, digits % k) for k, run in enumerate(seen_apart(10), 1)]
+        given("looking, ten pieces reversed, k as %s" % digits, b"".join(laid[::-1]), whole,
+              in_buffers)
+
+
+def jumping(pieces, step):
+    """Every so many-th, modulo their number."""
+    return [pieces[at * step % len(pieces)] for at in range(len(pieces))]
+
+
+def many_pieces(given, no_set):
+    """Counts of pieces around 64 and 256, and 999."""
+    for n in (63, 64, 65, 255, 256, 257):
+        runs = seen_apart(n)
+        pieces, whole, label = list_of(2, runs), whole_of(runs), "looking, %d pieces" % n
+        for name, laid in both_ways(label, pieces) + [(label + ", shuffled", jumping(pieces, 23))]:
+            given(name, b"".join(laid), whole)
+        no_set(label + ", the last is 1 again", pieces[:-1] + pieces[:1], whole)
+        no_set(label + ", the first is the last again", pieces[-1:] + pieces[1:], whole)
+        if n < 255:
+            given(label + ", 1 last", b"".join(pieces[1:] + pieces[:1]), whole)
+            no_set(label + ", one short", pieces[:-1], whole)
+            no_set(label + ", reversed, one short", pieces[:0:-1], whole)
+            no_set(label + " and the last again", pieces + pieces[-1:], whole)
+            no_set(label + " and 1 in front again", pieces[:1] + pieces, whole)
+    # Values of k that are one in a byte.
+    runs = seen_apart(300)
+    pieces, whole = list_of(2, runs), whole_of(runs)
+    for k, twice in [(1, 257), (257, 1), (44, 300), (300, 44)]:
+        no_set("looking, 300 pieces, %d again and no %d" % (twice, k),
+               pieces[: k - 1] + [pieces[twice - 1]] + pieces[k:], whole)
+
+    runs = [[ONE]] + [["4,%03d,,2" % k] for k in range(2, 1000)]
+    pieces, whole = list_of(2, runs), whole_of(runs)
+    for label, laid in [
+        ("reversed", pieces[::-1]), ("shuffled", jumping(pieces, 371)),
+        ("999 first", pieces[-1:] + pieces[:-1]), ("1 last", pieces[1:] + pieces[:1]),
+        ("reversed, then 999", pieces[-2::-1] + pieces[-1:]),
+    ]:
+        given("looking, 999 pieces, " + label, b"".join(laid), whole)
+    for label, laid in [
+        ("the last is 1 again", pieces[:-1] + pieces[:1]),
+        ("the last is 998 again", pieces[:-1] + pieces[-2:-1]),
+        ("the first is 998 again and 999 is none", pieces[-2:-1] + pieces[:-1]),
+        ("the last is 999 again and 1 is none", pieces[1:] + pieces[-1:]),
+        ("reversed, the last is 2 again", pieces[:0:-1] + pieces[1:2]),
+        ("reversed, 500 is 501 again", pieces[:499:-1] + pieces[500:501] + pieces[498::-1]),
+    ]:
+        no_set("looking, 999 pieces, " + label, laid, whole)
+    no_set("looking, 998 pieces of 999, reversed, no 999", pieces[-2::-1], whole)
+    no_set("looking, 998 pieces of 999, no 1", pieces[1:], whole)
+    no_set("looking, 1000 pieces of 999, 999 again in front", pieces[-1:] + pieces, whole)
+
+
+def memos_of(size, letter="x"):
+    """Records 4 of so many bytes in all, at least 8; their line ends count."""
+    while size:
+        one = size if size <= 407 else min(407, size - 8)
+        yield "4," + letter * (one - 7) + ",,2"
+        size -= one
+
+
+def three_runs(size):
+    """Runs of so many bytes of records: record 1, and two that are about as long."""
+    half = (size - 22) // 2
+    return [[ONE], list(memos_of(half, "y")), list(memos_of(size - 22 - half, "z"))]
+
+
+def large_pieces(given, no, no_set):
+    """19 for a missing k before 1 for the joined file; the joined file at its limit."""
+    for where, at in (("first", 0), ("last", 2)):
+        # Line 1, record 1, a short record, and the rest in one piece.
+        runs = [[ONE], [MEMO], []]
+        runs[at] += memos_of(65537 - 13 - 22 - 8)
+        pieces = list_of(2, runs)
+        label = "looking, joined file of 65537 bytes, the large piece %s" % where
+        for name, laid in both_ways(label, pieces):
+            no(name, b"".join(laid), "no 1 0", room=100)
+        no_set(label + ", 2 is none", [pieces[0], pieces[2]], b"")
+        no_set(label + ", 2 again and not the other", [pieces[at], pieces[1], pieces[1]], b"")
+        runs[at][-1] = runs[at][-1].replace("xx", "x", 1)
+        given("looking, joined file of 65536 bytes, the large piece %s" % where,
+              b"".join(list_of(2, runs)[::-1]), whole_of(runs))
+    runs = three_runs(65536 - 13)
+    laid = b"".join(jumping(list_of(2, runs), 2))
+    accepted("join", "looking, joined file of 65536 bytes, exactly", laid, "65536",
+             whole_of(runs), spare=0)
+    no("looking, joined file of 65536 bytes, one short", laid, "no 20 0", room=65535)
+
+    # The large pieces are found, and another one is looked for in vain.
+    y, z = (list(memos_of(33000, letter)) for letter in "yz")
+    for k, ks in [(3, (1, 2, 2)), (2, (3, 1, 3)), (1, (2, 3, 3))]:
+        no_set("looking, two large pieces and no %d" % k,
+               [one_piece(2, run, 3, k) for run, k in zip([[ONE] + y, z, [MEMO]], ks)], b"")
+    no_set("looking, a large piece twice", [one_piece(2, y, 2, 1)] * 2, b"")
+
+
+def faults_by_k(given, no):
+    """Faults of the joined file by k, whichever way its pieces lie: in another order the
+    same records are a file."""
+    group = [PATIENT, DATE]
+    for label, runs, answer in [
+        ("13", [[PATIENT], [DATE], [MEMO]], "no 13 4"),
+        ("14", [group + [DOCTOR], [drug()], [DOCTOR]], "no 14 7"),
+        ("15", [group, [drug(2)], [drug(1)]], "no 15 4"),
+        ("16", [[PATIENT], ["5,20160410,1"], [DATE]], "no 16 4"),
+        ("11", [[PATIENT, MEMO], ["4,x,7,2"], ["4,x,8,2"]], "no 11 4"),
+    ]:
+        enough = len(whole_of(runs))
+        for order in itertools.permutations(range(3)):
+            content = b"".join(list_of(2, runs)[k] for k in order)
+            for room in (0, enough - 1, enough, enough + 5):
+                no("looking, %s by k, order %d%d%d, room %d" % (label, *order, room), content,
+                   answer, room=room)
+    good = [group, [drug(1)], [drug(2)]]
+    for order in itertools.permutations(range(3)):
+        given("looking, RPs by k, order %d%d%d" % order,
+              b"".join(list_of(2, good)[k] for k in order), whole_of(good), in_buffers)
+
+
+def lengths_around(given, no, no_set):
+    """Inputs and joined files of 2,048 and 16,384 bytes, one less and one more."""
+    for size in (2047, 2048, 2049, 16383, 16384, 16385):
+        label = "looking, %d bytes" % size
+        for end in (b"", b"\x1a"):
+            content = to_provider(ONE, *memos_of(size - 35 - len(end)))
+            name = label + " in one piece" + (" with 1A" if end else "")
+            given(name, content + end, content)
+            # The pieces without records are 37 bytes each.
+            runs = three_runs(size - 3 * 37 - 3 * len(end))
+            pieces = [piece + end for piece in list_of(2, runs)]
+            name = label + " in three pieces" + (" with 1A" if end else "")
+            assert len(b"".join(pieces)) == size == len(content + end)
+            given(name, b"".join(pieces[::-1]), whole_of(runs))
+        no_set(label + " in three pieces, 3 again", [pieces[2], pieces[0], pieces[2]], b"")
+        runs = three_runs(size - 13)
+        laid = b"".join(jumping(list_of(2, runs), 2))
+        assert len(whole_of(runs)) == size
+        given(label + " once joined", laid, whole_of(runs),
+              in_buffers if size < 3000 else accepted)
+        if size == 16384:
+            no(label + " once joined, one short", laid, "no 20 0", room=size - 1)
+        # The last line of the file, in the piece that lies second.
+        no(label + " and 11 in the last line", laid.replace(b"z,,2\r\n911", b"z,,7\r\n911"),
+           "no 11 %d" % whole_of(runs).count(b"\n"), room=size)
+
+
+def looking_for_pieces(given, no):
+    """02 (iv): "Answers are as today, for every order in which the pieces lie"."""
+    rooms = itertools.cycle((5, 0, -1, None))
+
+    def no_set(label, pieces, whole):
+        """19, with a buffer that is by turns longer than the file, as long, one short, none."""
+        more = next(rooms)
+        no(label, b"".join(pieces), "no 19 0",
+           room=0 if more is None else max(0, len(whole) + more))
+
+    few_pieces(given)
+    wrong_sets(no_set)
+    spelled_k(given, no_set)
+    many_pieces(given, no_set)
+    large_pieces(given, no, no_set)
+    faults_by_k(given, no)
+    lengths_around(given, no, no_set)
+
+
 def join():
     def given(label, content, result, each=accepted):
         each("join", label, content, "%d" % len(result), result)
@@ -1625,6 +1889,7 @@ def join():
 
     two_cuttings(given, no)
     kana_in_pieces(given, no)
+    looking_for_pieces(given, no)
 
     # 999 pieces; each but one without a record.
     def many(n, count):
