@@ -9,6 +9,7 @@ use crate::library::{replies, Reply, Told};
 use crate::ordinary::{self, ENTRY_NUMBERS};
 use crate::random::Random;
 use crate::runs::Runs;
+use crate::sets::{searched_input, Sets};
 use crate::trial::{self, Difference, Filling};
 use std::collections::{BTreeMap, BTreeSet};
 use std::fmt::Write;
@@ -42,6 +43,7 @@ pub struct Comparison {
     clinics: Clinics,
     runs: Runs,
     mixtures: Mixtures,
+    sets: Sets,
     differences: u64,
     /// The first differences in words, with the whole inputs.
     pub shown: Vec<String>,
@@ -72,6 +74,7 @@ impl Comparison {
             clinics: Clinics::default(),
             runs: Runs::default(),
             mixtures: Mixtures::default(),
+            sets: Sets::default(),
             differences: 0,
             shown: Vec::new(),
             files: Damage::default(),
@@ -98,6 +101,10 @@ impl Comparison {
         if index.is_multiple_of(ONE_IN_MIXED) {
             let two = TwoCuttings::new(self.seed, index, &self.files);
             self.mix(&two);
+        }
+        if index % ONE_IN_SEARCHED == 1 {
+            let mut random = Random::of(self.seed ^ 0x4B, index);
+            self.join(&searched_input(self.seed, index), &mut random);
         }
     }
 
@@ -146,11 +153,14 @@ impl Comparison {
         );
 
         self.cut(cut, &mut random);
+        self.join(pieces, &mut random);
+    }
 
+    fn join(&mut self, pieces: &[u8], random: &mut Random) {
         let answer = ordinary::join(pieces, &mut self.large);
         let needed = answer.ok().map(|bytes| bytes as usize);
         self.call(
-            (4, &mut random, needed),
+            (4, random, needed),
             &[pieces],
             |out: &mut [u8]| ordinary::join(pieces, out).reply(),
             |out: &mut [u8]| replies::join(pieces, out),
@@ -254,6 +264,7 @@ impl Comparison {
         for (fault, count) in Fault::ALL.into_iter().zip(&mut self.faults) {
             *count += u64::from(found.contains(&fault) && alone(fault));
         }
+        self.sets.count(pieces, &found, ours.refusal);
     }
 
     fn tell(&mut self, call: &str, input: &[&[u8]], difference: &Difference) {
@@ -273,7 +284,8 @@ impl Comparison {
     }
 
     /// What has not occurred though it can: refusals of a call, reasons for 19, spellings of days, kana names near the rule,
-    /// records and groups with and without a clinic, runs of used IDs near the rule, and mixtures of two cuttings.
+    /// records and groups with and without a clinic, runs of used IDs near the rule, mixtures of two cuttings, and pieces for
+    /// the search of piece k.
     pub fn missing(&self) -> Vec<String> {
         let mut missing = Vec::new();
         for tally in &self.tallies {
@@ -287,11 +299,12 @@ impl Comparison {
         missing.extend(self.clinics.missing());
         missing.extend(self.runs.missing());
         missing.extend(self.mixtures.missing());
+        missing.extend(self.sets.missing());
         missing
     }
 
-    /// Tables of refusals by call, of the reasons for 19, of days by letter, of kana names, of clinics, of runs of used IDs and
-    /// of mixtures, and the last line: inputs and differences.
+    /// Tables of refusals by call, of the reasons for 19, of pieces for the search, of days by letter, of kana names, of clinics,
+    /// of runs of used IDs and of mixtures, and the last line: inputs and differences.
     pub fn summary(&self) -> String {
         let names: String = self.tallies.iter().map(|tally| format!("{:>10}", tally.call)).collect();
         let mut text = format!("{:<10}{names}\n", "");
@@ -304,6 +317,7 @@ impl Comparison {
         for (fault, count) in Fault::ALL.iter().zip(self.faults) {
             let _ = writeln!(text, "19 by {:<14}{count:>10}", format!("{fault:?}"));
         }
+        text += &self.sets.summary();
         for (letter, [kept, changed]) in ('A'..='Z').zip(self.days.0).filter(|(_, counts)| *counts != [0; 2]) {
             let _ = writeln!(text, "days under {letter} {kept:>17}, and {changed} that are written under another letter");
         }
@@ -421,8 +435,9 @@ impl Clinics {
     }
 }
 
-/// One in so many inputs is followed by a mixture of two cuttings.
+/// One in so many inputs is followed by a mixture of two cuttings, and one in so many by pieces for the search of piece k.
 const ONE_IN_MIXED: u64 = 16;
+const ONE_IN_SEARCHED: u64 = 8;
 
 /// How often pieces of two cuttings were mixed: by whether one ID would let them join, and with one that is a single piece.
 #[derive(Default)]
@@ -476,8 +491,8 @@ mod tests {
     /// The gate's bounded comparison. Every refusal that a call can give, every reason for 19 and every era's letter must occur,
     /// and one that is read after its era's end must occur there; so must kana names of each script, and such that 11 refuses
     /// for each two sorts of characters that do not go together, every record of a group with and without a clinic, groups with
-    /// and without one after each other, every kind of run near the rule of 24, and mixtures of two cuttings: a comparison that
-    /// misses one shows nothing of it.
+    /// and without one after each other, every kind of run near the rule of 24, mixtures of two cuttings, and pieces in every
+    /// sort of order with a k again, missing and out of range: a comparison that misses one shows nothing of it.
     #[test]
     fn the_library_and_the_ordinary_implementation_answer_alike() {
         let mut comparison = Comparison::new(SEED);
@@ -562,6 +577,11 @@ mod tests {
             "check: kana name refused of hiragana and row 3: none",
             "check: kana name refused of katakana and row 6: none",
             "check: kana name refused of one-byte and 815Bh: none",
+            "join: up to 9 pieces joined otherwise: none",
+            "join: 19 by a k again for another last: none",
+            "join: 19 by a k again beside all last: none",
+            "join: 19 by a k again in another spelling: none",
+            "join: 19 by no piece n: none",
         ] {
             assert!(!missing.contains(wanted), "the corpus: {wanted}");
         }

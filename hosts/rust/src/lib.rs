@@ -1,6 +1,6 @@
 //! The gateway's ordinary-Rust side: `ordinary` has the five calls by document 01 without any proof, `sample` makes files,
 //! `damage` spoils them, `calendar` spells their days and `kana` their kana names, `division` has inputs for cutting and
-//! joining, `runs` their runs of used IDs, `library` has the replies of the proved static library, `comparison` compares the
+//! joining, `runs` their runs of used IDs, `sets` pieces for the search of piece k, `library` has the replies of the proved static library, `comparison` compares the
 //! two, `timing` measures. The programs `bench` and `compare` use all of them.
 
 #![forbid(unsafe_code)]
@@ -18,5 +18,6 @@ pub mod ordinary;
 pub mod random;
 pub mod runs;
 pub mod sample;
+pub mod sets;
 pub mod timing;
 pub mod trial;

@@ -4,8 +4,8 @@
 //! `label: ok R G D` or `label: no N L` for each frame of check; it passes over those of other calls.
 //! `compare --against-library SEED COUNT` gives inputs near every rule to both, in every call, and prints the first
 //! differences. A run of 20,000 inputs or more fails too if a call has not given a refusal that it can give, or a reason for
-//! 19, a spelling of days, a kana name near the rule, a record or group with or without a clinic, a kind of run of used IDs
-//! or a mixture of two cuttings has not occurred.
+//! 19, a spelling of days, a kana name near the rule, a record or group with or without a clinic, a kind of run of used IDs,
+//! a mixture of two cuttings or a sort of pieces for the search of piece k has not occurred.
 //! `compare --minutes SEED MINUTES` is the same for so many minutes. Both tell their progress on standard error.
 //! `compare --seeds FOLDER` writes short inputs into a folder, for `fuzz/run` to begin with.
 //! `compare --frames SEED COUNT` writes the files of such a run as frames of check to standard output.
