@@ -52,7 +52,7 @@ pub struct Row {
 }
 
 impl Row {
-    pub const HEAD: &str = "call         bytes  code         minimum us   median us  ns/byte";
+    pub const HEAD: &str = "call                 bytes  code         minimum us   median us  ns/byte";
 
     pub fn new(call: &str, bytes: usize, code: &str, times: Times) -> Self {
         Row { call: call.to_string(), bytes, code: code.to_string(), times }
@@ -65,7 +65,7 @@ impl Row {
 
     pub fn line(&self) -> String {
         let Row { call, bytes, code, times: Times { minimum, median } } = self;
-        format!("{call:<9}  {bytes:>7}  {code:<11}  {minimum:>10.3}  {median:>10.3}  {:>7.2}", self.per_byte())
+        format!("{call:<17}  {bytes:>7}  {code:<11}  {minimum:>10.3}  {median:>10.3}  {:>7.2}", self.per_byte())
     }
 
     /// The row that a line shows; nothing for the head. What stands after the median follows from the rest.

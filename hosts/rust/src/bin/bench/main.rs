@@ -106,7 +106,7 @@ fn measure_calls(newest: Day, wanted: &[&str]) -> Result<(), String> {
             ),
             _ => compare(
                 call,
-                &shuffled(cut_pieces(&fine(), FINE_CAPACITY)),
+                &laid(call, cut_pieces(&fine(), FINE_CAPACITY)),
                 65_536,
                 |input, out: &mut [u8]| ordinary::join(input, out).reply(),
                 replies::join,
@@ -147,7 +147,7 @@ fn measure_calls(newest: Day, wanted: &[&str]) -> Result<(), String> {
                 ),
                 _ => compare(
                     call,
-                    &last_piece_first(&file),
+                    &reversed(cut_pieces(&file, CAPACITY)),
                     65_536,
                     |input, out: &mut [u8]| ordinary::join(input, out).reply(),
                     replies::join,
@@ -191,16 +191,24 @@ fn cut_pieces(file: &[u8], capacity: u64) -> Vec<Vec<u8>> {
     pieces_of(&out[..cut.bytes as usize])
 }
 
-/// The pieces of a file from the last to the first.
-fn last_piece_first(file: &[u8]) -> Vec<u8> {
-    let mut pieces = cut_pieces(file, CAPACITY);
+/// The 999 pieces in the order that the row's name says: a search for piece k goes by how they lie.
+fn laid(call: &str, pieces: Vec<Vec<u8>>) -> Vec<u8> {
+    assert_eq!(pieces.len(), 999, "the file makes 999 pieces");
+    match call {
+        "join-999-in-order" => pieces.concat(),
+        "join-999-reversed" => reversed(pieces),
+        _ => shuffled(&pieces),
+    }
+}
+
+/// From the last piece to the first.
+fn reversed(mut pieces: Vec<Vec<u8>>) -> Vec<u8> {
     pieces.reverse();
     pieces.concat()
 }
 
 /// The pieces in an order that jumps about: every 371st, modulo their number, which has no factor in common with it.
-fn shuffled(pieces: Vec<Vec<u8>>) -> Vec<u8> {
-    assert_eq!(pieces.len(), 999, "the file makes 999 pieces");
+fn shuffled(pieces: &[Vec<u8>]) -> Vec<u8> {
     (0..pieces.len()).flat_map(|k| pieces[k * 371 % pieces.len()].iter().copied()).collect()
 }
 

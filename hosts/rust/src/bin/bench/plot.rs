@@ -108,7 +108,7 @@ type Mark = fn(f64, f64, &str) -> String;
 
 /// What is measured at one length, by what its name has after the call's: its mark, and what the legend says of it.
 const MARKS: [(&str, Mark, &str); 2] = [
-    ("-999", diamond, "cut into, or joined from, 999 pieces"),
+    ("-999", diamond, "cut into 999 pieces, or joined out of order"),
     ("-used", square, "cut with 1.4 MB of used IDs, beyond the axis"),
 ];
 

@@ -5,19 +5,26 @@ use std::fmt::Write;
 
 pub const CALLS: [&str; 5] = ["check", "index", "canonical", "cut", "join"];
 
-/// Measured at one length: the calls on files for 999 pieces, cut with a run of 100,000 used IDs, and check with a kana name of
-/// the most characters. The bytes of the run and of the file are counted together.
-pub const OF_ONE_LENGTH: [&str; 4] = ["cut-999", "join-999", "cut-used", "check-kana"];
+/// Measured at one length: the calls on files for 999 pieces, which lie out of order for `join-999`, cut with a run of 100,000
+/// used IDs, and check with a kana name of the most characters. The bytes of the run and of the file are counted together.
+pub const OF_ONE_LENGTH: [&str; 6] =
+    ["cut-999", "join-999", "join-999-in-order", "join-999-reversed", "cut-used", "check-kana"];
 
-/// The greatest ratio that is asked of a call, as docs/BENCHMARKS.md says.
-const BOUNDS: [(&str, f64); 9] = [
+/// The greatest ratio that is asked of a call at its least length, as docs/BENCHMARKS.md says.
+const LEAST_LENGTH_BOUNDS: [(&str, f64); 1] = [("join", 1.3)];
+
+/// The same at its greatest length. With 999 pieces joining looks 499,500 times for them, however they lie; the ordinary one
+/// goes by place.
+const BOUNDS: [(&str, f64); 11] = [
     ("check", 2.0),
     ("index", 1.1),
     ("canonical", 1.2),
     ("cut", 2.0),
     ("join", 2.0),
     ("cut-999", 2.0),
-    ("join-999", 2.0),
+    ("join-999", 3.5),
+    ("join-999-in-order", 3.5),
+    ("join-999-reversed", 3.5),
     ("cut-used", 1.2),
     ("check-kana", 2.0),
 ];
@@ -117,17 +124,29 @@ fn power(rows: &[Row]) -> f64 {
 fn bounds(rows: &[Row]) -> String {
     let mut lines = Vec::new();
     for call in CALLS.into_iter().chain(OF_ONE_LENGTH) {
-        let Some(pair) = pairs(rows, call).pop() else { continue };
-        let ratio = pair.ratio();
-        let mut line = format!("| {call} | {ratio:.2} | ");
-        let _ = match BOUNDS.iter().find(|(name, _)| *name == call) {
-            None => writeln!(line, "none |"),
-            Some((_, bound)) if ratio <= *bound => writeln!(line, "{bound:.1}: met |"),
-            Some((_, bound)) => writeln!(line, "{bound:.1}: not met |"),
-        };
-        lines.push(line);
+        let of_call = |bounds: &[(&str, f64)]| bounds.iter().find(|(name, _)| *name == call).map(|(_, bound)| *bound);
+        let pairs = pairs(rows, call);
+        if let (Some(bound), [least, _, ..]) = (of_call(&LEAST_LENGTH_BOUNDS), &pairs[..]) {
+            lines.push(bound_line(least, Some(bound)));
+        }
+        lines.extend(pairs.last().map(|greatest| bound_line(greatest, of_call(&BOUNDS))));
     }
-    table("Where that stands at the greatest length:", "| call | ratio of medians | bound |", &lines)
+    table(
+        "Where that stands at the greatest length, and for join at the least:",
+        "| call | bytes | ratio of medians | bound |",
+        &lines,
+    )
+}
+
+fn bound_line(pair: &Pair, bound: Option<f64>) -> String {
+    let ratio = pair.ratio();
+    let mut line = format!("| {} | {} | {ratio:.2} | ", pair.library.call, pair.bytes());
+    let _ = match bound {
+        None => writeln!(line, "none |"),
+        Some(bound) if ratio <= bound => writeln!(line, "{bound:.1}: met |"),
+        Some(bound) => writeln!(line, "{bound:.1}: not met |"),
+    };
+    line
 }
 
 /// The time of index less that of check on the same file: every index has a check in it.
@@ -195,12 +214,22 @@ mod tests {
         let once = renewed(&document, "today, here", "plot.svg", &rows).expect("it has the marks");
         assert!(once.starts_with("before\n") && once.ends_with("after\n") && !once.contains("old"));
         assert!(once.contains("| check | 1000 | 1.00 | 1.50 | 1.50 | 1.50 | 1.00 | 1.50 |\n"));
-        assert!(once.contains("| check | 1.50 | 2.0: met |\n"));
+        assert!(once.contains("| check | 1000 | 1.50 | 2.0: met |\n"));
         assert!(once.contains("| cut-used | 1400799 | 100.00 | 125.00 | 1.25 |"));
-        assert!(once.contains("| cut-used | 1.25 | 1.2: not met |\n"));
+        assert!(once.contains("| cut-used | 1400799 | 1.25 | 1.2: not met |\n"));
         assert!(!once.contains("What index adds"));
         assert_eq!(renewed(&once, "today, here", "plot.svg", &rows).as_ref(), Ok(&once));
         assert!(renewed("no marks\n", "", "", &rows).is_err());
+    }
+
+    #[test]
+    fn join_has_a_bound_at_its_least_length_too() {
+        let at =
+            |bytes: usize, ratio: f64| [row("join", bytes, "ordinary", 2.0), row("join", bytes, "library", 2.0 * ratio)];
+        let rows = [at(900, 1.35), at(4_000, 2.5), at(60_000, 1.75)].concat();
+        assert!(bounds(&rows).ends_with("|\n| join | 900 | 1.35 | 1.3: not met |\n| join | 60000 | 1.75 | 2.0: met |\n"));
+        // One length alone may be any: its bound is the one for the greatest.
+        assert!(bounds(&rows[..2]).ends_with("|---|\n| join | 900 | 1.35 | 2.0: met |\n"));
     }
 
     #[test]
@@ -218,7 +247,7 @@ mod tests {
         assert!(added(&rows).ends_with(
             "| bytes | ordinary, us | library, us |\n|---|---|---|\n| 1000 | 0.25 | 1.50 |\n| 4000 | 0.50 | 4.00 |\n"
         ));
-        assert!(bounds(&rows).contains("| index | 2.67 | 1.1: not met |\n"));
+        assert!(bounds(&rows).contains("| index | 4000 | 2.67 | 1.1: not met |\n"));
         // An index without a check on the same file tells nothing.
         assert_eq!(added(&rows[2..4]), "");
     }
