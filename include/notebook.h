@@ -31,8 +31,8 @@ extern "C" {
  * than is said here. The entries of an index grew with 0.4.0, and cut takes the used IDs from 0.5.0 on; from
  * 0.6.0 on the kana name of record 1 has to be in one script.
  */
-#define NOTEBOOK_VERSION_STRING "0.6.0"
-#define NOTEBOOK_VERSION_NUMBER 600
+#define NOTEBOOK_VERSION_STRING "0.6.1"
+#define NOTEBOOK_VERSION_NUMBER 601
 
 /* Limits. */
 enum {

@@ -55,14 +55,14 @@ looks-count k ks = go (first-or-none k ks)
   where
     go : ((p : ℕ) × FirstLies k ks p × (looks k ks ≡ p)) ⊎ (Nowhere k ks × (looks k ks ≡ length ks)) → CountIs k ks (looks k ks)
     go (inl (p, v, q)) = record { found = λ r w. q ∙ omega (arith, v .first r (w .lies), w .first p (v .lies)); none = λ h. absurd (h p (v .lies)) }
-    go (inr (h, q)) = record { found = λ r w. absurd (h r (w .lies)); none = λ _. q }
+    go (inr (h, q)) = record { found = λ r w. absurd (h r (w .lies)); none = λ _. omega (arith, q) }
 
 pub count-looks : {k : ℕ} {ks : List ℕ} {c : ℕ} → CountIs k ks c → c ≡ looks k ks
 count-looks {k} {ks} {c} v = go (first-or-none k ks)
   where
     go : ((p : ℕ) × FirstLies k ks p × (looks k ks ≡ p)) ⊎ (Nowhere k ks × (looks k ks ≡ length ks)) → c ≡ looks k ks
-    go (inl (p, w, q)) = v .found p w ∙ sym q
-    go (inr (h, q)) = v .none h ∙ sym q
+    go (inl (p, w, q)) = omega (arith, v .found p w, q)
+    go (inr (h, q)) = omega (arith, v .none h, q)
 
 -- ---- the loop: i pieces have been looked at, and none of them is k
 

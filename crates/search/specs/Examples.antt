@@ -8,25 +8,25 @@ pub record Search : Type 0 where
   pub ks : List ℕ
   pub count : ℕ
 
-abbrev at : ℕ → List ℕ → ℕ → Search
-at k ks c = record { wanted = k; ks = ks; count = c }
+abbrev pub search : ℕ → List ℕ → ℕ → Search
+search k ks c = record { wanted = k; ks = ks; count = c }
 
 abbrev pub searches : List Search
 searches =
     -- the first, the second, the last
-    at 3 (3 ∷ 1 ∷ 2 ∷ []) 1
-    ∷ at 1 (3 ∷ 1 ∷ 2 ∷ []) 2
-    ∷ at 2 (3 ∷ 1 ∷ 2 ∷ []) 3
+    search 3 (3 ∷ 1 ∷ 2 ∷ []) 1
+    ∷ search 1 (3 ∷ 1 ∷ 2 ∷ []) 2
+    ∷ search 2 (3 ∷ 1 ∷ 2 ∷ []) 3
     -- none is k: the number of pieces
-    ∷ at 4 (3 ∷ 1 ∷ 2 ∷ []) 3
-    ∷ at 0 (3 ∷ 1 ∷ 2 ∷ []) 3
-    ∷ at 7 (8 ∷ []) 1
-    ∷ at 7 [] 0
+    ∷ search 4 (3 ∷ 1 ∷ 2 ∷ []) 3
+    ∷ search 0 (3 ∷ 1 ∷ 2 ∷ []) 3
+    ∷ search 7 (8 ∷ []) 1
+    ∷ search 7 [] 0
     -- twice: the first of the two
-    ∷ at 2 (1 ∷ 2 ∷ 2 ∷ []) 2
-    ∷ at 2 (2 ∷ 1 ∷ 2 ∷ []) 1
+    ∷ search 2 (1 ∷ 2 ∷ 2 ∷ []) 2
+    ∷ search 2 (2 ∷ 1 ∷ 2 ∷ []) 1
     -- the only one
-    ∷ at 7 (7 ∷ []) 1
+    ∷ search 7 (7 ∷ []) 1
     -- equal in their last byte
-    ∷ at 1 (257 ∷ 513 ∷ 1 ∷ []) 3
+    ∷ search 1 (257 ∷ 513 ∷ 1 ∷ []) 3
     ∷ []

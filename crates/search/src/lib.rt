@@ -15,5 +15,5 @@ pub fn find_piece(ks: &[u16], k: u16) -> usize
             return count;
         }
     }
-    count
+    count // none is k
 }

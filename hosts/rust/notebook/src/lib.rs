@@ -277,7 +277,7 @@ pub fn join_into(pieces: &[u8], out: &mut [u8]) -> Result<usize, Refusal> {
     written(raw::join(pieces, out))
 }
 
-/// The version of the library that is linked, as 10,000 times the major, 100 times the minor, and the patch: 600 is 0.6.0.
+/// The version of the library that is linked, as 10,000 times the major, 100 times the minor, and the patch: 601 is 0.6.1.
 #[inline]
 pub fn version() -> u64 {
     raw::version()
