@@ -34,13 +34,14 @@ use Rattle.join.specs.declared.Lines.{Lines}
 use Rattle.join.specs.declared.Lines.the-variants.{Plain, Marked, Wrong}
 use Rattle.join.specs.declared.Filled.{Filled}
 use Rattle.join.specs.declared.Filled.the-variants.{Full, Short, Missing}
+use Rattle.join.specs.declared.Lead.{Lead}
 use Rattle.join.specs.declared.Made.{Made}
 use Rattle.join.specs.declared.Made.the-variants.{Bytes, Large, No}
 use Rattle.division.specs.Join.{unmarked, Part, partOf, partWith, allParts, agree, gather, onePiece, joinParts, joinPieces, orSet, joinSplit, joinedFile, checkedFile, thenChecked, joinFile, joinResult}
-use Rattle.join.specs.Spans.{unbroken, sound, Opened, Ended, NextMeans, NextIs, OpenedFirst, FirstMeans, FirstIs, PlainLines, partBy, identAt, MarkedLines, WrongLines, LinesMean, LinesAre, like, isSet, Listed, Ready, Collected, CollectMeans, CollectIs, FillMeans, FillIs, FillRoom, MadeMeans, MadeIs, withHead, SetIs, SoundMeans, SoundIs, Given, GivenSet, First, FirstIn, Input, Holds}
+use Rattle.join.specs.Spans.{unbroken, sound, Opened, Ended, NextMeans, NextIs, OpenedFirst, FirstMeans, FirstIs, PlainLines, partBy, identAt, MarkedLines, WrongLines, LinesMean, LinesAre, like, isSet, Free, Stored, Listed, Begun, Collected, CollectMeans, CollectIs, FillMeans, FillIs, FillRoom, MadeMeans, MadeIs, withHead, SetIs, SoundMeans, SoundIs, Given, GivenSet, leadPart, First, FirstIn, Input, Holds}
 use Rattle.lists.proofs.Parts.{part-length}
 use Rattle.join.proofs.SoundLaws.{sound-line, line-sound}
-use Rattle.join.proofs.SetLaws.{agree-self}
+use Rattle.join.proofs.SetLaws.{agree-self, Tables, tables-store}
 
 -- ---- line 1
 
@@ -129,33 +130,36 @@ like-same p [] = refl
 like-same p (q ∷ ps) =
     ap (λ (t : Bool). (Bool·beq (p .provider) (q .provider) && (same (p .mark .ident) (q .mark .ident) && eqb (p .mark .count) (q .mark .count))) && t) (like-same p ps)
 
-abbrev firstOf : {D s : List ℕ} {d : Bool} {last n : ℕ} → First D s d last n → Part
-firstOf {D} {s} {d} {last} {n} g = partBy d (identAt s last) n (g .place) (g .lines)
+module _ {D s : List ℕ} {d : Bool} {x : Lead} (g : First D s d x) where
+  abbrev firstOf : Part
+  firstOf = leadPart s d x (g .lines)
 
-module _ {D s : List ℕ} {d : Bool} {last n : ℕ} (g : First D s d last n) where
+  abbrev others : Option (List Part)
+  others = allParts (piecesIn (rows (drop (x .stop) s)))
+
   abbrev test : List Part → Bool
-  test ps = agree (like d (identAt s last) n) ps && (leb 2 n && eqb (suc (length ps)) n)
+  test ps = agree (like d (identAt s (x .last)) (x .n)) ps && (leb 2 (x .n) && eqb (suc (length ps)) (x .n))
 
-  by-test : (o : Option (List Part)) (ps : List Part) → o ≡ some ps → joinParts (partWith (some (firstOf g)) o)
-      ≡ cond (test ps) (onePiece d (gather (firstOf g ∷ ps) n 1)) none
+  by-test : (o : Option (List Part)) (ps : List Part) → o ≡ some ps → joinParts (partWith (some firstOf) o)
+      ≡ cond (test ps) (onePiece d (gather (firstOf ∷ ps) (x .n) 1)) none
   by-test o ps e =
-      ap (λ (x : Option (List Part)). joinParts (partWith (some (firstOf g)) x)) e
-      ∙ ap (λ (t : Bool). cond (t && (leb 2 n && eqb (suc (length ps)) n)) (onePiece d (gather (firstOf g ∷ ps) n 1)) none)
-      (like-same (firstOf g) ps)
+      ap (λ (y : Option (List Part)). joinParts (partWith (some firstOf) y)) e
+      ∙ ap (λ (t : Bool). cond (t && (leb 2 (x .n) && eqb (suc (length ps)) (x .n))) (onePiece d (gather (firstOf ∷ ps) (x .n) 1)) none)
+      (like-same firstOf ps)
 
-  pub set-few : n ≤ 1 → SoundIs (length D) s (orSet (joinParts (allParts (piecesIn (rows s))))) D (No 19 0)
-  set-few h = record { means = λ _. ap (λ (x : Option Piece). thenChecked (orSet x)) (ap joinParts (g .is) ∙ go (g .others) refl); size = refl }
+  pub set-few : x .n ≤ 1 → SoundIs (length D) s (orSet (joinParts (allParts (piecesIn (rows s))))) D (No 19 0)
+  set-few h = record { means = λ _. ap (λ (y : Option Piece). thenChecked (orSet y)) (ap joinParts (g .is) ∙ go others refl); size = refl }
     where
-      go : (o : Option (List Part)) → g .others ≡ o → joinParts (partWith (some (firstOf g)) o) ≡ none
+      go : (o : Option (List Part)) → others ≡ o → joinParts (partWith (some firstOf) o) ≡ none
       go none q = refl
-      go (some ps) q = by-test (some ps) ps refl ∙ no (agree (like d (identAt s last) n) ps)
+      go (some ps) q = by-test (some ps) ps refl ∙ no (agree (like d (identAt s (x .last)) (x .n)) ps)
         where
-          no : (t : Bool) → cond (t && (leb 2 n && eqb (suc (length ps)) n)) (onePiece d (gather (firstOf g ∷ ps) n 1)) none ≡ none
-          no true = rw (lt-leb 2 n (omega arith))
+          no : (t : Bool) → cond (t && (leb 2 (x .n) && eqb (suc (length ps)) (x .n))) (onePiece d (gather (firstOf ∷ ps) (x .n) 1)) none ≡ none
+          no true = rw (lt-leb 2 (x .n) (omega arith))
           no false = refl
 
   -- cleared tables of any length from n on
-  pub set-tables : (N : ℕ) → 1 < n → n ≤ N → FirstIn D s d last n (replicate N 0) (replicate N 0) (replicate N 0)
+  pub set-tables : (N : ℕ) → 1 < x .n → x .n ≤ N → FirstIn D s d x (replicate N 0) (replicate N 0) (replicate N 0)
   set-tables N m h = record {
     first = g;
     more = m;
@@ -163,45 +167,75 @@ module _ {D s : List ℕ} {d : Bool} {last n : ℕ} (g : First D s d last n) whe
     bounds = record { low = λ i l. omega (arith, zero-at i l); high = λ i l. omega (arith, zero-at i l) };
   }
     where
-      enough : n ≤ length (replicate {A = ℕ} N 0)
+      enough : x .n ≤ length (replicate {A = ℕ} N 0)
       enough = omega (arith, length-replicate {A = ℕ} N 0)
 
-      zero-at : (i : ℕ) → i < n → getD (replicate {A = ℕ} N 0) i 0 ≡ 0
+      zero-at : (i : ℕ) → i < x .n → getD (replicate {A = ℕ} N 0) i 0 ≡ 0
       zero-at i l = getD-replicate {A = ℕ} N i 0 0 (omega arith)
 
-module _ {D s : List ℕ} {d : Bool} {last n : ℕ} {ks₀ a₀ b₀ : List ℕ} (f : FirstIn D s d last n ks₀ a₀ b₀) where
-  abbrev g : First D s d last n
+module _ {D s : List ℕ} {d : Bool} {x : Lead} {ks₀ a₀ b₀ : List ℕ} (f : FirstIn D s d x ks₀ a₀ b₀) where
+  abbrev g : First D s d x
   g = f .first
 
-  pub set-ready : Ready s n ks₀ a₀ b₀
-  set-ready = record { small = g .small; count = g .count; over = g .over; sizes = f .sizes; bounds = f .bounds }
+  pub set-free : Free ks₀ a₀ b₀ 0
+  set-free = record { places = omega (arith, f .more, f .sizes .places); starts = omega (arith, f .more, f .sizes .starts); ends = omega (arith, f .more, f .sizes .ends) }
 
-  module _ {ks a b : List ℕ} {x : Bool} (v : CollectIs s d (take (last + 18 - (last + 4)) (drop (last + 4) s)) n ks a b x) where
+  pub set-place : x .k ≤ 999
+  set-place = g .place
+
+  pub set-ident : x .last + 18 ≤ length s
+  set-ident = omega (arith, g .ident, g .high)
+
+  nothing : Listed s ks₀ a₀ b₀ []
+  nothing = record { places = refl; bytes = λ i p e. let z : _≡_ {A = ℕ} 0 1 = cc in absurd (omega arith) }
+
+  pub set-begun : {ks a b : List ℕ} → Stored ks₀ a₀ b₀ 0 (x .k) (x .from) (x .last) ks a b
+      → Begun s d (take (x .last + 18 - (x .last + 4)) (drop (x .last + 4) s)) (x .n) (x .stop) ks a b
+  unfolding agree
+  set-begun {ks} {a} {b} st =
+      let t : Tables s (x .n) ks a b (firstOf g ∷ []) =
+      tables-store (firstOf g) (x .from) (x .last) 0 (record { sizes = f .sizes; bounds = f .bounds; listed = nothing }) refl (omega (arith, f .more))
+      (g .low) (omega (arith, g .ident, g .high)) (g .bytes) st in
+      record {
+        small = g .small;
+        count = g .count;
+        inside = g .high;
+        first = firstOf g;
+        parts = g .is;
+        agrees = agree-self d (identAt s (x .last)) (x .n) (x .k) (g .lines) [];
+        sizes = t .sizes;
+        bounds = t .bounds;
+        listed = t .listed;
+        over = g .over;
+        whole = g .whole;
+      }
+
+  module _ {ks a b : List ℕ} {y : Bool} (v : CollectIs s d (take (x .last + 18 - (x .last + 4)) (drop (x .last + 4) s)) (x .n) ks a b y) where
     -- no set: isSet says so of the same parts
-    pub set-lost : not x ≡ true → SoundIs (length D) s (orSet (joinParts (allParts (piecesIn (rows s))))) D (No 19 0)
+    pub set-lost : not y ≡ true → SoundIs (length D) s (orSet (joinParts (allParts (piecesIn (rows s))))) D (No 19 0)
     set-lost q =
-        let i : unbroken (rows s) ≡ true → isSet d (identAt s last) n (allParts (piecesIn (rows s))) ≡ false =
-        subst (CollectMeans s d (identAt s last) n ks a b) (not-true x q) (v .means) in
+        let i : unbroken (rows s) ≡ true → isSet d (identAt s (x .last)) (x .n) (allParts (piecesIn (rows s))) ≡ false =
+        subst (CollectMeans s d (identAt s (x .last)) (x .n) ks a b) (not-true y q) (v .means) in
         record {
           means = λ w. ap (λ (o : Option (List Part)). thenChecked (orSet (joinParts o))) (g .is)
-              ∙ ap (λ (o : Option Piece). thenChecked (orSet o)) (go (g .others) (ap (isSet d (identAt s last) n) (sym (g .is)) ∙ i (sym (g .sound) ∙ w)));
+              ∙ ap (λ (o : Option Piece). thenChecked (orSet o)) (go (others g) (ap (isSet d (identAt s (x .last)) (x .n)) (sym (g .is)) ∙ i (sym (g .sound) ∙ w)));
           size = refl;
         }
       where
-        go : (o : Option (List Part)) → isSet d (identAt s last) n (partWith (some (firstOf g)) o) ≡ false
+        go : (o : Option (List Part)) → isSet d (identAt s (x .last)) (x .n) (partWith (some (firstOf g)) o) ≡ false
             → joinParts (partWith (some (firstOf g)) o) ≡ none
         go none e = refl
         go (some ps) e =
-            let h : (agree (like d (identAt s last) n) ps && eqb (suc (length ps)) n) ≡ false =
-            ap (λ (t : Bool). t && eqb (suc (length ps)) n) (sym (agree-self d (identAt s last) n (g .place) (g .lines) ps)) ∙ e in
-            let u : test g ps ≡ false = rw (le-leb 2 n (f .more)) h in
-            by-test g (some ps) ps refl ∙ ap (λ (t : Bool). cond t (onePiece d (gather (firstOf g ∷ ps) n 1)) none) u
+            let h : (agree (like d (identAt s (x .last)) (x .n)) ps && eqb (suc (length ps)) (x .n)) ≡ false =
+            ap (λ (t : Bool). t && eqb (suc (length ps)) (x .n)) (sym (agree-self d (identAt s (x .last)) (x .n) (x .k) (g .lines) ps)) ∙ e in
+            let u : test g ps ≡ false = rw (le-leb 2 (x .n) (f .more)) h in
+            by-test g (some ps) ps refl ∙ ap (λ (t : Bool). cond t (onePiece d (gather (firstOf g ∷ ps) (x .n) 1)) none) u
 
-    module _ (q : not x ≡ false) where
-      collected : Collected s d (identAt s last) n ks a b
-      collected = subst (CollectMeans s d (identAt s last) n ks a b) (not-false x q) (v .means)
+    module _ (q : not y ≡ false) where
+      collected : Collected s d (identAt s (x .last)) (x .n) ks a b
+      collected = subst (CollectMeans s d (identAt s (x .last)) (x .n) ks a b) (not-false y q) (v .means)
 
-      pub set-given : GivenSet D s ks a b n
+      pub set-given : GivenSet D s ks a b (x .n)
       set-given = record {
         line = g .line;
         small = g .small;
@@ -211,25 +245,26 @@ module _ {D s : List ℕ} {d : Bool} {last n : ℕ} {ks₀ a₀ b₀ : List ℕ}
         count = g .count;
       }
 
-      joins : joinParts (allParts (piecesIn (rows s))) ≡ onePiece d (gather (collected .seen) n 1)
-      joins = ap joinParts (g .is) ∙ go (g .others) (sym (g .is) ∙ collected .parts)
+      joins : joinParts (allParts (piecesIn (rows s))) ≡ onePiece d (gather (collected .seen) (x .n) 1)
+      joins = ap joinParts (g .is) ∙ go (others g) (sym (g .is) ∙ collected .parts)
         where
           go : (o : Option (List Part)) → partWith (some (firstOf g)) o ≡ some (collected .seen)
-              → joinParts (partWith (some (firstOf g)) o) ≡ onePiece d (gather (collected .seen) n 1)
+              → joinParts (partWith (some (firstOf g)) o) ≡ onePiece d (gather (collected .seen) (x .n) 1)
           go none e = let z : _≡_ {A = ℕ} 0 1 = cc in absurd (omega arith)
           go (some ps) e =
               let h : firstOf g ∷ ps ≡ collected .seen = cc in
-              let t : agree (like d (identAt s last) n) ps ≡ true =
-              sym (agree-self d (identAt s last) n (g .place) (g .lines) ps) ∙ (ap (agree (like d (identAt s last) n)) h ∙ collected .agrees) in
-              let c : eqb (suc (length ps)) n ≡ true = eq-eqb (suc (length ps)) n (ap length h ∙ collected .count) in
-              by-test g (some ps) ps refl ∙ (rw (t, le-leb 2 n (f .more), c) (ap (λ (z : List Part). onePiece d (gather z n 1)) h))
+              let t : agree (like d (identAt s (x .last)) (x .n)) ps ≡ true =
+              sym (agree-self d (identAt s (x .last)) (x .n) (x .k) (g .lines) ps) ∙ (ap (agree (like d (identAt s (x .last)) (x .n))) h ∙ collected .agrees) in
+              let c : eqb (suc (length ps)) (x .n) ≡ true = eq-eqb (suc (length ps)) (x .n) (ap length h ∙ collected .count) in
+              by-test g (some ps) ps refl ∙ (rw (t, le-leb 2 (x .n) (f .more), c) (ap (λ (z : List Part). onePiece d (gather z (x .n) 1)) h))
 
-      pub set-done : {D₁ : List ℕ} {r : Made} → SetIs (length D) d s ks a b n D₁ r → SoundIs (length D) s (orSet (joinParts (allParts (piecesIn (rows s))))) D₁ r
+      pub set-done : {D₁ : List ℕ} {r : Made} → SetIs (length D) d s ks a b (x .n) D₁ r
+          → SoundIs (length D) s (orSet (joinParts (allParts (piecesIn (rows s))))) D₁ r
       set-done {D₁} {r} m =
           settled (g .sound ∙ collected .whole)
           (subst (λ (o : Option Piece). MadeIs (length D) (orSet o) D₁ r) (sym joins) (m .made (collected .seen) (collected .count) (collected .listed)))
 
-pub ruleset set-laws = (set-ready, set-lost, set-given, set-done)
+pub ruleset set-laws = (set-free, set-place, set-ident, set-begun, set-lost, set-given, set-done)
 
 -- ---- one piece, or a set
 
@@ -281,18 +316,22 @@ module _ {D s : List ℕ} (g : Input D s) {r : Next} (x : FirstIs s r) where
         marked : MarkedLines s e last stop n k
         marked = mean t
 
-        pub pieces-first : First D s d last n
+        pub pieces-first : First D s d (record { n = n; k = k; from = e; last = last; stop = stop })
         pieces-first = record {
           line = g .line;
           small = g .small;
-          ident = omega (arith, marked .ident, marked .high);
           count = marked .count;
-          place = k;
+          place = marked .place;
+          low = marked .low;
+          ident = marked .ident;
+          high = marked .high;
           lines = marked .lines;
-          others = allParts (piecesIn (rows (drop e s)));
-          is = by-parts ∙ ap (λ (o : Option Part). partWith o (allParts (piecesIn (rows (drop e s))))) (marked .is d);
-          over = foremost .over;
+          bytes = marked .bytes;
+          is = by-parts ∙ (ap (λ (o : Option Part). partWith o (allParts (piecesIn (rows (drop e s))))) (marked .is d)
+              ∙ ap (λ (ps : List Piece). partWith (some (partBy d (identAt s last) n k (marked .lines))) (allParts ps)) (marked .next));
+          over = marked .over;
           sound = foremost .sound ∙ sym (opening .whole);
+          whole = opening .whole ∙ marked .whole;
         }
 
         pub pieces-set : {D₁ : List ℕ} {m : Made} → SoundIs (length D) s (orSet (joinParts (allParts (piecesIn (rows s))))) D₁ m

@@ -28,7 +28,7 @@ use Rattle.join.specs.declared.Spot.{Spot}
 use Rattle.join.specs.declared.Spot.the-variants.{Rows, Nowhere}
 use Rattle.join.specs.declared.Filled.the-variants.{Full, Short, Missing}
 use Rattle.division.specs.Join.{Part, partOf, partWith, allParts, agree, findPart, rowsOfPart, gather}
-use Rattle.join.specs.Spans.{unbroken, goesOn, partBy, Opened, Ended, NextMeans, NextIs, like, agreed, isSet, Within, MemberAt, MemberMeans, MemberIs, Free, Stored, Sizes, Bounds, Listed, Ready, CollectMeans, CollectIs, Wanted, SpotAt, SpotMeans, SpotIs, PutIs, FillIs, FillRoom}
+use Rattle.join.specs.Spans.{unbroken, goesOn, partBy, Opened, Ended, NextMeans, NextIs, like, agreed, isSet, Within, MemberAt, MemberMeans, MemberIs, Free, Stored, Sizes, Bounds, Listed, Begun, CollectMeans, CollectIs, Wanted, SpotAt, SpotMeans, SpotIs, PutIs, FillIs, FillRoom}
 use Rattle.search.specs.Places.{CountIs}
 use Rattle.search.specs.Search.{ksOf, pieceAfter}
 use Rattle.search.proofs.Pieces.{count-one, count-most, piece-found, piece-missing}
@@ -147,7 +147,7 @@ pub record Tables (s : List ℕ) (n : ℕ) (ks a b : List ℕ) (seen : List Part
   pub bounds : Bounds s n a b
   pub listed : Listed s ks a b seen
 
-tables-store : {s ks a b ks₁ a₁ b₁ : List ℕ} {n : ℕ} {seen : List Part} (p : Part) (e last m : ℕ) → Tables s n ks a b seen → m ≡ length seen → m < n
+pub tables-store : {s ks a b ks₁ a₁ b₁ : List ℕ} {n : ℕ} {seen : List Part} (p : Part) (e last m : ℕ) → Tables s n ks a b seen → m ≡ length seen → m < n
     → e ≤ last → last ≤ length s → flat (p .rows) ≡ part s e last → Stored ks a b m (p .mark .place) e last ks₁ a₁ b₁
     → Tables s n ks₁ a₁ b₁ (seen ++ p ∷ [])
 tables-store {s} {ks} {a} {b} {ks₁} {a₁} {b₁} {n} {seen} p e last m t c h g i w st =
@@ -178,24 +178,20 @@ pub record Collecting (s : List ℕ) (d : Bool) (i : List ℕ) (n : ℕ) (ks₀ 
   pub over : goesOn (rows (drop at s)) ≡ false
   pub whole : unbroken (rows s) ≡ unbroken (rows (drop at s))
 
-pub collect-start : (s : List ℕ) (d : Bool) (i : List ℕ) (n : ℕ) (ks a b : List ℕ) → Ready s n ks a b → Collecting s d i n ks a b ks a b 0 0
-unfolding agree
-collect-start s d i n ks a b z = record {
+pub collect-start : {s : List ℕ} {d : Bool} {i : List ℕ} {n at : ℕ} {ks a b : List ℕ} → Begun s d i n at ks a b → Collecting s d i n ks a b ks a b 1 at
+collect-start {s} {d} {i} {n} {at} z = record {
   kept = record { places = refl; starts = refl; ends = refl };
   few = z .count;
   small = z .small;
-  inside = omega arith;
-  seen = [];
-  parts = after-none (allParts (piecesIn (rows s)));
-  agrees = refl;
+  inside = z .inside;
+  seen = z .first ∷ [];
+  parts = z .parts ∙ (after-none (partWith (some (z .first)) (allParts (piecesIn (rows (drop at s))))) ∙ after-with [] (z .first) (allParts (piecesIn (rows (drop at s)))));
+  agrees = z .agrees;
   count = refl;
-  tables = record { sizes = z .sizes; bounds = z .bounds; listed = record { places = refl; bytes = λ i p e. nothing i p e } };
+  tables = record { sizes = z .sizes; bounds = z .bounds; listed = z .listed };
   over = z .over;
-  whole = refl;
+  whole = z .whole;
 }
-  where
-    nothing : (i : ℕ) (p : Part) → pieceAfter i [] ≡ some p → flat (p .rows) ≡ part s (getD a i 0) (getD b i 0)
-    nothing i p e = let z : _≡_ {A = ℕ} 0 1 = cc in absurd (omega arith)
 
 module _ {s : List ℕ} {d : Bool} {i : List ℕ} {n : ℕ} {ks₀ a₀ b₀ ks a b : List ℕ} {m at : ℕ} (v : Collecting s d i n ks₀ a₀ b₀ ks a b m at) where
   pub collect-kept : Kept ks₀ a₀ b₀ ks a b

@@ -27,6 +27,7 @@ use Rattle.join.specs.declared.Spot.{Spot}
 use Rattle.join.specs.declared.Spot.the-variants.{Rows, Nowhere}
 use Rattle.join.specs.declared.Filled.{Filled}
 use Rattle.join.specs.declared.Filled.the-variants.{Full, Short, Missing}
+use Rattle.join.specs.declared.Lead.{Lead}
 use Rattle.join.specs.declared.Made.{Made}
 use Rattle.join.specs.declared.Made.the-variants.{Bytes, Large, No}
 use Rattle.division.specs.Join.{unmarked, Part, lastMark, partOf, partWith, allParts, agree, findPart, gather, onePiece, orSet, thenChecked}
@@ -247,13 +248,19 @@ pub record Listed (s ks a b : List ℕ) (ps : List Part) : Type 0 where
   pub places : take (length ps) ks ≡ ksOf ps
   pub bytes : (i : ℕ) (p : Part) → pieceAfter i ps ≡ some p → flat (p .rows) ≡ part s (getD a i 0) (getD b i 0)
 
--- tables for n parts, and an input that does not begin in the middle of a piece
-pub record Ready (s : List ℕ) (n : ℕ) (ks a b : List ℕ) : Type 0 where
+-- tables for n parts that have the first, which ends at a position
+pub record Begun (s : List ℕ) (d : Bool) (i : List ℕ) (n at : ℕ) (ks a b : List ℕ) : Type 0 where
   pub small : length s ≤ 131072
   pub count : n ≤ 999
-  pub over : goesOn (rows s) ≡ false
+  pub inside : at ≤ length s
+  pub first : Part
+  pub parts : allParts (piecesIn (rows s)) ≡ partWith (some first) (allParts (piecesIn (rows (drop at s))))
+  pub agrees : agree (like d i n) (first ∷ []) ≡ true
   pub sizes : Sizes n ks a b
   pub bounds : Bounds s n a b
+  pub listed : Listed s ks a b (first ∷ [])
+  pub over : goesOn (rows (drop at s)) ≡ false
+  pub whole : unbroken (rows s) ≡ unbroken (rows (drop at s))
 
 pub record Collected (s : List ℕ) (d : Bool) (i : List ℕ) (n : ℕ) (ks a b : List ℕ) : Type 0 where
   pub seen : List Part
@@ -367,25 +374,32 @@ pub record GivenSet (d s ks a b : List ℕ) (n : ℕ) : Type 0 where
   pub some : 1 ≤ n
   pub count : n ≤ 999
 
--- the buffer, and the first of a set: its record 911 begins at last
-pub record First (d s : List ℕ) (side : Bool) (last n : ℕ) : Type 0 where
+-- the first of a set of direction side as a part
+abbrev pub leadPart : List ℕ → Bool → Lead → List (List ℕ) → Part
+leadPart s side x lines = partBy side (identAt s (x .last)) (x .n) (x .k) lines
+
+-- the buffer, and the first of a set
+pub record First (d s : List ℕ) (side : Bool) (x : Lead) : Type 0 where
   pub line : 13 ≤ length d
   pub small : length s ≤ 131072
-  pub ident : last + 18 ≤ length s
-  pub count : n ≤ 999
-  pub place : ℕ
+  pub count : x .n ≤ 999
+  pub place : x .k ≤ 999
+  pub low : x .from ≤ x .last
+  pub ident : x .last + 18 ≤ x .stop
+  pub high : x .stop ≤ length s
   pub lines : List (List ℕ)
-  pub others : Option (List Part)
-  pub is : allParts (piecesIn (rows s)) ≡ partWith (some (partBy side (identAt s last) n place lines)) others
-  pub over : goesOn (rows s) ≡ false
+  pub bytes : flat lines ≡ part s (x .from) (x .last)
+  pub is : allParts (piecesIn (rows s)) ≡ partWith (some (leadPart s side x lines)) (allParts (piecesIn (rows (drop (x .stop) s))))
+  pub over : goesOn (rows (drop (x .stop) s)) ≡ false
   pub sound : sound (rows s) ≡ unbroken (rows s)
+  pub whole : unbroken (rows s) ≡ unbroken (rows (drop (x .stop) s))
 
 -- the same with tables for n pieces
-pub record FirstIn (d s : List ℕ) (side : Bool) (last n : ℕ) (ks a b : List ℕ) : Type 0 where
-  pub first : First d s side last n
-  pub more : 1 < n
-  pub sizes : Sizes n ks a b
-  pub bounds : Bounds s n a b
+pub record FirstIn (d s : List ℕ) (side : Bool) (x : Lead) (ks a b : List ℕ) : Type 0 where
+  pub first : First d s side x
+  pub more : 1 < x .n
+  pub sizes : Sizes (x .n) ks a b
+  pub bounds : Bounds s (x .n) a b
 
 -- the buffer, and an input within the limit
 pub record Input (d s : List ℕ) : Type 0 where

@@ -14,7 +14,7 @@ ghost use Rattle.buffers.specs.Buffers.{Wrote};
 ghost use Rattle.division.specs.Pieces.{brokenLine, startsWell, piecesIn};
 ghost use Rattle.division.specs.Join.{allParts, joinParts, joinPieces, orSet, joinedFile, joinResult};
 ghost use Rattle.replies.specs.Contracts.{Gives};
-ghost use Rattle.join.specs.Spans.{NextIs, FirstIs, goesOn, LineAt, LastIs, LinesAre, Within, MemberIs, Free, Stored, Ready, CollectIs, Wanted, SpotIs, PutIs, FillIs, FillRoom, MadeIs, SetIs, SoundIs, Given, GivenSet, First, FirstIn, Input, Holds};
+ghost use Rattle.join.specs.Spans.{NextIs, FirstIs, goesOn, LineAt, LastIs, LinesAre, Within, MemberIs, Free, Stored, Begun, CollectIs, Wanted, SpotIs, PutIs, FillIs, FillRoom, MadeIs, SetIs, SoundIs, Given, GivenSet, First, FirstIn, Input, Holds};
 use replies::Answer;
 
 // The line of the first row that breaks the rule of line ends, 0 for none. A 1Ah is in place after a piece only.
@@ -260,21 +260,22 @@ fn store(
     ends[i] = to;
 }
 
-// The tables of a set's pieces as they lie; whether there are n pieces that agree.
+// The tables of a set's pieces as they lie, from the second on, which begins at a position; whether there are n pieces that agree.
 fn collect(
     s: &[u8],
     d: bool,
     id: &[u8],
     n: usize,
+    from: usize,
     ks: &mut [u16],
     starts: &mut [usize],
     ends: &mut [usize],
 ) -> bool
-    requires { ⌜ Ready (now s) n (now ks) (now starts) (now ends) ⌝ }
+    requires { ⌜ Begun (now s) d (now id) n from (now ks) (now starts) (now ends) ⌝ }
     ensures { λ r. ⌜ CollectIs (now (s .entry)) d (now (id .entry)) n (now (ks .exit)) (now (starts .exit)) (now (ends .exit)) r ⌝ }
 {
-    let mut m: usize = 0;
-    let mut at: usize = 0;
+    let mut m: usize = 1;
+    let mut at = from;
     loop {
         match next_piece(s, at) {
             Next::Over => {
@@ -424,23 +425,35 @@ fn join_found(
     }
 }
 
-// The pieces as a set like its first, whose record 911 begins at last, by tables that have room for n pieces.
+// The first piece of a set: its n and k, and where its rows begin, its record 911 begins, and it ends.
+pub struct Lead {
+    pub n: usize,
+    pub k: usize,
+    pub from: usize,
+    pub last: usize,
+    pub stop: usize,
+}
+
+// The pieces as a set like its first, by tables that have room for n pieces.
 fn join_listed(
     s: &[u8],
     d: bool,
-    last: usize,
-    n: usize,
+    lead: Lead,
     ks: &mut [u16],
     starts: &mut [usize],
     ends: &mut [usize],
     buf: &mut [u8],
 ) -> Made
-    requires { ⌜ FirstIn (now buf) (now s) d last n (now ks) (now starts) (now ends) ⌝ }
+    requires { ⌜ FirstIn (now buf) (now s) d lead (now ks) (now starts) (now ends) ⌝ }
     ensures { λ r. ⌜ SoundIs (length (now (buf .entry))) (now (s .entry)) (orSet (joinParts (allParts (piecesIn (rows (now (s .entry))))))) (now (buf .exit)) r ⌝ }
 {
+    let n = lead.n;
+    let last = lead.last;
+    let stop = lead.stop;
+    store(ks, starts, ends, 0, lead.k, lead.from, last);
     let x = last + 4;
     let y = last + 18;
-    if !collect(s, d, &s[x..y], n, ks, starts, ends) {
+    if !collect(s, d, &s[x..y], n, stop, ks, starts, ends) {
         return Made::No(19, 0);
     }
     join_found(s, d, ks, starts, ends, n, buf)
@@ -453,10 +466,11 @@ const FEW: usize = 64;
 const MOST: usize = 999;
 
 // The same with tables of its own.
-fn join_set(s: &[u8], d: bool, last: usize, n: usize, buf: &mut [u8]) -> Made
-    requires { ⌜ First (now buf) (now s) d last n ⌝ }
+fn join_set(s: &[u8], d: bool, lead: Lead, buf: &mut [u8]) -> Made
+    requires { ⌜ First (now buf) (now s) d lead ⌝ }
     ensures { λ r. ⌜ SoundIs (length (now (buf .entry))) (now (s .entry)) (orSet (joinParts (allParts (piecesIn (rows (now (s .entry))))))) (now (buf .exit)) r ⌝ }
 {
+    let n = lead.n;
     if n <= 1 {
         return Made::No(19, 0);
     }
@@ -464,12 +478,12 @@ fn join_set(s: &[u8], d: bool, last: usize, n: usize, buf: &mut [u8]) -> Made
         let mut ks = [0u16; FEW];
         let mut starts = [0usize; FEW];
         let mut ends = [0usize; FEW];
-        return join_listed(s, d, last, n, &mut ks, &mut starts, &mut ends, buf);
+        return join_listed(s, d, lead, &mut ks, &mut starts, &mut ends, buf);
     }
     let mut ks = [0u16; MOST];
     let mut starts = [0usize; MOST];
     let mut ends = [0usize; MOST];
-    join_listed(s, d, last, n, &mut ks, &mut starts, &mut ends, buf)
+    join_listed(s, d, lead, &mut ks, &mut starts, &mut ends, buf)
 }
 
 // The pieces: one without a record 911, or a set.
@@ -482,7 +496,16 @@ fn join_pieces(s: &[u8], buf: &mut [u8]) -> Made
         Next::Stray => Made::No(19, 0),
         Next::Opens(e, d) => match read_lines(s, e) {
             Lines::Wrong => Made::No(19, 0),
-            Lines::Marked(last, _, n, _) => join_set(s, d, last, n, buf),
+            Lines::Marked(last, stop, n, k) => {
+                let lead = Lead {
+                    n: n,
+                    k: k,
+                    from: e,
+                    last: last,
+                    stop: stop,
+                };
+                join_set(s, d, lead, buf)
+            }
             Lines::Plain(stop) => match next_piece(s, stop) {
                 Next::Opens(_, _) => Made::No(19, 0),
                 Next::Stray => Made::No(19, 0),

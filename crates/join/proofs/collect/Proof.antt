@@ -13,10 +13,10 @@ use Rattle.join.proofs.read_member.Reads as read-member-reads
 use Rattle.join.proofs.store.Reads as store-reads
 
 abbrev Inv-loop : tie.InvT-loop
-Inv-loop s d id n ks₀ starts₀ ends₀ m₀ at₀ ks starts ends m at = Collecting s d id n ks₀ starts₀ ends₀ ks starts ends m at
+Inv-loop s d id n from ks₀ starts₀ ends₀ m₀ at₀ ks starts ends m at = Collecting s d id n ks₀ starts₀ ends₀ ks starts ends m at
 
 abbrev μ-loop : tie.MeasureT-loop
-μ-loop s d id n ks₀ starts₀ ends₀ m₀ at₀ ks starts ends m at = length s - at
+μ-loop s d id n from ks₀ starts₀ ends₀ m₀ at₀ ks starts ends m at = length s - at
 
 loop-holds : tie.Need-loop-holds Inv-loop μ-loop
 loop-holds c = search (needs, collect-laws)

@@ -13,43 +13,43 @@ use Rattle.join.proofs.next_piece.Reads as next-piece-reads
 use Rattle.join.proofs.read_lines.Reads as read-lines-reads
 
 first-piece-requires : tie.Need-first-piece-requires
-first-piece-requires c κs = search (needs, pieces-laws)
+first-piece-requires c κs = search needs
 
 enum-told : tie.Need-enum-told
-enum-told c = search (needs, pieces-laws)
+enum-told c = search needs
 
 enum-told-2 : tie.Need-enum-told-2
-enum-told-2 c = search (needs, pieces-laws)
+enum-told-2 c = search needs
 
 enum-known-e : tie.Need-enum-known-e
-enum-known-e c = search (needs, pieces-laws)
+enum-known-e c = search needs
 
 read-lines-requires : tie.Need-read-lines-requires
 read-lines-requires c κs = search (needs, pieces-laws)
 
 enum-told-3 : tie.Need-enum-told-3
-enum-told-3 c = search (needs, pieces-laws)
+enum-told-3 c = search needs
 
 enum-known-last : tie.Need-enum-known-last
-enum-known-last c = search (needs, pieces-laws)
+enum-known-last c = search needs
 
 join-set-requires : tie.Need-join-set-requires
 join-set-requires c κs = search (needs, pieces-laws)
 
 enum-known-stop : tie.Need-enum-known-stop
-enum-known-stop c = search (needs, pieces-laws)
+enum-known-stop c = search needs
 
 next-piece-requires : tie.Need-next-piece-requires
 next-piece-requires c κs = search (needs, pieces-laws)
 
 enum-told-4 : tie.Need-enum-told-4
-enum-told-4 c = search (needs, pieces-laws)
+enum-told-4 c = search needs
 
 enum-told-5 : tie.Need-enum-told-5
-enum-told-5 c = search (needs, pieces-laws)
+enum-told-5 c = search needs
 
 enum-told-6 : tie.Need-enum-told-6
-enum-told-6 c = search (needs, pieces-laws)
+enum-told-6 c = search needs
 
 join-one-requires : tie.Need-join-one-requires
 join-one-requires c κs = search (needs, pieces-laws)
@@ -64,7 +64,7 @@ returns-3 : tie.Need-returns-3
 returns-3 c = search (needs, pieces-laws)
 
 same-length : tie.Need-same-length
-same-length c = search (needs, pieces-laws)
+same-length c = search needs
 
 returns-4 : tie.Need-returns-4
 returns-4 c = search (needs, pieces-laws)
@@ -76,7 +76,7 @@ returns-6 : tie.Need-returns-6
 returns-6 c = search (needs, pieces-laws)
 
 same-length-2 : tie.Need-same-length-2
-same-length-2 c = search (needs, pieces-laws)
+same-length-2 c = search needs
 
 returns-7 : tie.Need-returns-7
 returns-7 c = search (needs, pieces-laws)
