@@ -2020,7 +2020,7 @@ def write(out_dir, frames):
         line[: found.start()] for line in stdout.splitlines() for found in re.finditer(": ", line))
     twice = [label for label, _, _ in frames if starts[label] != 1]
     assert twice == [], twice
-    assert len(stdin) < 11_000_000
+    assert len(stdin) < 12_000_000
     folder = os.path.join(out_dir, "cases")
     os.makedirs(folder, exist_ok=True)
     for name, content in (("stdin", stdin), ("stdout", stdout.encode("ascii"))):

@@ -7,7 +7,7 @@ ghost use Rattle.digits.specs.Digits.{spell};
 ghost use Rattle.buffers.specs.Buffers.{Room, Wrote};
 ghost use Rattle.buffers.specs.Entries.{sevenNumbers};
 
-// The lengths of an array for what is made of a short, a middling and any input: clearing the last takes longer than to read a short one.
+// The lengths of an array for what is made of a short, a middling and any input: clearing the last takes longer than reading a short input.
 pub const SHORT: usize = 2048;
 
 pub const MIDDLING: usize = 16384;

@@ -34,11 +34,11 @@ use Rattle.join.specs.declared.Lines.{Lines}
 use Rattle.join.specs.declared.Lines.the-variants.{Plain, Marked, Wrong}
 use Rattle.join.specs.declared.Filled.{Filled}
 use Rattle.join.specs.declared.Filled.the-variants.{Full, Short, Missing}
-use Rattle.join.specs.declared.Lead.{Lead}
+use Rattle.join.specs.declared.FirstOfSet.{FirstOfSet}
 use Rattle.join.specs.declared.Made.{Made}
 use Rattle.join.specs.declared.Made.the-variants.{Bytes, Large, No}
 use Rattle.division.specs.Join.{unmarked, Part, partOf, partWith, allParts, agree, gather, onePiece, joinParts, joinPieces, orSet, joinSplit, joinedFile, checkedFile, thenChecked, joinFile, joinResult}
-use Rattle.join.specs.Spans.{unbroken, sound, Opened, Ended, NextMeans, NextIs, OpenedFirst, FirstMeans, FirstIs, PlainLines, partBy, identAt, MarkedLines, WrongLines, LinesMean, LinesAre, like, isSet, Free, Stored, Listed, Begun, Collected, CollectMeans, CollectIs, FillMeans, FillIs, FillRoom, MadeMeans, MadeIs, withHead, SetIs, SoundMeans, SoundIs, Given, GivenSet, leadPart, First, FirstIn, Input, Holds}
+use Rattle.join.specs.Spans.{unbroken, sound, Opened, Ended, NextMeans, NextIs, OpenedFirst, FirstMeans, FirstIs, PlainLines, partBy, identAt, MarkedLines, WrongLines, LinesMean, LinesAre, like, isSet, Free, Stored, Listed, Begun, Collected, CollectMeans, CollectIs, FillMeans, FillIs, FillRoom, MadeMeans, MadeIs, withHead, SetIs, SoundMeans, SoundIs, Given, GivenSet, firstPart, First, FirstIn, Input, Holds}
 use Rattle.lists.proofs.Parts.{part-length}
 use Rattle.join.proofs.SoundLaws.{sound-line, line-sound}
 use Rattle.join.proofs.SetLaws.{agree-self, Tables, tables-store}
@@ -130,15 +130,15 @@ like-same p [] = refl
 like-same p (q ∷ ps) =
     ap (λ (t : Bool). (Bool·beq (p .provider) (q .provider) && (same (p .mark .ident) (q .mark .ident) && eqb (p .mark .count) (q .mark .count))) && t) (like-same p ps)
 
-module _ {D s : List ℕ} {d : Bool} {x : Lead} (g : First D s d x) where
+module _ {D s : List ℕ} {d : Bool} {x : FirstOfSet} (g : First D s d x) where
   abbrev firstOf : Part
-  firstOf = leadPart s d x (g .lines)
+  firstOf = firstPart s d x (g .lines)
 
   abbrev others : Option (List Part)
   others = allParts (piecesIn (rows (drop (x .stop) s)))
 
   abbrev test : List Part → Bool
-  test ps = agree (like d (identAt s (x .last)) (x .n)) ps && (leb 2 (x .n) && eqb (suc (length ps)) (x .n))
+  test ps = agree (like d (identAt s (x .mark)) (x .n)) ps && (leb 2 (x .n) && eqb (suc (length ps)) (x .n))
 
   by-test : (o : Option (List Part)) (ps : List Part) → o ≡ some ps → joinParts (partWith (some firstOf) o)
       ≡ cond (test ps) (onePiece d (gather (firstOf ∷ ps) (x .n) 1)) none
@@ -152,7 +152,7 @@ module _ {D s : List ℕ} {d : Bool} {x : Lead} (g : First D s d x) where
     where
       go : (o : Option (List Part)) → others ≡ o → joinParts (partWith (some firstOf) o) ≡ none
       go none q = refl
-      go (some ps) q = by-test (some ps) ps refl ∙ no (agree (like d (identAt s (x .last)) (x .n)) ps)
+      go (some ps) q = by-test (some ps) ps refl ∙ no (agree (like d (identAt s (x .mark)) (x .n)) ps)
         where
           no : (t : Bool) → cond (t && (leb 2 (x .n) && eqb (suc (length ps)) (x .n))) (onePiece d (gather (firstOf ∷ ps) (x .n) 1)) none ≡ none
           no true = rw (lt-leb 2 (x .n) (omega arith))
@@ -163,7 +163,7 @@ module _ {D s : List ℕ} {d : Bool} {x : Lead} (g : First D s d x) where
   set-tables N m h = record {
     first = g;
     more = m;
-    sizes = record { places = enough; starts = enough; ends = enough };
+    sizes = record { numbers = enough; starts = enough; ends = enough };
     bounds = record { low = λ i l. omega (arith, zero-at i l); high = λ i l. omega (arith, zero-at i l) };
   }
     where
@@ -173,28 +173,28 @@ module _ {D s : List ℕ} {d : Bool} {x : Lead} (g : First D s d x) where
       zero-at : (i : ℕ) → i < x .n → getD (replicate {A = ℕ} N 0) i 0 ≡ 0
       zero-at i l = getD-replicate {A = ℕ} N i 0 0 (omega arith)
 
-module _ {D s : List ℕ} {d : Bool} {x : Lead} {ks₀ a₀ b₀ : List ℕ} (f : FirstIn D s d x ks₀ a₀ b₀) where
+module _ {D s : List ℕ} {d : Bool} {x : FirstOfSet} {ks₀ a₀ b₀ : List ℕ} (f : FirstIn D s d x ks₀ a₀ b₀) where
   abbrev g : First D s d x
   g = f .first
 
   pub set-free : Free ks₀ a₀ b₀ 0
-  set-free = record { places = omega (arith, f .more, f .sizes .places); starts = omega (arith, f .more, f .sizes .starts); ends = omega (arith, f .more, f .sizes .ends) }
+  set-free = record { numbers = omega (arith, f .more, f .sizes .numbers); starts = omega (arith, f .more, f .sizes .starts); ends = omega (arith, f .more, f .sizes .ends) }
 
-  pub set-place : x .k ≤ 999
-  set-place = g .place
+  pub set-number : x .k ≤ 999
+  set-number = g .number
 
-  pub set-ident : x .last + 18 ≤ length s
+  pub set-ident : x .mark + 18 ≤ length s
   set-ident = omega (arith, g .ident, g .high)
 
   nothing : Listed s ks₀ a₀ b₀ []
-  nothing = record { places = refl; bytes = λ i p e. let z : _≡_ {A = ℕ} 0 1 = cc in absurd (omega arith) }
+  nothing = record { numbers = refl; bytes = λ i p e. let z : _≡_ {A = ℕ} 0 1 = cc in absurd (omega arith) }
 
-  pub set-begun : {ks a b : List ℕ} → Stored ks₀ a₀ b₀ 0 (x .k) (x .from) (x .last) ks a b
-      → Begun s d (take (x .last + 18 - (x .last + 4)) (drop (x .last + 4) s)) (x .n) (x .stop) ks a b
+  pub set-begun : {ks a b : List ℕ} → Stored ks₀ a₀ b₀ 0 (x .k) (x .from) (x .mark) ks a b
+      → Begun s d (take (x .mark + 18 - (x .mark + 4)) (drop (x .mark + 4) s)) (x .n) (x .stop) ks a b
   unfolding agree
   set-begun {ks} {a} {b} st =
       let t : Tables s (x .n) ks a b (firstOf g ∷ []) =
-      tables-store (firstOf g) (x .from) (x .last) 0 (record { sizes = f .sizes; bounds = f .bounds; listed = nothing }) refl (omega (arith, f .more))
+      tables-store (firstOf g) (x .from) (x .mark) 0 (record { sizes = f .sizes; bounds = f .bounds; listed = nothing }) refl (omega (arith, f .more))
       (g .low) (omega (arith, g .ident, g .high)) (g .bytes) st in
       record {
         small = g .small;
@@ -202,7 +202,7 @@ module _ {D s : List ℕ} {d : Bool} {x : Lead} {ks₀ a₀ b₀ : List ℕ} (f 
         inside = g .high;
         first = firstOf g;
         parts = g .is;
-        agrees = agree-self d (identAt s (x .last)) (x .n) (x .k) (g .lines) [];
+        agrees = agree-self d (identAt s (x .mark)) (x .n) (x .k) (g .lines) [];
         sizes = t .sizes;
         bounds = t .bounds;
         listed = t .listed;
@@ -210,30 +210,30 @@ module _ {D s : List ℕ} {d : Bool} {x : Lead} {ks₀ a₀ b₀ : List ℕ} (f 
         whole = g .whole;
       }
 
-  module _ {ks a b : List ℕ} {y : Bool} (v : CollectIs s d (take (x .last + 18 - (x .last + 4)) (drop (x .last + 4) s)) (x .n) ks a b y) where
+  module _ {ks a b : List ℕ} {y : Bool} (v : CollectIs s d (take (x .mark + 18 - (x .mark + 4)) (drop (x .mark + 4) s)) (x .n) ks a b y) where
     -- no set: isSet says so of the same parts
     pub set-lost : not y ≡ true → SoundIs (length D) s (orSet (joinParts (allParts (piecesIn (rows s))))) D (No 19 0)
     set-lost q =
-        let i : unbroken (rows s) ≡ true → isSet d (identAt s (x .last)) (x .n) (allParts (piecesIn (rows s))) ≡ false =
-        subst (CollectMeans s d (identAt s (x .last)) (x .n) ks a b) (not-true y q) (v .means) in
+        let i : unbroken (rows s) ≡ true → isSet d (identAt s (x .mark)) (x .n) (allParts (piecesIn (rows s))) ≡ false =
+        subst (CollectMeans s d (identAt s (x .mark)) (x .n) ks a b) (not-true y q) (v .means) in
         record {
           means = λ w. ap (λ (o : Option (List Part)). thenChecked (orSet (joinParts o))) (g .is)
-              ∙ ap (λ (o : Option Piece). thenChecked (orSet o)) (go (others g) (ap (isSet d (identAt s (x .last)) (x .n)) (sym (g .is)) ∙ i (sym (g .sound) ∙ w)));
+              ∙ ap (λ (o : Option Piece). thenChecked (orSet o)) (go (others g) (ap (isSet d (identAt s (x .mark)) (x .n)) (sym (g .is)) ∙ i (sym (g .sound) ∙ w)));
           size = refl;
         }
       where
-        go : (o : Option (List Part)) → isSet d (identAt s (x .last)) (x .n) (partWith (some (firstOf g)) o) ≡ false
+        go : (o : Option (List Part)) → isSet d (identAt s (x .mark)) (x .n) (partWith (some (firstOf g)) o) ≡ false
             → joinParts (partWith (some (firstOf g)) o) ≡ none
         go none e = refl
         go (some ps) e =
-            let h : (agree (like d (identAt s (x .last)) (x .n)) ps && eqb (suc (length ps)) (x .n)) ≡ false =
-            ap (λ (t : Bool). t && eqb (suc (length ps)) (x .n)) (sym (agree-self d (identAt s (x .last)) (x .n) (x .k) (g .lines) ps)) ∙ e in
+            let h : (agree (like d (identAt s (x .mark)) (x .n)) ps && eqb (suc (length ps)) (x .n)) ≡ false =
+            ap (λ (t : Bool). t && eqb (suc (length ps)) (x .n)) (sym (agree-self d (identAt s (x .mark)) (x .n) (x .k) (g .lines) ps)) ∙ e in
             let u : test g ps ≡ false = rw (le-leb 2 (x .n) (f .more)) h in
             by-test g (some ps) ps refl ∙ ap (λ (t : Bool). cond t (onePiece d (gather (firstOf g ∷ ps) (x .n) 1)) none) u
 
     module _ (q : not y ≡ false) where
-      collected : Collected s d (identAt s (x .last)) (x .n) ks a b
-      collected = subst (CollectMeans s d (identAt s (x .last)) (x .n) ks a b) (not-false y q) (v .means)
+      collected : Collected s d (identAt s (x .mark)) (x .n) ks a b
+      collected = subst (CollectMeans s d (identAt s (x .mark)) (x .n) ks a b) (not-false y q) (v .means)
 
       pub set-given : GivenSet D s ks a b (x .n)
       set-given = record {
@@ -253,8 +253,8 @@ module _ {D s : List ℕ} {d : Bool} {x : Lead} {ks₀ a₀ b₀ : List ℕ} (f 
           go none e = let z : _≡_ {A = ℕ} 0 1 = cc in absurd (omega arith)
           go (some ps) e =
               let h : firstOf g ∷ ps ≡ collected .seen = cc in
-              let t : agree (like d (identAt s (x .last)) (x .n)) ps ≡ true =
-              sym (agree-self d (identAt s (x .last)) (x .n) (x .k) (g .lines) ps) ∙ (ap (agree (like d (identAt s (x .last)) (x .n))) h ∙ collected .agrees) in
+              let t : agree (like d (identAt s (x .mark)) (x .n)) ps ≡ true =
+              sym (agree-self d (identAt s (x .mark)) (x .n) (x .k) (g .lines) ps) ∙ (ap (agree (like d (identAt s (x .mark)) (x .n))) h ∙ collected .agrees) in
               let c : eqb (suc (length ps)) (x .n) ≡ true = eq-eqb (suc (length ps)) (x .n) (ap length h ∙ collected .count) in
               by-test g (some ps) ps refl ∙ (rw (t, le-leb 2 (x .n) (f .more), c) (ap (λ (z : List Part). onePiece d (gather z (x .n) 1)) h))
 
@@ -264,7 +264,7 @@ module _ {D s : List ℕ} {d : Bool} {x : Lead} {ks₀ a₀ b₀ : List ℕ} (f 
           settled (g .sound ∙ collected .whole)
           (subst (λ (o : Option Piece). MadeIs (length D) (orSet o) D₁ r) (sym joins) (m .made (collected .seen) (collected .count) (collected .listed)))
 
-pub ruleset set-laws = (set-free, set-place, set-ident, set-begun, set-lost, set-given, set-done)
+pub ruleset set-laws = (set-free, set-number, set-ident, set-begun, set-lost, set-given, set-done)
 
 -- ---- one piece, or a set
 
@@ -316,12 +316,12 @@ module _ {D s : List ℕ} (g : Input D s) {r : Next} (x : FirstIs s r) where
         marked : MarkedLines s e last stop n k
         marked = mean t
 
-        pub pieces-first : First D s d (record { n = n; k = k; from = e; last = last; stop = stop })
+        pub pieces-first : First D s d (record { n = n; k = k; from = e; mark = last; stop = stop })
         pieces-first = record {
           line = g .line;
           small = g .small;
           count = marked .count;
-          place = marked .place;
+          number = marked .place;
           low = marked .low;
           ident = marked .ident;
           high = marked .high;

@@ -110,7 +110,7 @@ after-more (x ∷ seen) p (suc i) q e = go (after-more seen p i q e)
 
 listed-more : {s ks a b : List ℕ} {seen : List Part} (p : Part) (e last m : ℕ) → Listed s ks a b seen → m ≡ length seen → Free ks a b m
     → flat (p .rows) ≡ part s e last → Listed s (set ks m (p .mark .place)) (set a m e) (set b m last) (seen ++ p ∷ [])
-listed-more {s} {ks} {a} {b} {seen} p e last m v c f w = record { places = here; bytes = λ i q x. go i q (after-more seen p i q x) }
+listed-more {s} {ks} {a} {b} {seen} p e last m v c f w = record { numbers = here; bytes = λ i q x. go i q (after-more seen p i q x) }
   where
     n : length (seen ++ p ∷ []) ≡ suc m
     n = omega (arith, length-append seen (p ∷ []), c)
@@ -118,8 +118,8 @@ listed-more {s} {ks} {a} {b} {seen} p e last m v c f w = record { places = here;
     here : take (length (seen ++ p ∷ [])) (set ks m (p .mark .place)) ≡ ksOf (seen ++ p ∷ [])
     here =
         ap (λ (j : ℕ). take j (set ks m (p .mark .place))) n
-        ∙ (take-suc-set ks m (p .mark .place) (f .places)
-        ∙ (ap (λ (l : List ℕ). l ++ (p .mark .place ∷ [])) (ap (λ (j : ℕ). take j ks) c ∙ v .places) ∙ sym (ks-more seen p)))
+        ∙ (take-suc-set ks m (p .mark .place) (f .numbers)
+        ∙ (ap (λ (l : List ℕ). l ++ (p .mark .place ∷ [])) (ap (λ (j : ℕ). take j ks) c ∙ v .numbers) ∙ sym (ks-more seen p)))
 
     go : (i : ℕ) (q : Part) → Either seen p i q → flat (q .rows) ≡ part s (getD (set a m e) i 0) (getD (set b m last) i 0)
     go i q (inl (x, h)) =
@@ -152,16 +152,16 @@ pub tables-store : {s ks a b ks₁ a₁ b₁ : List ℕ} {n : ℕ} {seen : List 
     → Tables s n ks₁ a₁ b₁ (seen ++ p ∷ [])
 tables-store {s} {ks} {a} {b} {ks₁} {a₁} {b₁} {n} {seen} p e last m t c h g i w st =
     let f : Free ks a b m =
-    record { places = omega (arith, t .sizes .places); starts = omega (arith, t .sizes .starts); ends = omega (arith, t .sizes .ends) } in
-    rw (st .places, st .starts, st .ends) (record {
-      sizes = record { places = simp length-set (t .sizes .places); starts = simp length-set (t .sizes .starts); ends = simp length-set (t .sizes .ends) };
+    record { numbers = omega (arith, t .sizes .numbers); starts = omega (arith, t .sizes .starts); ends = omega (arith, t .sizes .ends) } in
+    rw (st .numbers, st .starts, st .ends) (record {
+      sizes = record { numbers = simp length-set (t .sizes .numbers); starts = simp length-set (t .sizes .starts); ends = simp length-set (t .sizes .ends) };
       bounds = bounds-set m e last (t .bounds) (f .starts) (f .ends) g i;
       listed = listed-more p e last m (t .listed) c f w;
     })
 
 -- the tables stay as long as they were
 pub record Kept (ks₀ a₀ b₀ ks a b : List ℕ) : Type 0 where
-  pub places : length ks ≡ length ks₀
+  pub numbers : length ks ≡ length ks₀
   pub starts : length a ≡ length a₀
   pub ends : length b ≡ length b₀
 
@@ -180,7 +180,7 @@ pub record Collecting (s : List ℕ) (d : Bool) (i : List ℕ) (n : ℕ) (ks₀ 
 
 pub collect-start : {s : List ℕ} {d : Bool} {i : List ℕ} {n at : ℕ} {ks a b : List ℕ} → Begun s d i n at ks a b → Collecting s d i n ks a b ks a b 1 at
 collect-start {s} {d} {i} {n} {at} z = record {
-  kept = record { places = refl; starts = refl; ends = refl };
+  kept = record { numbers = refl; starts = refl; ends = refl };
   few = z .count;
   small = z .small;
   inside = z .inside;
@@ -205,7 +205,7 @@ module _ {s : List ℕ} {d : Bool} {i : List ℕ} {n : ℕ} {ks₀ a₀ b₀ ks 
 
   pub collect-free : m < n → Free ks a b m
   collect-free h = record {
-    places = omega (arith, v .tables .sizes .places);
+    numbers = omega (arith, v .tables .sizes .numbers);
     starts = omega (arith, v .tables .sizes .starts);
     ends = omega (arith, v .tables .sizes .ends);
   }
@@ -287,7 +287,7 @@ module _ {s : List ℕ} {d : Bool} {i : List ℕ} {n : ℕ} {ks₀ a₀ b₀ ks 
           collect-go h st = record {
             few = v .few;
             kept = record {
-              places = ap length (st .places) ∙ (length-set ks m k ∙ v .kept .places);
+              numbers = ap length (st .numbers) ∙ (length-set ks m k ∙ v .kept .numbers);
               starts = ap length (st .starts) ∙ (length-set a m e ∙ v .kept .starts);
               ends = ap length (st .ends) ∙ (length-set b m last ∙ v .kept .ends);
             };
@@ -305,8 +305,8 @@ module _ {s : List ℕ} {d : Bool} {i : List ℕ} {n : ℕ} {ks₀ a₀ b₀ ks 
           }
 
 module _ {ks₀ a₀ b₀ ks a b : List ℕ} (v : Kept ks₀ a₀ b₀ ks a b) where
-  pub kept-places : length ks ≡ length ks₀
-  kept-places = v .places
+  pub kept-numbers : length ks ≡ length ks₀
+  kept-numbers = v .numbers
 
   pub kept-starts : length a ≡ length a₀
   kept-starts = v .starts
@@ -314,7 +314,7 @@ module _ {ks₀ a₀ b₀ ks a b : List ℕ} (v : Kept ks₀ a₀ b₀ ks a b) w
   pub kept-ends : length b ≡ length b₀
   kept-ends = v .ends
 
-pub ruleset kept-laws = (collect-kept, kept-places, kept-starts, kept-ends)
+pub ruleset kept-laws = (collect-kept, kept-numbers, kept-starts, kept-ends)
 
 pub ruleset collect-laws =
     (collect-start, collect-at, collect-fits, collect-free, collect-over, collect-stray, collect-within, collect-foreign, collect-place, collect-less, collect-many, collect-go)
@@ -323,14 +323,14 @@ pub ruleset collect-laws =
 
 module _ {ks a b : List ℕ} {n k : ℕ} (v : Wanted ks a b n k) where
   pub spot-part : n ≤ length ks
-  spot-part = v .sizes .places
+  spot-part = v .sizes .numbers
 
   pub spot-k : k ≤ 999
-  spot-k = v .place
+  spot-k = v .number
 
   module _ {c : ℕ} (x : CountIs k (take (n - 0) (drop 0 ks)) c) where
     first-n : length (take (n - 0) (drop 0 ks)) ≡ n
-    first-n = let z : n - 0 ≡ n = omega arith in ap (λ (j : ℕ). length (take j ks)) z ∙ length-take-le n ks (v .sizes .places)
+    first-n = let z : n - 0 ≡ n = omega arith in ap (λ (j : ℕ). length (take j ks)) z ∙ length-take-le n ks (v .sizes .numbers)
 
     pub spot-low : 1 ≤ c
     spot-low = count-one x (omega (arith, first-n, v .some))
@@ -338,8 +338,8 @@ module _ {ks a b : List ℕ} {n k : ℕ} (v : Wanted ks a b n k) where
     below : c - 1 < n
     below = omega (arith, spot-low, count-most x, first-n)
 
-    pub spot-place : c - 1 < length ks
-    spot-place = omega (arith, below, v .sizes .places)
+    pub spot-number : c - 1 < length ks
+    spot-number = omega (arith, below, v .sizes .numbers)
 
     pub spot-start : c - 1 < length a
     spot-start = omega (arith, below, v .sizes .starts)
@@ -374,7 +374,7 @@ module _ {ks a b : List ℕ} {n k : ℕ} (v : Wanted ks a b n k) where
       };
     }
 
-pub ruleset spot-laws = (spot-part, spot-k, spot-low, spot-place, spot-start, spot-end, spot-nowhere, spot-rows)
+pub ruleset spot-laws = (spot-part, spot-k, spot-low, spot-number, spot-start, spot-end, spot-nowhere, spot-rows)
 
 -- ---- the rows by k
 
@@ -446,7 +446,7 @@ module _ {d₀ d : List ℕ} {at : ℕ} {s ks a b : List ℕ} {n o k : ℕ} (v :
 
   module _ (h : k ≤ n) where
     pub gathering-wanted : Wanted ks a b n k
-    gathering-wanted = record { sizes = v .given .sizes; some = v .given .some; place = omega (arith, v .given .count) }
+    gathering-wanted = record { sizes = v .given .sizes; some = v .given .some; number = omega (arith, v .given .count) }
 
     step : (ps : List Part) → gather ps (n + 1 - k) k ≡ rowsOfPart (findPart k ps) (gather ps (n + 1 - (k + 1)) (k + 1))
     unfolding gather
@@ -461,7 +461,7 @@ module _ {d₀ d : List ℕ} {at : ℕ} {s ks a b : List ℕ} {n o k : ℕ} (v :
       pub gathering-missing : y ≡ Nowhere → FillIs d₀ d at s ks a b n Missing
       gathering-missing t = record {
         means = λ ps q l. v .going ps q l .left ∙ ap (rowsBefore (v .going ps q l .done))
-            (step ps ∙ ap (λ (p : Option Part). rowsOfPart p (gather ps (n + 1 - (k + 1)) (k + 1))) (spotted t ps q (l .places)));
+            (step ps ∙ ap (λ (p : Option Part). rowsOfPart p (gather ps (n + 1 - (k + 1)) (k + 1))) (spotted t ps q (l .numbers)));
         size = v .size;
       }
 
@@ -488,7 +488,7 @@ module _ {d₀ d : List ℕ} {at : ℕ} {s ks a b : List ℕ} {n o k : ℕ} (v :
           high = omega arith;
           small = omega (arith, u .next, span-length, gathering-high, v .given .small, v .small, v .low);
           size = u .size ∙ v .size;
-          going = λ ps q l. go ps l (v .going ps q l) (spot .found ps q (l .places));
+          going = λ ps q l. go ps l (v .going ps q l) (spot .found ps q (l .numbers));
         }
           where
             go : (ps : List Part) → Listed s ks a b ps → Going d₀ d at ps n o k → (p : Part) × (findPart k ps ≡ some p) × (pieceAfter (spot .index) ps ≡ some p)

@@ -27,7 +27,7 @@ use Rattle.join.specs.declared.Spot.{Spot}
 use Rattle.join.specs.declared.Spot.the-variants.{Rows, Nowhere}
 use Rattle.join.specs.declared.Filled.{Filled}
 use Rattle.join.specs.declared.Filled.the-variants.{Full, Short, Missing}
-use Rattle.join.specs.declared.Lead.{Lead}
+use Rattle.join.specs.declared.FirstOfSet.{FirstOfSet}
 use Rattle.join.specs.declared.Made.{Made}
 use Rattle.join.specs.declared.Made.the-variants.{Bytes, Large, No}
 use Rattle.division.specs.Join.{unmarked, Part, lastMark, partOf, partWith, allParts, agree, findPart, gather, onePiece, orSet, thenChecked}
@@ -222,19 +222,19 @@ pub record MemberIs (s : List ℕ) (e : ℕ) (side d : Bool) (i : List ℕ) (n :
 
 -- index i lies in all three
 pub record Free (ks a b : List ℕ) (i : ℕ) : Type 0 where
-  pub places : i < length ks
+  pub numbers : i < length ks
   pub starts : i < length a
   pub ends : i < length b
 
 -- what is stored there
 pub record Stored (ks a b : List ℕ) (i k from to : ℕ) (ks′ a′ b′ : List ℕ) : Type 0 where
-  pub places : ks′ ≡ set ks i k
+  pub numbers : ks′ ≡ set ks i k
   pub starts : a′ ≡ set a i from
   pub ends : b′ ≡ set b i to
 
 -- they have room for n parts
 pub record Sizes (n : ℕ) (ks a b : List ℕ) : Type 0 where
-  pub places : n ≤ length ks
+  pub numbers : n ≤ length ks
   pub starts : n ≤ length a
   pub ends : n ≤ length b
 
@@ -245,7 +245,7 @@ pub record Bounds (s : List ℕ) (n : ℕ) (a b : List ℕ) : Type 0 where
 
 -- the first entries are these parts
 pub record Listed (s ks a b : List ℕ) (ps : List Part) : Type 0 where
-  pub places : take (length ps) ks ≡ ksOf ps
+  pub numbers : take (length ps) ks ≡ ksOf ps
   pub bytes : (i : ℕ) (p : Part) → pieceAfter i ps ≡ some p → flat (p .rows) ≡ part s (getD a i 0) (getD b i 0)
 
 -- tables for n parts that have the first, which ends at a position
@@ -285,7 +285,7 @@ pub record CollectIs (s : List ℕ) (d : Bool) (i : List ℕ) (n : ℕ) (ks a b 
 pub record Wanted (ks a b : List ℕ) (n k : ℕ) : Type 0 where
   pub sizes : Sizes n ks a b
   pub some : 1 ≤ n
-  pub place : k ≤ 999
+  pub number : k ≤ 999
 
 -- its index in the tables, of whichever n parts they have
 pub record SpotAt (ks a b : List ℕ) (n k from to : ℕ) : Type 0 where
@@ -375,27 +375,27 @@ pub record GivenSet (d s ks a b : List ℕ) (n : ℕ) : Type 0 where
   pub count : n ≤ 999
 
 -- the first of a set of direction side as a part
-abbrev pub leadPart : List ℕ → Bool → Lead → List (List ℕ) → Part
-leadPart s side x lines = partBy side (identAt s (x .last)) (x .n) (x .k) lines
+abbrev pub firstPart : List ℕ → Bool → FirstOfSet → List (List ℕ) → Part
+firstPart s side x lines = partBy side (identAt s (x .mark)) (x .n) (x .k) lines
 
 -- the buffer, and the first of a set
-pub record First (d s : List ℕ) (side : Bool) (x : Lead) : Type 0 where
+pub record First (d s : List ℕ) (side : Bool) (x : FirstOfSet) : Type 0 where
   pub line : 13 ≤ length d
   pub small : length s ≤ 131072
   pub count : x .n ≤ 999
-  pub place : x .k ≤ 999
-  pub low : x .from ≤ x .last
-  pub ident : x .last + 18 ≤ x .stop
+  pub number : x .k ≤ 999
+  pub low : x .from ≤ x .mark
+  pub ident : x .mark + 18 ≤ x .stop
   pub high : x .stop ≤ length s
   pub lines : List (List ℕ)
-  pub bytes : flat lines ≡ part s (x .from) (x .last)
-  pub is : allParts (piecesIn (rows s)) ≡ partWith (some (leadPart s side x lines)) (allParts (piecesIn (rows (drop (x .stop) s))))
+  pub bytes : flat lines ≡ part s (x .from) (x .mark)
+  pub is : allParts (piecesIn (rows s)) ≡ partWith (some (firstPart s side x lines)) (allParts (piecesIn (rows (drop (x .stop) s))))
   pub over : goesOn (rows (drop (x .stop) s)) ≡ false
   pub sound : sound (rows s) ≡ unbroken (rows s)
   pub whole : unbroken (rows s) ≡ unbroken (rows (drop (x .stop) s))
 
 -- the same with tables for n pieces
-pub record FirstIn (d s : List ℕ) (side : Bool) (x : Lead) (ks a b : List ℕ) : Type 0 where
+pub record FirstIn (d s : List ℕ) (side : Bool) (x : FirstOfSet) (ks a b : List ℕ) : Type 0 where
   pub first : First d s side x
   pub more : 1 < x .n
   pub sizes : Sizes (x .n) ks a b
@@ -406,7 +406,7 @@ pub record Input (d s : List ℕ) : Type 0 where
   pub line : 13 ≤ length d
   pub small : length s ≤ 131072
 
--- a buffer as long as the input, or as the longest file
+-- a buffer no shorter than the input, or as long as the longest file
 pub record Holds (s d : List ℕ) : Type 0 where
   pub room : length d < length s → length d ≡ 65536
   pub line : 13 ≤ length d

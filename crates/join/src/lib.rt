@@ -210,7 +210,7 @@ fn read_lines(s: &[u8], from: usize) -> Lines
     Lines::Plain(at)
 }
 
-// A piece of a set: where its record 911 begins, where it ends, and its place.
+// A piece of a set: where its record 911 begins, where it ends, and its k.
 pub enum Member {
     Of(usize, usize, usize),
     Foreign,
@@ -289,11 +289,11 @@ fn collect(
                     Member::Foreign => {
                         return false;
                     }
-                    Member::Of(last, end, place) => {
+                    Member::Of(last, end, k) => {
                         if n <= m {
                             return false;
                         }
-                        store(ks, starts, ends, m, place, e, last);
+                        store(ks, starts, ends, m, k, e, last);
                         m += 1;
                         at = end;
                     }
@@ -323,15 +323,17 @@ fn find_rows(ks: &[u16], starts: &[usize], ends: &[usize], n: usize, k: usize) -
     Spot::Rows(starts[i], ends[i])
 }
 
+// The rows of pieces 1 to n in a buffer: the index after them.
 pub enum Filled {
     Full(usize),
-    // The buffer cannot hold them.
+    // The buffer cannot hold these rows.
     Short,
     // A k from 1 to n that no piece has.
     Missing,
 }
 
-// Bytes from an index on, where the buffer can hold them; the index after them in any case.
+// Bytes from an index on, where the buffer can hold them; the index after them in any case. 13 and 999 times 131,072 are less than the bound, so that the
+// sum fits.
 fn put_if_room(out: &mut [u8], at: usize, w: &[u8]) -> usize
     requires { ⌜ at + length (now w) ≤ 200000000 ⌝ }
     ensures { λ r. ⌜ PutIs (now (out .entry)) (now (out .exit)) at r (now (w .entry)) ⌝ }
@@ -343,7 +345,8 @@ fn put_if_room(out: &mut [u8], at: usize, w: &[u8]) -> usize
     buffers::put_all(out, at, w)
 }
 
-// The rows of pieces 1 to n, from an index on. A k that is missing goes before bytes that do not fit, so the search goes on after these.
+// The rows of pieces 1 to n, from an index on. 19 for a k that is missing comes before 1 for a file that is too long, so the pieces after one that does not
+// fit are looked for too.
 fn gather(
     out: &mut [u8],
     at: usize,
@@ -426,11 +429,11 @@ fn join_found(
 }
 
 // The first piece of a set: its n and k, and where its rows begin, its record 911 begins, and it ends.
-pub struct Lead {
+pub struct FirstOfSet {
     pub n: usize,
     pub k: usize,
     pub from: usize,
-    pub last: usize,
+    pub mark: usize,
     pub stop: usize,
 }
 
@@ -438,21 +441,21 @@ pub struct Lead {
 fn join_listed(
     s: &[u8],
     d: bool,
-    lead: Lead,
+    first: FirstOfSet,
     ks: &mut [u16],
     starts: &mut [usize],
     ends: &mut [usize],
     buf: &mut [u8],
 ) -> Made
-    requires { ⌜ FirstIn (now buf) (now s) d lead (now ks) (now starts) (now ends) ⌝ }
+    requires { ⌜ FirstIn (now buf) (now s) d first (now ks) (now starts) (now ends) ⌝ }
     ensures { λ r. ⌜ SoundIs (length (now (buf .entry))) (now (s .entry)) (orSet (joinParts (allParts (piecesIn (rows (now (s .entry))))))) (now (buf .exit)) r ⌝ }
 {
-    let n = lead.n;
-    let last = lead.last;
-    let stop = lead.stop;
-    store(ks, starts, ends, 0, lead.k, lead.from, last);
-    let x = last + 4;
-    let y = last + 18;
+    let n = first.n;
+    let mark = first.mark;
+    let stop = first.stop;
+    store(ks, starts, ends, 0, first.k, first.from, mark);
+    let x = mark + 4;
+    let y = mark + 18;
     if !collect(s, d, &s[x..y], n, stop, ks, starts, ends) {
         return Made::No(19, 0);
     }
@@ -465,12 +468,12 @@ const FEW: usize = 64;
 // "n (2–999, value)"
 const MOST: usize = 999;
 
-// The same with tables of its own.
-fn join_set(s: &[u8], d: bool, lead: Lead, buf: &mut [u8]) -> Made
-    requires { ⌜ First (now buf) (now s) d lead ⌝ }
+// The pieces as a set like its first, with tables of its own.
+fn join_set(s: &[u8], d: bool, first: FirstOfSet, buf: &mut [u8]) -> Made
+    requires { ⌜ First (now buf) (now s) d first ⌝ }
     ensures { λ r. ⌜ SoundIs (length (now (buf .entry))) (now (s .entry)) (orSet (joinParts (allParts (piecesIn (rows (now (s .entry))))))) (now (buf .exit)) r ⌝ }
 {
-    let n = lead.n;
+    let n = first.n;
     if n <= 1 {
         return Made::No(19, 0);
     }
@@ -478,12 +481,12 @@ fn join_set(s: &[u8], d: bool, lead: Lead, buf: &mut [u8]) -> Made
         let mut ks = [0u16; FEW];
         let mut starts = [0usize; FEW];
         let mut ends = [0usize; FEW];
-        return join_listed(s, d, lead, &mut ks, &mut starts, &mut ends, buf);
+        return join_listed(s, d, first, &mut ks, &mut starts, &mut ends, buf);
     }
     let mut ks = [0u16; MOST];
     let mut starts = [0usize; MOST];
     let mut ends = [0usize; MOST];
-    join_listed(s, d, lead, &mut ks, &mut starts, &mut ends, buf)
+    join_listed(s, d, first, &mut ks, &mut starts, &mut ends, buf)
 }
 
 // The pieces: one without a record 911, or a set.
@@ -497,14 +500,14 @@ fn join_pieces(s: &[u8], buf: &mut [u8]) -> Made
         Next::Opens(e, d) => match read_lines(s, e) {
             Lines::Wrong => Made::No(19, 0),
             Lines::Marked(last, stop, n, k) => {
-                let lead = Lead {
+                let first = FirstOfSet {
                     n: n,
                     k: k,
                     from: e,
-                    last: last,
+                    mark: last,
                     stop: stop,
                 };
-                join_set(s, d, lead, buf)
+                join_set(s, d, first, buf)
             }
             Lines::Plain(stop) => match next_piece(s, stop) {
                 Next::Opens(_, _) => Made::No(19, 0),
@@ -526,7 +529,7 @@ fn join_into(s: &[u8], buf: &mut [u8]) -> Made
     match join_pieces(s, buf) {
         Made::Bytes(t) => Made::Bytes(t),
         Made::Large => Made::Large,
-        Made::No(number, place) => {
+        Made::No(number, at) => {
             let line = broken_line(s);
             if line != 0 {
                 return Made::No(2, line);
@@ -534,13 +537,13 @@ fn join_into(s: &[u8], buf: &mut [u8]) -> Made
             if !starts_well(s) {
                 return Made::No(19, 0);
             }
-            Made::No(number, place)
+            Made::No(number, at)
         }
     }
 }
 
-// The joined file, checked, or the one refusal; file: an array for it, so that a refusal leaves the output as it was. It is as long as the input, which
-// no joined file exceeds, or as the longest file.
+// The joined file, checked, or the one refusal; file: an array for it, so that a refusal leaves the output as it was. It is no shorter than the input,
+// which no joined file exceeds, or it is as long as the longest file.
 fn join_by(pieces: &[u8], file: &mut [u8], out: &mut [u8]) -> Answer
     requires { ⌜ Holds (now pieces) (now file) ⌝ }
     ensures { λ r. ⌜ Gives (joinResult (now (pieces .entry))) (now (out .entry)) (now (out .exit)) r ⌝ }

@@ -1,17 +1,18 @@
 -- Examples, computed.
--- The k's of pieces as they lie, a k that is looked for, and the count; written from document 02 (iv). proofs/AllExamples.antt computes them.
+-- The k's of pieces as they lie, a k that is looked for, and the count; and three pieces out of order, which take 6 looks; written from document 02 (iv).
+-- proofs/AllExamples.antt computes them.
 use Prim.Native.Nat.{ℕ}
 use mathlib.Core.List.{List, [], _∷_}
 
-pub record Search : Type 0 where
+pub record Looked : Type 0 where
   pub wanted : ℕ
   pub ks : List ℕ
   pub count : ℕ
 
-abbrev pub search : ℕ → List ℕ → ℕ → Search
+abbrev pub search : ℕ → List ℕ → ℕ → Looked
 search k ks c = record { wanted = k; ks = ks; count = c }
 
-abbrev pub searches : List Search
+abbrev pub searches : List Looked
 searches =
     -- the first, the second, the last
     search 3 (3 ∷ 1 ∷ 2 ∷ []) 1
@@ -30,3 +31,6 @@ searches =
     -- equal in their last byte
     ∷ search 1 (257 ∷ 513 ∷ 1 ∷ []) 3
     ∷ []
+
+abbrev pub three : List ℕ
+three = 2 ∷ 3 ∷ 1 ∷ []

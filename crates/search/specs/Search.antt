@@ -42,7 +42,7 @@ Finds-the-piece =
 
 -- ---- over a whole set
 
--- 1 to n
+-- the numbers 1 to n, the greatest first
 unfoldable pub oneTo : ℕ → List ℕ
 oneTo zero = []
 oneTo (suc n) = suc n ∷ oneTo n

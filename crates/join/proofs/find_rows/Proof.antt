@@ -1,7 +1,7 @@
 use borrow.Author.Needs.{needs}
 use Prim.Native.Nat.{_-_}
 use lib.ListN.{length}
-use Rattle.join.proofs.SetLaws.{spot-laws, spot-low, spot-place, spot-start, spot-end, spot-nowhere, spot-rows}
+use Rattle.join.proofs.SetLaws.{spot-laws, spot-low, spot-number, spot-start, spot-end, spot-nowhere, spot-rows}
 use Rattle.join.proofs.find_rows.Statement.{statement}
 use Rattle.join.proofs.find_rows.Tie as tie
 use Rattle.join.proofs.find_rows.Reads as reads
@@ -30,7 +30,7 @@ mul-if1 : tie.Need-mul-if1
 mul-if1 c = search (needs, spot-laws)
 
 shared-slice-read-if1 : tie.Need-shared-slice-read-if1
-shared-slice-read-if1 c = search (needs, spot-place)
+shared-slice-read-if1 c = search (needs, spot-number)
 
 returns : tie.Need-returns
 returns c = search (needs, spot-nowhere)
