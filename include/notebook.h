@@ -29,10 +29,10 @@ extern "C" {
  * The version of this header: the major, the minor and the patch as text, and as major * 10000 + minor * 100 + patch. notebook_version
  * tells that of the library. A host should compare the two before other calls: a library of another version may take or fill otherwise
  * than is said here. The entries of an index grew with 0.4.0, and cut takes the used IDs from 0.5.0 on; from
- * 0.6.0 on the kana name of record 1 has to be in one script; from 0.7.0 on canonical and cut put groups of one day into one sequence.
+ * 0.6.0 on the kana name of record 1 has to be in one script.
  */
-#define NOTEBOOK_VERSION_STRING "0.7.0"
-#define NOTEBOOK_VERSION_NUMBER 700
+#define NOTEBOOK_VERSION_STRING "0.6.1"
+#define NOTEBOOK_VERSION_NUMBER 601
 
 /* Limits. */
 enum {
@@ -126,17 +126,15 @@ struct notebook_reply notebook_index(const uint8_t *file, size_t file_length, ui
 
 /*
  * Writes the canonical file: days in the form of the newest era that has begun, postal codes without hyphen, RP numbers and quantities
- * without leading zeros, no 1Ah; groups of one day by the institution code of their 11, its fourth item, smaller codes first, then those
- * without a code or an 11, and equals as they lie; all else as in the file.
+ * without leading zeros, no 1Ah; all else as in the file.
  * Result: a bytes; the first a bytes of out are the canonical file, those after them are as they were.
  * Refusals: 1 to 16; then 20 if out is shorter than the canonical file. out is as it was.
  */
 struct notebook_reply notebook_canonical(const uint8_t *file, size_t file_length, uint8_t *out, size_t out_length);
 
 /*
- * Cuts the canonical file into the fewest pieces of at most capacity bytes; its groups stay in the sequence that they have there, also
- * where another one would pack better. If it fits whole, it is the only piece, without a record 911; otherwise each of the 2 to 999 pieces
- * ends with 911, the ID, their count and its place.
+ * Cuts the canonical file into the fewest pieces of at most capacity bytes. If it fits whole, it is the only piece, without a record 911;
+ * otherwise each of the 2 to 999 pieces ends with 911, the ID, their count and its place.
  * used is the run of the IDs that have been used: 14 bytes each, one after another from its start, with nothing between them, in any
  * order and of any number. They are compared with the ID as bytes, and need not be digits; the ID across two of them is not in the run.
  * used_length counts bytes, and is 0 where no ID has been used. Pieces of two cuttings with one ID can be confused: a host gives every ID
@@ -153,7 +151,7 @@ struct notebook_reply notebook_cut(const uint8_t *file, size_t file_length, uint
 /*
  * Joins pieces that lie one after another in any order, with or without a 1Ah after each, and checks the joined file.
  * Result: a bytes; the first a bytes of out are the joined file, without records 911 and 1Ah, and those after them are as they were. Items
- * are spelled and groups stand as in the pieces: those that cut wrote join to the canonical file.
+ * are spelled as in the pieces: those that cut wrote join to the canonical file.
  * Refusals: 1 and 2 on the pieces, with the line counted over all of them; then 19 if they are not one whole set; then 1 to 16 on the
  * joined file, with its line; then 20 if out is shorter than the joined file. out is as it was.
  */

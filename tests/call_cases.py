@@ -17,9 +17,8 @@ import zlib
 import make_cases
 import oracle
 from make_cases import (
-    ADVICE, ARRANGED, CHANGE, CODES, DATE, DOCTOR, GOOD, HOSPITAL, ITEMS, KEEPER, NUMBERS, PATIENT,
-    PHARMACY, PRESCRIBER, alone, changed, drug, file, named, note, raw, to_patient, to_provider,
-    under, usage, visit, visits)
+    ADVICE, CHANGE, DATE, DOCTOR, GOOD, HOSPITAL, ITEMS, KEEPER, NUMBERS, PATIENT, PHARMACY,
+    PRESCRIBER, alone, changed, drug, file, named, note, raw, to_patient, to_provider, under, usage)
 
 # The calls that the program answers. A call that the gateway does not export
 # yet is left out here; its families then make no frames.
@@ -254,45 +253,6 @@ MIXED = [
     ("40 bytes of both", "ア" * 19 + "あ")]
 
 
-# 02 (ix): what stands before the groups and after them, and is not moved.
-HEAD = ["1,A,1,H010108,,,,,,,", "2,1,z,2", "2,1,y,2", "3,z,,,2", "3,y,,,2", "4,z,,2", "4,y,,2"]
-TAIL = ["701,z,x,x,,,1", "701,y,x,x,,,1"]
-
-
-def full_visit(code, mark, day="H280411", rp="1", postal_code=""):
-    """A group with every record, good in both directions; each has the mark."""
-    return ["5,%s,1" % day, "11,%s,13,4,%s,%s,,,1" % (mark, code, postal_code), "15,%s,,1" % mark,
-            "51,%s,13,1,,1" % mark, "55,%s,,1" % mark, "201,%s,%s,1,x,1,,1" % (rp, mark),
-            "281,%s,%s,1" % (rp, mark), "291,%s,%s,1" % (rp, mark), usage(rp, mark),
-            "311,%s,%s,1" % (rp, mark), "391,%s,%s,1" % (rp, mark), "401,%s,1" % mark,
-            "411,%s,30,1" % mark, "501,%s,1" % mark, "601,%s," % mark]
-
-
-# Where the arrangement packs worse: record 1 of 22 bytes, then 13, 21, 9, 9, 9, and 13, 21. As they
-# lie they fill six pieces of 23 bytes for records; arranged they need seven.
-SIX_UNARRANGED = [
-    ["1,A,1,H010108,,,,,,,"], ["5,H280411,1"], ["11,x,,,1310002,,,,1"], ["15,x,,1", "401,x,1"],
-    ["501,x,1", "5,H280411,1"], ["11,x,,,1310001,,,,1"]]
-SEVEN_ARRANGED = [
-    ["1,A,1,H010108,,,,,,,"], ["5,H280411,1"], ["11,x,,,1310001,,,,1"], ["5,H280411,1"],
-    ["11,x,,,1310002,,,,1"], ["15,x,,1", "401,x,1"], ["501,x,1"]]
-
-# Where it leaves none: at 61 a record of 23 bytes has room only beside a k of one digit if n has two
-# digits, and arranged it comes after more than nine others that need pieces of their own.
-LONG_ADVICE = "401,%s,1" % ("x" * 15)  # 23 bytes with its line end
-OTHER_ADVICE = ["401,%s,1" % (sign * 14) for sign in "abcdefghi"]  # 22 bytes each
-FOURTEEN_UNARRANGED = [
-    [line] for line in ["1,A,1,H010108,,,,,,,", "5,H280411,1", LONG_ADVICE, "5,H280411,1",
-                        "11,x,,,1310001,,,,1", *OTHER_ADVICE]]
-NONE_ARRANGED = ["1,A,1,H010108,,,,,,,", "5,H280411,1", "11,x,,,1310001,,,,1", *OTHER_ADVICE,
-                 "5,H280411,1", LONG_ADVICE]
-
-
-def flat(runs):
-    """The lines of some runs or groups, one after another."""
-    return list(itertools.chain(*runs))
-
-
 def with_records(direction, item):
     """Every record once, with this kana name."""
     return file(direction, *(named(item) if n == 1 else GOOD[n] for n in NUMBERS))
@@ -469,28 +429,6 @@ def clinics(given):
           clinics=[(at + 1, at + 2, at + 1) for at in starts], each=accepted)
 
 
-def days_as_they_lie(given):
-    """02 (ix) is of the canonical file: an index shows the groups as they lie."""
-    for words, _ in ARRANGED[:12]:
-        lines = visits(words)
-        ranges, group = [], 0
-        for line, text in enumerate(lines, 3):
-            group += text.startswith("5,")
-            ranges.append((line, line, group))
-        given("one day, %s" % words, to_provider(PATIENT, *lines), ranges, each=accepted)
-    # Every number by hand: the second group would be the first.
-    in_buffers("index", "one day, a clinic in each group",
-               to_provider(ONE, "5,H280411,1", "11,x,,,1310002,,,,1", PRESCRIBER, DATE,
-                           "11,x,,,1310001,,,,1", PRESCRIBER), "7",
-               [1, 13, 20, 0, 0, 0, 0, 5, 35, 11, 1, 0, 0, 0, 11, 48, 19, 1, 0, 0, 0,
-                51, 69, 12, 1, 0, 0, 5, 5, 83, 12, 2, 0, 0, 0, 11, 97, 19, 2, 0, 0, 0,
-                51, 118, 12, 2, 0, 0, 8])
-    given("one day, every record of two groups",
-          to_provider(*HEAD, *full_visit(CODES["B"], "b"), *full_visit(CODES["A"], "a"), *TAIL),
-          [(9, 23, 1), (24, 38, 2)], [(14, 19, 13), (29, 34, 28)], [(15, 16, 14), (30, 31, 29)],
-          [(12, 23, 12), (27, 38, 27)])
-
-
 def rooms_of_four_records():
     """02 (v): "The index buffer needs seven numbers a record": 28 for four."""
     content = to_provider(PATIENT, DATE, PRESCRIBER, "601,x,")
@@ -619,7 +557,6 @@ def index():
                      PRESCRIBER, drug(), usage(), KEEPER),
           [(2, 7, 1), (8, 12, 2)], [(6, 7, 5)], [], [(4, 7, 4), (10, 12, 10)])
     clinics(given)
-    days_as_they_lie(given)
     rooms_of_four_records()
     around_64_records()
     refused_with_clinics()
@@ -720,294 +657,6 @@ def days_of_2019(given):
           to_provider(ONE, *(memo.replace("H31", "R01") for memo in memos)))
 
 
-def sequences(words):
-    """Every sequence of some groups of one day, and how it stands: those with a code as they are
-    given here, then the others in the file's sequence."""
-    for order in itertools.permutations(words):
-        coded = [word for word in words if word[0] not in "-."]
-        yield " ".join(order), " ".join(coded + [word for word in order if word[0] in "-."])
-
-
-def arranged_groups(given):
-    """02 (ix): "groups of equal day now stand by the institution code of record 11"."""
-    def moved(label, lines, result, each=accepted):
-        given("one day, " + label, to_provider(ONE, *lines), to_provider(ONE, *result), each)
-
-    for words, result in ARRANGED:
-        moved(words, visits(words), visits(result), in_buffers)
-        moved(words + ", arranged", visits(result), visits(result))
-        given("one day, %s, 1A" % words, to_provider(PATIENT, *visits(words)) + b"\x1a",
-              to_provider(ONE, *visits(result)))
-        if "." not in words:
-            given("one day, %s, direction 1" % words, to_patient(*visits(words, 1), *TAIL) + b"\x1a",
-                  to_patient(*visits(result, 1), *TAIL))
-    for words, result in ARRANGED[1:48:3]:
-        given("one day, %s, around" % words, to_provider(*HEAD, *visits(words), *TAIL),
-              to_provider(*HEAD, *visits(result), *TAIL))
-    for groups in ("A1 B2 C3", "A1 B2 -3", "A1 B2 .3", "A1 -2 .3", "A1 B2 C3 D4", "A1 B2 -3 .4",
-                   "A1 B2 .3 .4", "A1 -2 .3 -4"):
-        for words, result in sequences(groups.split()):
-            moved("all orders of %s, %s" % (groups, words), visits(words), visits(result))
-    codes_by_bytes(moved)
-    days_that_are_one(moved)
-    codes_elsewhere(moved)
-    whole_groups_move(given)
-    many_groups(given)
-    arranged_sizes(given)
-
-
-def codes_by_bytes(moved):
-    """ "smaller bytes first": the first digit that differs decides."""
-    for at in range(7):
-        small, large = "5" * at + "4" + "5" * (6 - at), "5" * at + "6" + "5" * (6 - at)
-        small_tail, large_tail = "5" * at + "4" + "9" * (6 - at), "5" * at + "5" + "0" * (6 - at)
-        for one, other in [(small, large), (small_tail, large_tail)]:
-            first, second = visit(one, "1", "H280411"), visit(other, "2", "H280411")
-            moved("%s after %s" % (one, other), second + first, first + second)
-            moved("%s before %s" % (one, other), first + second, first + second)
-    codes = ["0000000", "0000001", "0000010", "0999999", "1000000", "9000000", "9999998", "9999999"]
-    groups = [visit(code, "x", "H280411") for code in codes]
-    moved("codes from 9999999 to 0000000", flat(groups[::-1]), flat(groups), in_buffers)
-    moved("codes by every third", flat(groups[3 * k % 8] for k in range(8)), flat(groups))
-    # 0000000 is a code, and comes before all others; an empty one comes after 9999999.
-    ends = [visit("0000000", "1", "H280411"), visit("9999999", "2", "H280411"),
-            visit("", "3", "H280411")]
-    for order in itertools.permutations(range(3)):
-        moved("0000000, 9999999 and no code, order %d%d%d" % order,
-              flat(ends[k] for k in order), flat(ends))
-
-
-def days_that_are_one(moved):
-    """ "groups of equal day": as days, however they are spelled."""
-    before, day, after = CHANGE
-    for one, other in itertools.product(day, repeat=2):
-        lines = [visit("1310002", "1", one), visit("1310001", "2", other)]
-        result = [visit("1310001", "2", day[0]), visit("1310002", "1", day[0])]
-        moved("B of %s, A of %s" % (one, other), flat(lines), flat(result))
-        lines = [visit("1310001", "1", one), visit(None, "2", other), visit("1310001", "3", one)]
-        result = [visit("1310001", "1", day[0]), visit("1310001", "3", day[0]),
-                  visit(None, "2", day[0])]
-        moved("A of %s, none of %s, A" % (one, other), flat(lines), flat(result))
-    for spelled in itertools.permutations(day):
-        lines = [visit(CODES[sign], sign, one) for sign, one in zip("CBA", spelled)]
-        moved("C, B and A of " + " ".join(spelled), flat(lines),
-              flat(visit(CODES[sign], sign, day[0]) for sign in "ABC"), in_buffers)
-    # The days beside it are others: nothing is exchanged, in whichever spelling.
-    for newer, older in [(after, day), (day, before)]:
-        for one, other in itertools.product(newer, older):
-            moved("B of %s, then A of %s" % (one, other),
-                  visit("1310002", "1", one) + visit("1310001", "2", other),
-                  visit("1310002", "1", newer[0]) + visit("1310001", "2", older[0]))
-    # Runs of the three days in several spellings.
-    lines = [visit(CODES[sign], mark, one) for sign, mark, one in [
-        ("B", "1", "20190502"), ("A", "2", "H310502"), ("C", "3", "H310501"), ("-", "4", "R010501"),
-        ("A", "5", "20190501"), ("B", "6", "20190430"), ("A", "7", "H310430")]]
-    result = [visit(CODES[sign], mark, one) for sign, mark, one in [
-        ("A", "2", "R010502"), ("B", "1", "R010502"), ("A", "5", "R010501"), ("C", "3", "R010501"),
-        ("-", "4", "R010501"), ("A", "7", "H310430"), ("B", "6", "H310430")]]
-    moved("runs of three days around the change", flat(lines), flat(result), in_buffers)
-    for written, *others in DAYS:
-        for one in others:
-            moved("B of %s, A of %s, an end" % (one, written),
-                  visit("1310002", "1", one) + visit("1310001", "2", written),
-                  visit("1310001", "2", written) + visit("1310002", "1", written))
-
-
-def codes_elsewhere(moved):
-    """Only the 11's fourth item counts."""
-    day = "5,H280411,1"
-
-    def both(label, first, second, exchanged):
-        """Two groups of these records; whether the second comes first once arranged."""
-        first, second = [day, *first], [day, *second]
-        moved(label, first + second, second + first if exchanged else first + second)
-
-    at, no_code = "11,x,,,%s,,,,1", "11,x,,,,,,,1"
-    clinic = "51,x,,,%s,1"
-    both("codes of 51s fall, no 11s", [clinic % "1310002"], [clinic % "1310001"], False)
-    both("codes of 51s fall, 11s without", [no_code, clinic % "1310002"],
-         [no_code, clinic % "1310001"], False)
-    both("codes of 51s fall, one 11", [at % "1310003", clinic % "1310002"],
-         [at % "1310003", clinic % "1310001"], False)
-    both("codes of 51s rise, of 11s fall", [at % "1310002", clinic % "1310001"],
-         [at % "1310001", clinic % "1310002"], True)
-    both("codes of 51s fall, of 11s rise", [at % "1310001", clinic % "1310002"],
-         [at % "1310002", clinic % "1310001"], False)
-    both("a 51's code before an 11's", [clinic % "1310001"], [at % "1310002"], True)
-    both("a 51's code in an 11 without, before an 11's", [no_code, clinic % "1310001"],
-         [at % "1310002"], True)
-    both("a 51's code after an 11's", [at % "1310002"], [clinic % "1310001"], False)
-    # The other items of an 11, and records that have such digits.
-    for label, record in [
-        ("name", "11,1310001,,,,,,,1"), ("prefecture and kind", "11,x,01,1,,,,,1"),
-        ("postal code", "11,x,,,,1310001,,,1"), ("address", "11,x,,,,,1310001,,1"),
-        ("telephone", "11,x,,,,,,1310001,1"), ("author", "11,x,,,,,,,2"),
-        ("15", "15,1310001,1310001,1"), ("401", "401,1310001,1"), ("501", "501,1310001,1"),
-        ("601", "601,1310001,"), ("201", "201,1,1310001,1310,1310001,2,1310001,1"),
-    ]:
-        both("the %s has a code" % label, [record], [at % "1310002"], True)
-        both("the %s has a code, twice" % label, [record.replace("0001", "0002")], [record], False)
-    both("names fall, codes rise", ["11,z,,,1310001,,,,1"], ["11,a,,,1310002,,,,1"], False)
-    both("names rise, codes fall", ["11,a,,,1310002,,,,1"], ["11,z,,,1310001,,,,1"], True)
-    both("prefectures fall, codes are one", ["11,x,47,,1310001,,,,1"], ["11,x,01,,1310001,,,,1"],
-         False)
-    both("kinds fall, codes are one", ["11,x,,4,1310001,,,,1"], ["11,x,,1,1310001,,,,1"], False)
-    both("a short group after a long one", [at % "1310002", *["501,x,1"] * 9], [at % "1310001"], True)
-    both("a long group after a short one", [at % "1310002"], [at % "1310001", *["501,x,1"] * 9], True)
-    # The author of a 5 is an item as others are.
-    for authors in itertools.product("1289", repeat=2):
-        days = ["5,H280411,%s" % author for author in authors]
-        moved("authors %s%s, codes fall" % authors, [days[0], at % "1310002", days[1], at % "1310001"],
-              [days[1], at % "1310001", days[0], at % "1310002"])
-        moved("authors %s%s, no codes" % authors, days, days)
-
-
-def whole_groups_move(given):
-    """Every record goes with its group, and is spelled as before."""
-    a, b, c = (full_visit(CODES[sign], sign) for sign in "ABC")
-    none = full_visit("", "z")
-    for direction in (1, 2):
-        for label, lines, result in [
-            ("B A", b + a, a + b), ("A B", a + b, a + b), ("C B A", c + b + a, a + b + c),
-            ("- B A", none + b + a, a + b + none), ("B - A", b + none + a, a + b + none),
-        ]:
-            label = "one day, every record, %s, direction %d" % (label, direction)
-            given(label, file(direction, *HEAD, *lines, *TAIL),
-                  file(direction, *HEAD, *result, *TAIL), in_buffers)
-    # Spellings change the lengths of groups: 20160411, 001 and a hyphen are longer.
-    spelled = full_visit(CODES["B"], "B", "20160411", "001", "105-0004")
-    written = full_visit(CODES["B"], "B", "H280411", "1", "1050004")
-    for direction in (1, 2):
-        for label, lines, result in [("longer first", spelled + a, a + written),
-                                     ("longer last", c + spelled, written + c),
-                                     ("longer between", c + spelled + a, a + written + c)]:
-            given("one day, respelled and moved, %s, direction %d" % (label, direction),
-                  file(direction, PATIENT, *lines, *TAIL) + b"\x1a",
-                  file(direction, ONE, *result, *TAIL), in_buffers)
-    # Direction 1: a pharmacy with its 51, a hospital and a dentist without; RPs begin anew.
-    pharmacy = ["5,H280411,1", "11,x,13,4,1310003,,,,1", PRESCRIBER, DOCTOR, drug(), usage(), drug(2),
-                usage(2)]
-    hospital = ["5,H280411,1", "11,x,13,1,1310002,,,,1", drug(), usage(), drug(2), usage(2)]
-    dentist = ["5,H280411,1", "11,x,13,3,1310001,,,,1", ADVICE]
-    for order in itertools.permutations([pharmacy, hospital, dentist]):
-        label = " ".join(one[1].split(",")[4][-1] for one in order)
-        given("one day, pharmacy 3, hospital 2, dentist 1 as %s" % label, to_patient(*flat(order)),
-              to_patient(*dentist, *hospital, *pharmacy))
-    # A clinic, a doctor and RPs of one group are not those of the next.
-    with_doctor = ["5,H280411,1", "11,x,,,1310002,,,,1", PRESCRIBER, DOCTOR, drug(), drug(2),
-                   note(281, 2)]
-    without = ["5,H280411,1", "11,x,,,1310001,,,,1", drug(), note(291)]
-    given("one day, a doctor in the group that moves back", to_provider(ONE, *with_doctor, *without),
-          to_provider(ONE, *without, *with_doctor), in_buffers)
-    # 8-digit days beside the groups stay where they are.
-    given("one day, days around the groups",
-          to_provider(PATIENT, "4,x,20160411,2", *visits("B1 A2"), "701,x,x,x,20160411,,1"),
-          to_provider(ONE, "4,x,H280411,2", *visits("A2 B1"), "701,x,x,x,H280411,,1"))
-    given("one day, the file of 130 bytes", to_provider(*flat(SIX_UNARRANGED)),
-          to_provider(*flat(SEVEN_ARRANGED)), in_buffers)
-
-
-def falling_codes(count):
-    """Groups of one day whose codes fall; each is 34 bytes."""
-    return [["5,H280411,1", "11,x,,,%07d,,,,1" % (9000000 - 7 * k)] for k in range(count)]
-
-
-def many_groups(given):
-    """As many groups of one day as a file can have, and as many with codes."""
-    # Authors tell the groups apart, and the last of all has the only code: it comes first.
-    groups = ["5,H280411,%s" % "1289"[k * k % 7 % 4] for k in range(5035)]
-    coded = ["5,H280411,1", "11,x,,,1310001,,,,1"]
-    content = to_provider(ONE, *groups, *coded)
-    assert len(content) == 65524
-    given("one day, 5036 groups, the last with a code", content, to_provider(ONE, *coded, *groups))
-    groups = falling_codes(1926)
-    content = to_provider(ONE, *flat(groups))
-    assert len(content) == 65519
-    given("one day, 1926 groups, codes falling", content, to_provider(ONE, *flat(groups[::-1])))
-    # Counts around powers of 2: falling, in sequence, and jumping about.
-    for count in (5, 7, 8, 9, 16, 17, 33, 64):
-        groups = falling_codes(count)
-        result = to_provider(ONE, *flat(groups[::-1]))
-        for label, lines in [("falling", groups), ("rising", groups[::-1]),
-                             ("every third", [groups[(3 * k + 1) % count] for k in range(count)]
-                              if count % 3 else groups[count // 2 :] + groups[: count // 2])]:
-            given("one day, %d groups, codes %s" % (count, label), to_provider(ONE, *flat(lines)),
-                  result)
-        # Two codes by turns: each half keeps the file's sequence.
-        ones = [visit(CODES["AB"[k % 2 == 0]], "%d" % k, "H280411") for k in range(count)]
-        given("one day, %d groups, two codes by turns" % count, to_provider(ONE, *flat(ones)),
-              to_provider(ONE, *flat(ones[1::2]), *flat(ones[::2])))
-        # Some without an 11, among falling codes.
-        groups = falling_codes(count)
-        none = [["5,H280411,%s" % "1289"[k % 4], "601,%d," % k] for k in range(0, count, 3)]
-        mixed = [none[k // 3] if k % 3 == 0 else one for k, one in enumerate(groups)]
-        coded = [one for k, one in enumerate(groups) if k % 3]
-        given("one day, %d groups, every third without an 11" % count, to_provider(ONE, *flat(mixed)),
-              to_provider(ONE, *flat(coded[::-1]), *flat(none)))
-    # Days of four groups each.
-    for count in (2, 5, 12):
-        days = ["H2804%02d" % (30 - k) for k in range(count)]
-        lines = [visit(CODES[sign], mark, day) for day in days
-                 for sign, mark in [("B", "1"), ("A", "2"), ("A", "3"), ("B", "4")]]
-        result = [visit(CODES[sign], mark, day) for day in days
-                  for sign, mark in [("A", "2"), ("A", "3"), ("B", "1"), ("B", "4")]]
-        given("one day, %d days of four groups" % count, to_provider(ONE, *flat(lines)),
-              to_provider(ONE, *flat(result)))
-
-
-def sized(size):
-    """Groups whose codes fall, and a text in the first of them, that are a file of so many bytes with
-    ONE. Whichever way they lie, all of them but the text's are of one size."""
-    groups = falling_codes((size - 35 - 8) // 34)
-    groups[0].append("601,%s," % ("p" * (size - 35 - 34 * len(groups) - 7)))
-    return groups
-
-
-def sized_and_respelled(size):
-    """As sized(), with a postal code in each 11: as 8-digit days and hyphens spell them, and as the
-    canonical file has them, which is of this size; two bytes less a group, and one for record 1."""
-    count = (size - 35 - 8) // 41
-    text = "601,%s," % ("p" * (size - 35 - 41 * count - 7))
-
-    def spelled(day, postal_code):
-        groups = [["5,%s,1" % day, "11,x,,,%07d,%s,,,1" % (9000000 - 7 * k, postal_code)]
-                  for k in range(count)]
-        groups[0].append(text)
-        return groups
-
-    content = to_provider(PATIENT, *flat(spelled("20160411", "105-0004")))
-    after = to_provider(ONE, *flat(spelled("H280411", "1050004")[::-1]))
-    assert len(after) == size and len(content) == size + 2 * count + 1
-    return content, after
-
-
-AROUND = (2047, 2048, 2049, 16383, 16384, 16385)
-
-
-def arranged_sizes(given):
-    """Files out of sequence of 2,048 and 16,384 bytes, one less and one more; and longer ones whose
-    canonical files are of such a size."""
-    for size in AROUND:
-        groups = sized(size)
-        content, after = (to_provider(ONE, *flat(lines)) for lines in (groups, groups[::-1]))
-        assert len(content) == size == len(after)
-        given("one day, %d bytes" % size, content, after, in_buffers if size == 2048 else accepted)
-        if size < 3000:
-            given("one day, %d bytes and 1A" % size, content + b"\x1a", after)
-    for size in (2047, 2048, 16384):
-        content, after = sized_and_respelled(size)
-        given("one day, %d bytes for %d" % (len(content), size), content, after)
-
-
-def faults_as_they_lie(call, **rest):
-    """A refusal has the line of the file as it lies, and comes before 20."""
-    for label, content, answer in make_cases.ONE_DAY:
-        if answer.startswith("no"):
-            for room in (0, len(content), len(content) + 5):
-                refused(call, "%s, room %d" % (label.replace(": ", ", "), room), content, answer,
-                        room=room, **rest)
-
-
 def canonical():
     def given(label, content, result, each=accepted):
         each("canonical", label, content, "%d" % len(result), result)
@@ -1088,9 +737,6 @@ def canonical():
                   with_records(direction, item) + b"\x1a",
                   with_records(direction, item).replace(b"20160411", b"H280411"))
     mixed_kana("canonical", len)
-
-    arranged_groups(given)
-    faults_as_they_lie("canonical")
 
     of_check("canonical")
     for label, content, _ in spread(check_cases()["ok"], 160):
@@ -1369,141 +1015,6 @@ def used_ids():
     no("used, 139999 bytes of others", longest[:-1], room=200)
 
 
-def cut_arranged(given, no):
-    """02 (ix): what is cut is the arranged file, and the number of pieces and 18 are its own."""
-    # Records of 22 bytes, then 13, 21 and 8 a group; 37 are left for the rest. Whichever way the
-    # two groups lie, the pieces are those of A B.
-    lines = [ONE, *visits("A1 B2")]
-    assert len(to_provider(*lines)) == 119
-    for words in ("B2 A1", "A1 B2"):
-        for end in (b"", b"\x1a"):
-            label = "one day, %s%s, " % (words, ", 1A" if end else "")
-            content = to_provider(PATIENT, *visits(words)) + end
-            given(label + "119", content, 119, [to_provider(*lines)])
-            for capacity, ends in [(118, [5]), (101, [4]), (80, [2, 5]), (79, [2, 5]),
-                                   (78, [2, 4, 6]), (59, [1, 2, 3, 5, 6])]:
-                given(label + "%d" % capacity, content, capacity, pieces_ending(lines, ends))
-            for capacity in (58, 37, 0):
-                no(label + "%d" % capacity, content, capacity, "no 18 0", room=400)
-                no(label + "%d, no buffer" % capacity, content, capacity, "no 18 0", room=0)
-    # All that is cut is what would be cut of the arranged file.
-    for words, result in ARRANGED:
-        content, after = to_provider(PATIENT, *visits(words)), to_provider(ONE, *visits(result))
-        given("one day, %s, whole" % words, content, len(after), [after], each=accepted)
-        for capacity in (len(after) - 1, len(after) // 2 + 30, 64):
-            pieces = oracle.pieces_of(after, capacity, ID)
-            if pieces:
-                given("one day, cut of %s, %d" % (words, capacity), content, capacity, pieces,
-                      each=accepted)
-        if "." not in words:
-            content, after = (to_patient(*visits(one, 1)) for one in (words, result))
-            given("one day, cut of %s, direction 1" % words, content, 80,
-                  oracle.pieces_of(after, 80, ID), each=accepted)
-    for order in itertools.permutations("A1 B2 C3".split()):
-        for capacity, ends in [(105, [4, 8]), (79, [2, 5, 8]), (60, [1, 2, 3, 5, 6, 8, 9])]:
-            given("one day, %s, %d" % (" ".join(order), capacity),
-                  to_provider(ONE, *visits(" ".join(order))), capacity,
-                  pieces_ending([ONE, *visits("A1 B2 C3")], ends), each=accepted)
-    # One day in three spellings, authors of 5s that go with their groups, and codes of 51s, which do
-    # not count.
-    written = [ONE, *flat(visit(CODES[sign], sign, CHANGE[1][0]) for sign in "ABC")]
-    for spelled in itertools.permutations(CHANGE[1]):
-        groups = [visit(CODES[sign], sign, one) for sign, one in zip("CBA", spelled)]
-        given("one day, C, B and A of %s, 79" % " ".join(spelled), to_provider(PATIENT, *flat(groups)),
-              79, pieces_ending(written, [2, 5, 8]), each=accepted)
-    a, b = ["5,H280411,2", "11,x,,,1310001,,,,1"], ["5,H280411,8", "11,x,,,1310002,,,,1"]
-    for label, lines in [("8 2", b + a), ("2 8", a + b)]:
-        given("one day, authors %s, 59" % label, to_provider(ONE, *lines), 59,
-              list_of(2, [[line] for line in [ONE, *a, *b]]), each=accepted)
-    day, clinic = "5,H280411,1", "51,x,,,%s,1"
-    for label, lines, result in [
-        ("no 11s", [day, clinic % "1310002", day, clinic % "1310001"], None),
-        ("one 11", [day, clinic % "1310001", day, a[1]], [day, a[1], day, clinic % "1310001"]),
-    ]:
-        given("one day, codes of 51s, %s, 59" % label, to_provider(ONE, *lines), 59,
-              list_of(2, [[line] for line in [ONE, *(result or lines)]]), each=accepted)
-    # "another sequence may pack better": six pieces hold the file as it lies.
-    assert len(to_provider(*flat(SIX_UNARRANGED))) == 130
-    for label, lines in [("as it lies", SIX_UNARRANGED), ("arranged", SEVEN_ARRANGED)]:
-        content = to_provider(*flat(lines))
-        given("one day, seven for six, %s, 60" % label, content, 60, list_of(2, SEVEN_ARRANGED))
-        given("one day, seven for six, %s, 130" % label, content, 130,
-              [to_provider(*flat(SEVEN_ARRANGED))])
-        for capacity in range(56, 130):
-            pieces = oracle.pieces_of(to_provider(*flat(SEVEN_ARRANGED)), capacity, ID)
-            label_of = "one day, seven for six, %s, capacity %d" % (label, capacity)
-            if pieces:
-                given(label_of, content, capacity, pieces, each=accepted)
-            else:
-                no(label_of, content, capacity, "no 18 0", room=500)
-    # The other way, with the codes exchanged: arranged it needs six, as it lies it would need seven.
-    def exchanged(runs):
-        return [[line.replace("0001", "000x").replace("0002", "0001").replace("000x", "0002")
-                 for line in run] for run in runs]
-
-    given("one day, six for seven, 60", to_provider(*flat(exchanged(SEVEN_ARRANGED))), 60,
-          list_of(2, exchanged(SIX_UNARRANGED)))
-    # No width serves the arranged file, though 14 pieces hold the file as it lies.
-    content = to_provider(*flat(FOURTEEN_UNARRANGED))
-    assert max(map(len, list_of(2, FOURTEEN_UNARRANGED))) == 61
-    for label, lines in [("as it lies", flat(FOURTEEN_UNARRANGED)), ("arranged", NONE_ARRANGED)]:
-        no("one day, 18 for fourteen, %s, 61" % label, to_provider(*lines), 61, "no 18 0", room=1000)
-        given("one day, 18 for fourteen, %s, 62" % label, to_provider(*lines), 62,
-              list_of(2, [[line] for line in NONE_ARRANGED]))
-    # The same records with the long one in the group that has a code: it comes early, and 14 serve.
-    early = [ONE, "5,H280411,1", "11,x,,,1310001,,,,1", LONG_ADVICE, "5,H280411,1", *OTHER_ADVICE]
-    late = [ONE, "5,H280411,1", *OTHER_ADVICE, "5,H280411,1", "11,x,,,1310001,,,,1", LONG_ADVICE]
-    given("one day, fourteen for 18, 61", to_provider(*late), 61,
-          list_of(2, [[line] for line in early]))
-    # 17 and 24 come before 18.
-    for label, ident, used, answer in [("a wrong ID", b"1", b"", "no 17 0"),
-                                       ("a used ID", ID, ID, "no 24 0")]:
-        for capacity in (61, UNBOUNDED):
-            refused("cut", "one day, %s, %d" % (label, capacity), content, answer, room=1000,
-                    capacity=capacity, ident=ident, used=used)
-    # Every record of two groups, and 500 groups whose codes fall.
-    a, b = (full_visit(CODES[sign], sign) for sign in "AB")
-    for direction in (1, 2):
-        content = file(direction, *HEAD, *b, *a, *TAIL)
-        after = file(direction, *HEAD, *a, *b, *TAIL)
-        for capacity in (len(after), len(after) - 1, 200, 100, 70):
-            given("one day, every record, %d, direction %d" % (capacity, direction), content, capacity,
-                  oracle.pieces_of(after, capacity, ID))
-    groups = falling_codes(500)
-    after = to_provider(ONE, *flat(groups[::-1]))
-    for capacity in (500, 105):
-        given("one day, 500 groups, codes falling, %d" % capacity, to_provider(ONE, *flat(groups)),
-              capacity, oracle.pieces_of(after, capacity, ID), each=accepted)
-    groups = falling_codes(1926)
-    pieces = oracle.pieces_of(to_provider(ONE, *flat(groups[::-1])), 2000, ID)
-    given("one day, 1926 groups, codes falling, 2000", to_provider(ONE, *flat(groups)), 2000, pieces,
-          each=accepted)
-    cut_sizes(given)
-
-
-def cut_sizes(given):
-    """Files out of sequence of 2,048 and 16,384 bytes, one less and one more, whole and in pieces."""
-    for size in AROUND:
-        # Each piece has as many groups of 34 bytes as 37 leave room for, the first one less: record 1
-        # leaves 12 of these bytes, which no 5 fits. The text is in the last group of all.
-        most = 13 if size < 3000 else 61
-        groups = sized(size)[::-1]
-        content, after = to_provider(ONE, *flat(groups[::-1])), to_provider(ONE, *flat(groups))
-        runs = [[ONE, *flat(groups[: most - 1])]]
-        runs += [flat(groups[at : at + most]) for at in range(most - 1, len(groups), most)]
-        label = "one day, %d bytes, " % size
-        given(label + "whole", content, size, [after], each=accepted)
-        given(label + "%d pieces" % len(runs), content, 37 + 34 * most, list_of(2, runs),
-              each=in_buffers if size == 2048 else accepted)
-    for size in (2047, 2048, 16384):
-        content, after = sized_and_respelled(size)
-        label = "one day, %d bytes for %d, " % (len(content), size)
-        if size < 3000:
-            given(label + "whole", content, size, [after], each=accepted)
-        given(label + "in pieces", content, size - 1, oracle.pieces_of(after, size - 1, ID),
-              each=accepted)
-
-
 def cut():
     def given(label, content, capacity, result, ident=ID, each=in_buffers):
         each("cut", label, content, "%d %d" % (len(result), sum(map(len, result))),
@@ -1653,9 +1164,6 @@ def cut():
             refused("cut", "mixed kana, %d bytes used, %d" % (len(used), capacity),
                     to_provider(named("あア")), "no 11 2", capacity=capacity, ident=ID, used=used)
     mixed_kana("cut", len, capacity=UNBOUNDED, ident=ID)
-
-    cut_arranged(given, no)
-    faults_as_they_lie("cut", capacity=UNBOUNDED, ident=ID)
 
     of_check("cut", capacity=UNBOUNDED, ident=ID)
     by_answer = check_cases()
@@ -2085,62 +1593,6 @@ def looking_for_pieces(given, no):
     lengths_around(given, no, no_set)
 
 
-def joined_as_they_lie(given, no):
-    """02 (ix): joining arranges nothing. The pieces of a cutting give the arranged file."""
-    for words, result in ARRANGED:
-        content = to_provider(PATIENT, *visits(words))
-        given("one day, %s, whole" % words, content + b"\x1a", content)
-        lines = [PATIENT, *visits(words)]
-        for ends in ([2], [1, 4]):
-            given("one day, %s, %d pieces" % (words, len(ends) + 1),
-                  b"".join(pieces_ending(lines, ends)[::-1]), content,
-                  in_buffers if words == "B1 A2" else accepted)
-        # What cutting makes of it.
-        after = to_provider(ONE, *visits(result))
-        pieces = oracle.pieces_of(after, len(after) // 2 + 30, ID)
-        if pieces:
-            given("one day, the cutting of %s, reversed" % words, b"".join(pieces[::-1]), after)
-        if "." not in words:
-            content = to_patient(*visits(words, 1))
-            given("one day, %s, direction 1" % words,
-                  b"".join(list_of(1, [visits(words, 1)[:2], visits(words, 1)[2:]])[::-1]), content)
-    # All orders of the pieces of two groups, each group a piece and record 1 another.
-    runs = [[ONE], visits("B1"), visits("A2")]
-    for order in itertools.permutations(range(3)):
-        given("one day, B1 A2, order %d%d%d" % order, b"".join(list_of(2, runs)[k] for k in order),
-              to_provider(ONE, *visits("B1 A2")))
-    # Lists of six and of fourteen hold files whose cutting has seven pieces, and none.
-    six, seven = list_of(2, SIX_UNARRANGED), list_of(2, SEVEN_ARRANGED)
-    assert max(map(len, six)) <= 60 and max(map(len, seven)) <= 60
-    for label, pieces, lines in [("six", six, SIX_UNARRANGED), ("seven", seven, SEVEN_ARRANGED),
-                                 ("fourteen", list_of(2, FOURTEEN_UNARRANGED), FOURTEEN_UNARRANGED)]:
-        whole = to_provider(*flat(lines))
-        given("one day, %s pieces" % label, b"".join(pieces), whole, in_buffers)
-        given("one day, %s pieces, reversed" % label, b"".join(pieces[::-1]), whole, in_buffers)
-        given("one day, %s pieces, 1A behind each" % label, b"\x1a".join(pieces) + b"\x1a", whole)
-        no("one day, %s pieces, one missing" % label, b"".join(pieces[1:]), "no 19 0", room=200)
-    # The two lists of one file have different n, so their pieces do not go together.
-    no("one day, five of six and one of seven", b"".join(six[:5] + seven[5:6]), "no 19 0", room=200)
-    # Groups in spellings of one day keep their bytes and their sequence.
-    for spelled in itertools.permutations(CHANGE[1]):
-        groups = [visit(CODES[sign], sign, one) for sign, one in zip("CBA", spelled)]
-        given("one day, C, B and A of " + " ".join(spelled),
-              b"".join(list_of(2, [[PATIENT], *groups])[::-1]), to_provider(PATIENT, *flat(groups)))
-    a, b = (full_visit(CODES[sign], sign) for sign in "AB")
-    for direction in (1, 2):
-        for capacity in (200, 100):
-            pieces = oracle.pieces_of(file(direction, *HEAD, *a, *b, *TAIL), capacity, ID)
-            given("one day, every record, cut for %d, direction %d" % (capacity, direction),
-                  b"".join(pieces[::-1]), file(direction, *HEAD, *a, *b, *TAIL))
-        given("one day, every record, as it lies, direction %d" % direction,
-              b"".join(list_of(direction, [[*HEAD, *b[:5]], [*b[5:], *a], TAIL])[::-1]),
-              file(direction, *HEAD, *b, *a, *TAIL))
-    groups = falling_codes(500)
-    pieces = oracle.pieces_of(to_provider(ONE, *flat(groups[::-1])), 500, ID)
-    given("one day, 500 groups, the cutting reversed", b"".join(pieces[::-1]),
-          to_provider(ONE, *flat(groups[::-1])))
-
-
 def join():
     def given(label, content, result, each=accepted):
         each("join", label, content, "%d" % len(result), result)
@@ -2438,8 +1890,6 @@ def join():
     two_cuttings(given, no)
     kana_in_pieces(given, no)
     looking_for_pieces(given, no)
-    joined_as_they_lie(given, no)
-    faults_as_they_lie("join")
 
     # 999 pieces; each but one without a record.
     def many(n, count):

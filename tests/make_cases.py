@@ -1929,136 +1929,6 @@ def examples():
 
 
 # =============================================================================
-# Groups of one day
-# =============================================================================
-
-# 02 (ix). A word is a group: a sign for its institution code, and a mark of its own by which
-# equals are told apart. "-" is an 11 without a code, "." no 11. | goes on to an older day.
-CODES = {"A": "1310001", "B": "1310002", "C": "1310010", "D": "2000000", "-": "", ".": None}
-DAYS_DOWN = ["H280411", "H280410", "H280331", "H271231"]
-
-# Groups as they lie > as the canonical file has them. Check asks nothing of their sequence.
-ARRANGED = """
-A1 > A1
-A1 B2 > A1 B2
-B1 A2 > A2 B1
-A1 A2 > A1 A2
-A2 A1 > A2 A1
--1 A2 > A2 -1
-A1 -2 > A1 -2
-.1 A2 > A2 .1
-A1 .2 > A1 .2
--1 -2 > -1 -2
--2 -1 > -2 -1
-.1 .2 > .1 .2
-.2 .1 > .2 .1
--1 .2 > -1 .2
-.1 -2 > .1 -2
-C1 B2 A3 > A3 B2 C1
-B1 A2 B3 > A2 B1 B3
-B3 A2 B1 > A2 B3 B1
-A1 B2 A3 > A1 A3 B2
-A3 B2 A1 > A3 A1 B2
-B1 B2 A3 > A3 B1 B2
-B2 A1 A3 > A1 A3 B2
--1 B2 A3 > A3 B2 -1
-.1 B2 A3 > A3 B2 .1
-B1 -2 A3 > A3 B1 -2
-B1 .2 A3 > A3 B1 .2
-A1 .2 A3 > A1 A3 .2
-A1 -2 A3 > A1 A3 -2
--1 A2 .3 > A2 -1 .3
-.1 A2 -3 > A2 .1 -3
-D1 C2 B3 A4 > A4 B3 C2 D1
-B1 A2 B3 A4 > A2 A4 B1 B3
-B4 A3 B2 A1 > A3 A1 B4 B2
-A1 C2 B3 D4 > A1 B3 C2 D4
-.1 B2 -3 A4 > A4 B2 .1 -3
--1 B2 .3 A4 > A4 B2 -1 .3
-B1 A2 -3 A4 .5 B6 > A2 A4 B1 B6 -3 .5
-C1 A2 B3 C4 A5 B6 > A2 A5 B3 B6 C1 C4
-D1 D2 D3 C4 C5 C6 > C4 C5 C6 D1 D2 D3
-Blonger A2 > A2 Blonger
-B1 Alonger > Alonger B1
-.longer B2 -longest A4 > A4 B2 .longer -longest
-B1 | A2 > B1 | A2
--1 | A2 > -1 | A2
-.1 | A2 > .1 | A2
-A1 | B2 > A1 | B2
-D1 | C2 | B3 | A4 > D1 | C2 | B3 | A4
-B1 A2 | A3 > A2 B1 | A3
-B1 | B2 A3 > B1 | A3 B2
-C1 | B2 | B3 A4 > C1 | B2 | A4 B3
-B1 A2 | B3 A4 > A2 B1 | A4 B3
-D1 C2 | B3 A4 > C2 D1 | A4 B3
-B1 A2 | C3 | B4 A5 > A2 B1 | C3 | A5 B4
-C1 A2 B3 | A4 | -5 A6 | B7 > A2 B3 C1 | A4 | A6 -5 | B7
-.1 A2 | .3 A4 > A2 .1 | A4 .3
-A1 .2 | .3 A4 > A1 .2 | A4 .3
--1 | -2 A3 | .4 > -1 | A3 -2 | .4
-A1 A2 | A3 A4 | A5 > A1 A2 | A3 A4 | A5
-"""
-ARRANGED = [tuple(side.strip() for side in row.split(">")) for row in ARRANGED.split("\n") if row]
-
-
-def visit(code, mark, day, direction=2):
-    """A group: its day, an 11 with this code unless it is None, and a record with the mark."""
-    if direction == 1:
-        return ["5,%s,1" % day, "11,x,13,1,%s,,,,1" % code, "411,%s,30,1" % mark]
-    at = [] if code is None else ["11,x,,,%s,,,,1" % code]
-    return ["5,%s,1" % day, *at, "601,%s," % mark]
-
-
-def visits(words, direction=2):
-    """The lines of the groups that the words stand for."""
-    lines = []
-    for day, of_day in zip(DAYS_DOWN, words.split("|")):
-        for word in of_day.split():
-            lines += visit(CODES[word[0]], word[1:], day, direction)
-    return lines
-
-
-# Beside CASES, as KANA is: the other calls have these files in families of their own.
-ONE_DAY = []
-
-
-def one_day():
-    """02 (ix) says how the canonical file stands. A file is checked as it lies."""
-    def good(label, content, groups, drugs=0):
-        records = content.count(b"\n") - 1
-        ONE_DAY.append(("one day: " + label, content, "ok %d %d %d" % (records, groups, drugs)))
-
-    for given, _ in ARRANGED:
-        groups = len(given.replace("|", "").split())
-        good(given, to_provider(PATIENT, *visits(given)), groups)
-        if "." not in given:
-            good(given + ", direction 1", to_patient(*visits(given, 1)), groups)
-    # A refusal has the line of the file as it lies, whichever group stands first once arranged:
-    # each has three lines, and the first of them begins in line 3.
-    first, second, third = (visit(CODES[sign], "1", "H280411") for sign in "CBA")
-    for label, lines, answer in [
-        ("11 in group 2's day", [*first, "5,H280432,1", *second[1:], *third], "no 11 6"),
-        ("11 in group 2's code", [*first, second[0], "11,x,,,131000,,,,1", *third], "no 11 7"),
-        ("11 in group 1's code", [first[0], "11,x,,,131001x,,,,1", *second, *third], "no 11 4"),
-        ("11 in group 3's code", [*first, *second, third[0], "11,x,,,13100010,,,,1"], "no 11 10"),
-        ("13, a second 11 in group 2", [*first, *second[:2], second[1], *third], "no 13 8"),
-        ("13, an 11 after group 2's end", [*first, *second, second[1], *third], "no 13 9"),
-        ("15 in group 2", [*first, *second[:2], drug(2), *third], "no 15 8"),
-        ("16, group 2 is newer", [*first, "5,H280412,1", *second[1:], *third], "no 16 6"),
-        ("16, group 3 is newer", [*first, *second, "5,20160412,1", *third[1:]], "no 16 9"),
-        ("14, a 55 at the end", [*first, *second, *third[:2], DOCTOR], "no 14 12"),
-    ]:
-        ONE_DAY.append(("one day: " + label, to_provider(PATIENT, *lines), answer))
-    first, second = (visit(CODES[sign], "1", "H280411", 1) for sign in "BA")
-    for label, lines, answer in [
-        ("14 at group 2, direction 1", [*first[:2], *second], "no 14 4"),
-        ("14 at the end, direction 1", [*first, *second[:2]], "no 14 7"),
-        ("14, no 11 in group 1, direction 1", [first[0], first[2], *second], "no 14 4"),
-    ]:
-        ONE_DAY.append(("one day: " + label, to_patient(*lines), answer))
-
-
-# =============================================================================
 # All of them, and all pairs of bytes
 # =============================================================================
 
@@ -2068,7 +1938,7 @@ def all_cases():
                    numbers, every_item, edges, kinds, pairs, two_faults, missing_records,
                    usage_and_group, after_51_and_55, prescriptions, doctors,
                    order_in_a_group, neighbours, examples, kana_names, kana_scripts, kana_places,
-                   kana_runs, kana_characters, kana_broken, scripts_elsewhere, one_day]:
+                   kana_runs, kana_characters, kana_broken, scripts_elsewhere]:
         family()
 
 
@@ -2114,9 +1984,8 @@ def packed(letter, label, content=b"", room=0, capacity=0, ident=b"", used=b""):
 def check_frames():
     """Label, frame and answer of each case of check."""
     all_cases()
-    cases = CASES + KANA + ONE_DAY
     frames, disagreements = [], 0
-    for label, content, answer in cases:
+    for label, content, answer in CASES + KANA:
         assert 0 < len(label) < 80 and len(content) <= 65600
         found = answer_of_oracle(content)
         if found != answer:
@@ -2127,10 +1996,11 @@ def check_frames():
 
     counts = collections.Counter(
         "ok" if answer.startswith("ok") else int(answer.split()[1])
-        for _, _, answer in cases)
+        for _, _, answer in CASES + KANA)
     assert all(counts[number] >= 3 for number in range(1, 17))
     print("check: %d cases, %d of them of kana names, %d bytes: %d ok" % (
-        len(frames), len(KANA), sum(len(content) for _, content, _ in cases), counts.pop("ok")))
+        len(frames), len(KANA), sum(len(content) for _, content, _ in CASES + KANA),
+        counts.pop("ok")))
     print(", ".join("%d: %d" % pair for pair in sorted(counts.items())))
     return frames
 

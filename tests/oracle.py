@@ -1,7 +1,6 @@
 """A plain reading of document 01 with the requests of document 02 that have
 landed ((i), Reiwa; (v), the clinic in the index; (vii), IDs that have been used;
-(viii), one script in kana names; (ix), two dispensings on one day), for comparing
-with the gateway.
+(viii), one script in kana names), for comparing with the gateway.
 
 check(data) answers ("ok", records, groups, drugs) or ("no", number, line).
 Whatever a record's standing depends on is found by looking back over the list
@@ -16,7 +15,6 @@ they count no lengths ahead.
 
 import datetime
 import functools
-import itertools
 import re
 import unicodedata
 from collections import Counter, namedtuple
@@ -379,8 +377,8 @@ def missing(direction, before, rec):
 def newer(before, rec):
     if rec.number != 5:
         return False
-    groups = [r for r in before if r.number == 5]
-    return groups != [] and day(rec.items[0]) > day(groups[-1].items[0])
+    days = [day(r.items[0]) for r in before if r.number == 5]
+    return days != [] and day(rec.items[0]) > days[-1]
 
 
 # --- check ------------------------------------------------------------------
@@ -523,56 +521,16 @@ def canonical_item(item, rule):
     return item
 
 
-def respelled(line):
-    name, *items = line.split(b",")
-    rules = TABLE[name.decode()]
-    items = [canonical_item(item, rule) for item, rule in zip(items, rules)]
-    return b",".join([name] + items)
-
-
-def is_record(line, number):
-    return line.split(b",")[0] == number
-
-
-def parted(records):
-    """The records before the groups, the groups, each as its list, and the 701s."""
-    before, groups, after = [], [], []
-    for line in records:
-        if is_record(line, b"5"):
-            groups.append([])
-        if is_record(line, b"701"):
-            after.append(line)
-        else:
-            (groups[-1] if groups else before).append(line)
-    return before, groups, after
-
-
-def group_day(group):
-    return day(group[0].split(b",")[1])
-
-
-def by_code(group):
-    """02 (ix): "the institution code of record 11, smaller bytes first. An empty code or
-    a missing 11 comes last"."""
-    code = b"".join(line.split(b",")[4] for line in group if is_record(line, b"11"))
-    return code == b"", code
-
-
-def arranged(records):
-    """02 (ix): "groups of equal day now stand by the institution code". Days never rise, so
-    groups of equal day lie side by side; Python's sort keeps the sequence of equals."""
-    before, groups, after = parted(records)
-    found = list(before)
-    for _, of_one_day in itertools.groupby(groups, key=group_day):
-        for group in sorted(of_one_day, key=by_code):
-            found += group
-    return found + after
-
-
 def canonical_lines(data):
     """The lines of an accepted file's canonical file, without line ends."""
     first, *records = lines_of(data)
-    return [first] + arranged([respelled(line) for line in records])
+    found = [first]
+    for line in records:
+        name, *items = line.split(b",")
+        rules = TABLE[name.decode()]
+        items = [canonical_item(item, rule) for item, rule in zip(items, rules)]
+        found.append(b",".join([name] + items))
+    return found
 
 
 def file_of(lines):

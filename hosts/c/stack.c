@@ -96,8 +96,8 @@ static size_t add(const char *line)
 }
 
 /*
- * The inputs: memos to the limit; groups with prescriptions to the limit; such groups, refused at the end; groups of one day to the limit,
- * whose codes fall, and of which the last alone has a code; a file over the limit; memos to the limit, refused in a group after them.
+ * The inputs: memos to the limit; groups with prescriptions to the limit; such groups, refused at the end; a file over the limit; memos to
+ * the limit, refused in a group after them.
  */
 static void memos(size_t limit)
 {
@@ -118,30 +118,6 @@ static void groups(size_t limit)
     while (file_length + sizeof group <= limit) {
         add(group);
     }
-}
-
-/* Every group changes its place. */
-static void falling_codes(size_t limit)
-{
-    char group[40];
-    unsigned code;
-    file_length = 0;
-    add("JAHISTC04,2\r\n1,A,1,H010108,,,,,,,\r\n");
-    for (code = 9999999; file_length + 34 <= limit; code--) {
-        sprintf(group, "5,R080411,1\r\n11,x,,,%07u,,,,1\r\n", code);
-        add(group);
-    }
-}
-
-/* The most groups of which one has to change its place. */
-static void code_at_last(size_t limit)
-{
-    file_length = 0;
-    add("JAHISTC04,2\r\n1,A,1,H010108,,,,,,,\r\n");
-    while (file_length + 13 + 34 <= limit) {
-        add("5,R080411,1\r\n");
-    }
-    add("5,R080411,1\r\n11,x,,,1234567,,,,1\r\n");
 }
 
 static void used_ids(void)
@@ -211,17 +187,6 @@ int main(void)
     measure(nothing);
     add("601,p,\r\n601, p,\r\n");
     measure(nothing);
-    for (i = 0; i < 2; i++) {
-        if (i == 0) {
-            falling_codes(NOTEBOOK_FILE_MAX);
-        } else {
-            code_at_last(NOTEBOOK_FILE_MAX);
-        }
-        capacity = UINT64_MAX;
-        measure(nothing);
-        capacity = 1000;
-        measure(nothing);
-    }
     memos(NOTEBOOK_FILE_MAX + 8);
     measure(nothing);
     memos(NOTEBOOK_FILE_MAX - 22);

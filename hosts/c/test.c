@@ -439,70 +439,6 @@ static void kana_names(void)
     }
 }
 
-/*
- * Document 02's groups of one day, codes falling: canonical and cut write the smaller code first; check, index and join take the file as it
- * lies.
- */
-static void one_day(void)
-{
-    static const char first[] = LINE_1 CANONICAL_PATIENT "5,H280411,1\r\n911," ID ",3,1\r\n";
-    static const char second[] = LINE_1 "11,b,,,1234567,,,,1\r\n5,H280411,2\r\n911," ID ",3,2\r\n";
-    static const char third[] = LINE_1 "11,a,,,7654321,,,,2\r\n911," ID ",3,3\r\n";
-    static const uint32_t entries[][NOTEBOOK_ENTRY_NUMBERS] = {
-        {1, 13, 21, 0, 0, 0, 0}, {5, 36, 12, 1, 0, 0, 0},  {11, 50, 19, 1, 0, 0, 0},
-        {5, 71, 12, 2, 0, 0, 0}, {11, 85, 19, 2, 0, 0, 0},
-    };
-    enum { NUMBERS = sizeof entries / sizeof entries[0][0] };
-    struct bytes file =
-        text(LINE_1 PATIENT "5,20160411,2\r\n11,a,,,7654321,,,,2\r\n5,20160411,1\r\n11,b,,,1234567,,,,1\r\n");
-    struct bytes canonical = text(LINE_1 CANONICAL_PATIENT
-                                  "5,H280411,1\r\n11,b,,,1234567,,,,1\r\n5,H280411,2\r\n11,a,,,7654321,,,,2\r\n");
-    struct bytes pieces = add(add(text(first), second, strlen(second)), third, strlen(third));
-    struct bytes reversed;
-    uint32_t numbers[NUMBERS + 1];
-    uint8_t *out = lend(110);
-
-    HOLD(file.length == 106 && canonical.length == 103 && pieces.length == 201);
-    HOLD(result(notebook_check(file.at, file.length), 5, 2, 0));
-    memset(numbers, 0x5a, sizeof numbers);
-    HOLD(result(notebook_index(file.at, file.length, numbers, NUMBERS), 5, 0, 0));
-    HOLD(memcmp(numbers, entries, sizeof entries) == 0 && numbers_kept(numbers, NUMBERS, NUMBERS + 1));
-    join_gives(file, file);
-
-    HOLD(result(notebook_canonical(file.at, file.length, out, 110), 103, 0, 0));
-    HOLD(same(out, 103, canonical) && kept(out, 110, 103));
-    give_back(out);
-
-    out = lend(102);
-    HOLD(refused(notebook_canonical(file.at, file.length, out, 102), NOTEBOOK_REFUSED_SHORT, 0));
-    HOLD(kept(out, 102, 0));
-    give_back(out);
-
-    out = lend(103);
-    HOLD(result(notebook_canonical(canonical.at, canonical.length, out, 103), 103, 0, 0));
-    HOLD(same(out, 103, canonical) && kept(out, 103, 103));
-    give_back(out);
-
-    out = lend(110);
-    HOLD(result(cut(file, 103, ID, out, 110), 1, 103, 0));
-    HOLD(same(out, 103, canonical) && kept(out, 110, 103));
-    give_back(out);
-
-    /* 43 bytes are left for records: 22 and 13, 21 and 13, 21. */
-    out = lend(210);
-    HOLD(result(cut(file, 80, ID, out, 210), 3, 201, 0));
-    HOLD(same(out, 201, pieces) && kept(out, 210, 201));
-    give_back(out);
-
-    join_gives(pieces, canonical);
-    reversed = backwards(pieces.at, pieces.length, 1);
-    join_gives(reversed, canonical);
-    free(reversed.at);
-    free(pieces.at);
-    free(canonical.at);
-    free(file.at);
-}
-
 static void cuttings(void)
 {
     struct bytes file = memos(18);
@@ -885,7 +821,6 @@ int main(void)
     clinics();
     days();
     kana_names();
-    one_day();
     cuttings();
     used_ids();
     refusals();

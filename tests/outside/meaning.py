@@ -181,56 +181,6 @@ def mixed(kana, folder):
     same("notejoin", run("notejoin a.csv", folder), (0, b"", b"no 11 2\n"))
 
 
-# --- groups of one day ---
-
-# 02 (ix): the days and codes of groups as they lie, and the groups' places in the canonical file. An empty code is an 11 without one, None no 11.
-VISITS = {
-    "codes falling": (["H280411 1310002", "H280411 1310001"], [1, 0]),
-    "codes rising": (["H280411 1310001", "H280411 1310002"], [0, 1]),
-    "one code": (["H280411 1310001", "H280411 1310001"], [0, 1]),
-    "an empty code first": (["H280411 ", "H280411 1310001"], [1, 0]),
-    "no 11 first": (["H280411", "H280411 1310001"], [1, 0]),
-    "no 11 between two of one code": (["H280411 1310001", "H280411", "H280411 1310001"], [0, 2, 1]),
-    "one day in three spellings": (["H310501 1310003", "20190501 1310002", "R010501 1310001"], [2, 1, 0]),
-    "two days": (["H280411 1310002", "H280410 1310001"], [0, 1]),
-}
-
-
-def visited(days_and_codes):
-    """The groups of these days and codes, each with its place."""
-    groups = []
-    for place, (day, *codes) in enumerate(one.split(" ") for one in days_and_codes):
-        institution = b"".join(b"11,x,,,%s,,,,1\r\n" % code.encode() for code in codes)
-        groups.append(b"5,%s,1\r\n%s601,%d,\r\n" % (day.encode(), institution, place))
-    return groups
-
-
-def arranged(days_and_codes, places, folder):
-    """Canonical and cut arrange the groups; check, index and join take them as they lie."""
-    groups = visited(days_and_codes)
-    given = SMALL + b"".join(groups)
-    wanted = SMALL_CANONICAL + b"".join(groups[place] for place in places)
-    for spelled in (b"H310501", b"20190501"):
-        wanted = wanted.replace(spelled, b"R010501")
-    write(folder, {"a.csv": given})
-    counts = b"ok %d %d 0\n" % (given.count(b"\n") - 1, len(groups))
-    same("notebook check", run("notebook check a.csv", folder), (0, b"a.csv: " + counts, b""))
-    same("notecheck", run("notecheck", folder, given), (0, counts, b""))
-    same("notebook canonical", run("notebook canonical a.csv", folder), (0, wanted, b""))
-    same("notecanon", run("notecanon", folder, given), (0, wanted, b""))
-    same("notecanon of the canonical file", run("notecanon", folder, wanted), (0, wanted, b""))
-    held = tools.pieces(wanted, 80)
-    same("notebook cut", run("notebook cut --capacity 80 --id %s a.csv" % ID, folder), (0, b"".join(held), b""))
-    same("notecut", run("notecut 80 " + ID, folder, given), (0, b"".join(held), b"ok %d %d\n" % (len(held), sum(map(len, held)))))
-    same("notejoin of the pieces", run("notejoin", folder, b"".join(held[::-1])), (0, wanted, b""))
-    same("notebook join", run("notebook join a.csv", folder), (0, given, b""))
-    same("notejoin", run("notejoin a.csv", folder), (0, given, b""))
-    starts = [given.index(group) for group in groups]
-    shown = run("noteindex", folder, given).out.splitlines()
-    found = [int(line.split()[1]) for line in shown if line.startswith(b"5 ")]
-    same("the groups of noteindex", found, starts)
-
-
 # --- refusals that are the operator's ---
 
 # words of the command, words of notecut, number, word, status
@@ -280,7 +230,6 @@ def tests():
         + [("canonical of the sample", sample_written)]
         + [("a kana name, " + name, partial(kept, kana)) for name, kana in ONE_SCRIPT.items()]
         + [("a kana name with " + name, partial(mixed, kana)) for name, kana in MIXED.items()]
-        + [("groups of one day, " + name, partial(arranged, *row)) for name, row in VISITS.items()]
         + [("cut %s: %d" % (row[0].replace(ID, "ID"), row[3]), partial(refused_cut, row)) for row in REFUSED_CUTS]
         + [("cut, the cases of document 01", cuts)]
     )

@@ -2,7 +2,7 @@
 -- each way through the code. Assumes nothing.
 use Prim.Native.Nat.{ℕ, ◌+◌, ◌-◌, ◌≤◌}
 use native.Mathlib.Omega.{arith}
-use mathlib.Core.Path.{◌≡◌, refl, sym, ap, ap₂, ◌∙◌, subst}
+use mathlib.Core.Path.{◌≡◌, refl, sym, ap, ◌∙◌, subst}
 use mathlib.Core.Bool.{Bool, true, false, cond}
 use mathlib.Core.Logic.{⊎_elim}
 use mathlib.Core.List.{List, [], ◌++◌, append_assoc}
@@ -20,17 +20,15 @@ use Rattle.characters.specs.Rows.{rows, flat, line_end}
 use Rattle.characters.specs.Scanning.{WholeLine}
 use Rattle.scanning.specs.Scans.{LineOf}
 use Rattle.characters.proofs.RowLaws.{flat_rows}
-use Rattle.records.specs.Records.{Record, item, record_of, line_fault, write}
+use Rattle.records.specs.Records.{Record, record_of, line_fault, write}
 use Rattle.records.proofs.LineLaws.{line_good}
 use Rattle.order.specs.declared.State.{State}
 use Rattle.order.specs.declared.Moved.{Moved}
 use Rattle.order.specs.declared.Moved.TheVariants.{Fault as StepRefused, On}
-use Rattle.order.specs.State.{start, advance, finish_of}
+use Rattle.order.specs.State.{start, finish_of}
 use Rattle.order.specs.Room.{Room as Countable}
 use Rattle.order.proofs.Laws.{next_line, room, room_start, line_start}
 use Rattle.notebook.specs.Facts.{facts_of}
-use Rattle.notebook.specs.Groups.{text_of}
-use Rattle.places.specs.Places.{key_value}
 use Rattle.buffers.specs.Buffers.{Room, Wrote}
 use Rattle.buffers.proofs.Runs.{sets_append}
 use Rattle.notebook.specs.Notebook.{step_line, prepend, closed, onward, records_from}
@@ -46,19 +44,17 @@ use Rattle.replies.specs.declared.Answer.{Answer}
 use Rattle.replies.specs.declared.Answer.TheVariants.{Done, Refused}
 use Rattle.notebook.specs.Canonical.{record_row, record_rows}
 use Rattle.canonical.specs.declared.Run.{Run}
-use Rattle.canonical.specs.declared.Days.{Days}
-use Rattle.canonical.specs.Days.{no_days, opened_days, coded_days, days_step, line_key, day_after, days_after, astray_from}
 use Rattle.canonical.specs.Writing.{ahead, reach, Ready, Passed, Sound, Ended, Output, poured, PouredMeans, Poured, closing, Finished}
 use Rattle.lists.proofs.Parts.{part_length}
 
 -- ---- the end
 
-module _ (st : State) (at astray : ℕ) {n : ℕ} (e : n ≡ finish_of st) where
-  pub close_good : n ≡ 0 → Done at astray 0 ≡ closing st at astray
+module _ (st : State) (at : ℕ) {n : ℕ} (e : n ≡ finish_of st) where
+  pub close_good : n ≡ 0 → Done at 0 0 ≡ closing st at
   unfolding closing
   close_good z = rw (eq-eqb (finish_of st) 0 (sym e ∙ z))
 
-  pub close_missing : (n ≡ 0 → ⊥) → Refused n (st.line + 1) ≡ closing st at astray
+  pub close_missing : (n ≡ 0 → ⊥) → Refused n (st.line + 1) ≡ closing st at
   unfolding closing
   close_missing z = rw (ne_eqb (finish_of st) 0 (λ q. z (e ∙ q))) (ap (λ (k : ℕ). Refused k (st.line + 1)) e)
 
@@ -69,21 +65,20 @@ pub ruleset close_laws = (close_good, close_missing, closing_fits)
 
 -- ---- one record more
 
-pour_record : (d : List ℕ) (at : ℕ) (g : Days) (day : ℕ) (r : Record) (x : Res (List Record))
-    → poured d at g day (prepend r x) ≡ poured (sets d at (record_row r)) (at + length (record_row r)) (days_after g day r) (day_after day r) x
-unfolding poured record_rows astray_from
-pour_record d at g day r (refused n line) = refl
-pour_record d at g day r (ok rs) =
+pour_record : (d : List ℕ) (at : ℕ) (r : Record) (x : Res (List Record)) → poured d at (prepend r x) ≡ poured (sets d at (record_row r)) (at + length (record_row r)) x
+unfolding poured record_rows
+pour_record d at r (refused n line) = refl
+pour_record d at r (ok rs) =
     let b : sets d at (record_row r ++ flat (record_rows rs)) ≡ sets (sets d at (record_row r)) (at + length (record_row r)) (flat (record_rows rs)) = sets_append (record_row r) d at (flat (record_rows rs)) in
     let l : at + length (record_row r ++ flat (record_rows rs)) ≡ at + length (record_row r) + length (flat (record_rows rs)) = omega (arith, length-append (record_row r) (flat (record_rows rs))) in
     cc
 
-pour_end : (d : List ℕ) (st : State) (at : ℕ) (g : Days) (day : ℕ) {r : Answer} → at ≤ 65536 → at ≤ length d → r ≡ closing st at g.astray → PouredMeans (poured d at g day (closed st)) d r
-unfolding poured closed closing record_rows astray_from
-pour_end d st at g day h i e = subst (λ (r : Answer). PouredMeans (poured d at g day (closed st)) d r) (sym e) (go (eqb (finish_of st) 0))
+pour_end : (d : List ℕ) (st : State) (at : ℕ) {r : Answer} → at ≤ 65536 → at ≤ length d → r ≡ closing st at → PouredMeans (poured d at (closed st)) d r
+unfolding poured closed closing record_rows
+pour_end d st at h i e = subst (λ (r : Answer). PouredMeans (poured d at (closed st)) d r) (sym e) (go (eqb (finish_of st) 0))
   where
-    go : (b : Bool) → PouredMeans (poured d at g day (cond b (ok []) (refused (finish_of st) (st.line + 1)))) d (cond b (Done at g.astray 0) (Refused (finish_of st) (st.line + 1)))
-    go true = (ap (λ (n : ℕ). ok (record { buffer = d; end = n; astray = g.astray })) (omega arith), h, i)
+    go : (b : Bool) → PouredMeans (poured d at (cond b (ok []) (refused (finish_of st) (st.line + 1)))) d (cond b (Done at 0 0) (Refused (finish_of st) (st.line + 1)))
+    go true = (ap (λ (n : ℕ). ok (record { buffer = d; end = n })) (omega arith), h, i)
     go false = refl
 
 -- ---- one line
@@ -96,23 +91,6 @@ pub line_sound : (st : State) (l : List ℕ) {m : Moved} {after : State} {rp doc
 line_sound st l {m} {after} {rp} {doctor} o u =
     let p : Placed st l after rp doctor = placed st l after rp doctor (sym o ∙ u) in
     record { provider = st.provider; good = p.sound; number = place_number p }
-
--- the day of the last group, and what is kept of the groups, after the record of a line
-module _ {st after : State} {l : List ℕ} {rp doctor : ℕ} (p : Placed st l after rp doctor) where
-  placed_day : after.day ≡ day_after st.day (record_of l)
-  unfolding advance facts_of
-  placed_day = ap (λ (t : State). t.day) p.state
-
-  placed_days : (g : Days) → days_step g after.place st.day after.day (line_key l) ≡ days_after g st.day (record_of l)
-  unfolding days_step
-  placed_days g = ap₂ (λ (n d : ℕ). days_step g n st.day d (line_key l)) (place_number p) placed_day ∙ go (eqb (record_of l).number 5) (facts_of (record_of l)).day
-    where
-      other : Days
-      other = cond (eqb (record_of l).number 11) (coded_days g (line_key l)) g
-
-      go : (b : Bool) (d : ℕ) → cond b (opened_days g st.day (cond b d st.day)) other ≡ cond b (opened_days g st.day d) other
-      go true d = refl
-      go false d = refl
 
 -- the line end after a line
 line_ended : {s : List ℕ} {at e : ℕ} {good : Bool} → WholeLine s at e good → Ended s at e
@@ -128,8 +106,8 @@ line_ended {s} {at} {e} w =
 
 -- ---- the pass
 
-pub record Pouring (provider : Bool) (s : List ℕ) (from : ℕ) (d : List ℕ) (st : State) (at : ℕ) (d' : List ℕ) (next : ℕ) (days : Days) : Type 0 where
-  pub left : poured d from no_days 0 (records_from (start provider) (rows (drop from s))) ≡ poured d' next days st.day (records_from st (rows (drop at s)))
+pub record Pouring (provider : Bool) (s : List ℕ) (from : ℕ) (d : List ℕ) (st : State) (at : ℕ) (d' : List ℕ) (next : ℕ) : Type 0 where
+  pub left : poured d from (records_from (start provider) (rows (drop from s))) ≡ poured d' next (records_from st (rows (drop at s)))
   pub size : length d' ≡ length d
   pub full : length s ≤ length d
   pub behind : next ≤ at
@@ -140,10 +118,9 @@ pub record Pouring (provider : Bool) (s : List ℕ) (from : ℕ) (d : List ℕ) 
   pub small : length s ≤ 65536
 
 pouring_start : (provider : Bool) (s : List ℕ) (from : ℕ) (d : List ℕ) {st : State} → Behind s from → length s ≤ length d → st ≡ start provider
-    → Pouring provider s from d st from d from no_days
-unfolding start
+    → Pouring provider s from d st from d from
 pouring_start provider s from d b z e =
-    subst (λ (x : State). Pouring provider s from d x from d from no_days) (sym e) (record {
+    subst (λ (x : State). Pouring provider s from d x from d from) (sym e) (record {
       left = refl;
       size = refl;
       full = z;
@@ -155,7 +132,7 @@ pouring_start provider s from d b z e =
       small = b.small;
     })
 
-module _ {provider : Bool} {s : List ℕ} {from : ℕ} {d : List ℕ} {st : State} {at : ℕ} {d' : List ℕ} {next : ℕ} {days : Days} (v : Pouring provider s from d st at d' next days) where
+module _ {provider : Bool} {s : List ℕ} {from : ℕ} {d : List ℕ} {st : State} {at : ℕ} {d' : List ℕ} {next : ℕ} (v : Pouring provider s from d st at d' next) where
   pouring_closing : Closing st
   pouring_closing = record { low = v.low; small = omega (arith, v.line, v.high, v.small) }
 
@@ -169,47 +146,46 @@ module _ {provider : Bool} {s : List ℕ} {from : ℕ} {d : List ℕ} {st : Stat
   pouring_fits = omega (arith, v.line, v.high, v.small)
 
   -- the answer, if what is left answers it
-  answer : {r : Answer} → PouredMeans (poured d' next days st.day (records_from st (rows (drop at s)))) d' r → Poured (length d) (poured d from no_days 0 (records_from (start provider) (rows (drop from s)))) d' r
+  answer : {r : Answer} → PouredMeans (poured d' next (records_from st (rows (drop at s)))) d' r → Poured (length d) (poured d from (records_from (start provider) (rows (drop from s)))) d' r
   answer {r} m = record { means = subst (λ (x : Res Output). PouredMeans x d' r) (sym v.left) m; size = v.size }
 
   module _ {stops : List ℕ} {k : Line} (w : LineOf s at stops k) where
-    ends : {r : Answer} → records_from st (rows (drop at s)) ≡ closed st → r ≡ closing st next days.astray → Poured (length d) (poured d from no_days 0 (records_from (start provider) (rows (drop from s)))) d' r
-    ends {r} q e = answer (subst (λ (x : Res (List Record)). PouredMeans (poured d' next days st.day x) d' r) (sym q) (pour_end d' st next days st.day pouring_end pouring_inside e))
+    ends : {r : Answer} → records_from st (rows (drop at s)) ≡ closed st → r ≡ closing st next → Poured (length d) (poured d from (records_from (start provider) (rows (drop from s)))) d' r
+    ends {r} q e = answer (subst (λ (x : Res (List Record)). PouredMeans (poured d' next x) d' r) (sym q) (pour_end d' st next pouring_end pouring_inside e))
 
-    poured-end : {r : Answer} → k ≡ End → r ≡ closing st next days.astray → Poured (length d) (poured d from no_days 0 (records_from (start provider) (rows (drop from s)))) d' r
+    poured-end : {r : Answer} → k ≡ End → r ≡ closing st next → Poured (length d) (poured d from (records_from (start provider) (rows (drop from s)))) d' r
     poured-end e q = ends (records_end w st e) q
 
-    poured-mark : {r : Answer} → k ≡ Mark → r ≡ closing st next days.astray → Poured (length d) (poured d from no_days 0 (records_from (start provider) (rows (drop from s)))) d' r
+    poured-mark : {r : Answer} → k ≡ Mark → r ≡ closing st next → Poured (length d) (poured d from (records_from (start provider) (rows (drop from s)))) d' r
     poured-mark e q = ends (records_mark w st e) q
 
-    refusal : {n : ℕ} → records_from st (rows (drop at s)) ≡ refused n (st.line + 1) → Poured (length d) (poured d from no_days 0 (records_from (start provider) (rows (drop from s)))) d' (Refused n (st.line + 1))
+    refusal : {n : ℕ} → records_from st (rows (drop at s)) ≡ refused n (st.line + 1) → Poured (length d) (poured d from (records_from (start provider) (rows (drop from s)))) d' (Refused n (st.line + 1))
     unfolding poured
-    refusal {n} q = answer {r = Refused n (st.line + 1)} (ap (poured d' next days st.day) q)
+    refusal {n} q = answer {r = Refused n (st.line + 1)} (ap (poured d' next) q)
 
-    poured-broken : k ≡ Broken → Poured (length d) (poured d from no_days 0 (records_from (start provider) (rows (drop from s)))) d' (Refused 2 (st.line + 1))
+    poured-broken : k ≡ Broken → Poured (length d) (poured d from (records_from (start provider) (rows (drop from s)))) d' (Refused 2 (st.line + 1))
     poured-broken e = refusal (records_broken w st e)
 
     module _ {e : ℕ} {good : Bool} {commas : ℕ} (q : k ≡ Whole e good commas) where
       onwards : Moved → Res (List Record)
       onwards = onward (st.line + 1) (record_of (part s at e)) (λ t. records_from t (rows (drop (e + 2) s)))
 
-      poured-refused : {j : ℕ} → step_line st (part s at e) ≡ StepRefused j → Poured (length d) (poured d from no_days 0 (records_from (start provider) (rows (drop from s)))) d' (Refused j (st.line + 1))
+      poured-refused : {j : ℕ} → step_line st (part s at e) ≡ StepRefused j → Poured (length d) (poured d from (records_from (start provider) (rows (drop from s)))) d' (Refused j (st.line + 1))
       unfolding onward onwards
       poured-refused u = refusal (records-on w q st ∙ ap onwards u)
 
       pouring-on : {d'' : List ℕ} {after : State} {rp doctor behind : ℕ} → step_line st (part s at e) ≡ On after rp doctor → Wrote d' d'' next behind (record_row (record_of (part s at e)))
-          → Pouring provider s from d after (e + 2) d'' behind (days_step days after.place st.day after.day (line_key (part s at e)))
+          → Pouring provider s from d after (e + 2) d'' behind
       unfolding onward onwards
       pouring-on {d''} {after} {rp} {doctor} {behind} u x =
           let p : Placed st (part s at e) after rp doctor = placed st (part s at e) after rp doctor u in
           let l : after.line ≡ st.line + 1 = next_line st (facts_of (record_of (part s at e))) after rp doctor p.step in
           let short : length (record_row (record_of (part s at e))) ≤ length (part s at e) + 2 = row_length st (part s at e) p.sound in
           record {
-            left = v.left ∙ ap (poured d' next days st.day) (records-on w q st ∙ ap onwards u)
-                ∙ pour_record d' next days st.day (record_of (part s at e)) (records_from after (rows (drop (e + 2) s)))
-                ∙ ap (λ (y : List ℕ). poured y (next + length (record_row (record_of (part s at e)))) (days_after days st.day (record_of (part s at e))) (day_after st.day (record_of (part s at e))) (records_from after (rows (drop (e + 2) s)))) (sym x.list)
-                ∙ ap (λ (y : ℕ). poured d'' y (days_after days st.day (record_of (part s at e))) (day_after st.day (record_of (part s at e))) (records_from after (rows (drop (e + 2) s)))) (sym x.next)
-                ∙ ap₂ (λ (y : Days) (z : ℕ). poured d'' behind y z (records_from after (rows (drop (e + 2) s)))) (sym (placed_days p days)) (sym (placed_day p));
+            left = v.left ∙ ap (poured d' next) (records-on w q st ∙ ap onwards u)
+                ∙ pour_record d' next (record_of (part s at e)) (records_from after (rows (drop (e + 2) s)))
+                ∙ ap (λ (y : List ℕ). poured y (next + length (record_row (record_of (part s at e)))) (records_from after (rows (drop (e + 2) s)))) (sym x.list)
+                ∙ ap (λ (y : ℕ). poured d'' y (records_from after (rows (drop (e + 2) s)))) (sym x.next);
             size = x.size ∙ v.size;
             full = v.full;
             behind = omega (arith, x.next, short, whole_length w q, v.behind, (whole-line w q).low);
@@ -222,25 +198,25 @@ module _ {provider : Bool} {s : List ℕ} {from : ℕ} {d : List ℕ} {st : Stat
 
 -- ---- the same where bytes wait
 
-pub record Running (provider : Bool) (s : List ℕ) (from : ℕ) (d : List ℕ) (st : State) (at : ℕ) (d' : List ℕ) (run : Run) (days : Days) : Type 0 where
-  pub pouring : Pouring provider s from (sets d 0 (part s 0 from)) st at (ahead s d' run at) (reach run at) days
+pub record Running (provider : Bool) (s : List ℕ) (from : ℕ) (d : List ℕ) (st : State) (at : ℕ) (d' : List ℕ) (run : Run) : Type 0 where
+  pub pouring : Pouring provider s from (sets d 0 (part s 0 from)) st at (ahead s d' run at) (reach run at)
   pub low : run.from ≤ at
   pub hold : length s ≤ length d'
   pub same : length d' ≡ length d
 
 pub running_start : (provider : Bool) (s : List ℕ) (from : ℕ) (d : List ℕ) {st : State} → Behind s from → length s ≤ length d → st ≡ start provider
-    → Running provider s from d st from d (record { from = 0; at = 0 }) (record { astray = 0; last = 0; key = 0 })
+    → Running provider s from d st from d (record { from = 0; at = 0 })
 running_start provider s from d {st} b z e =
     let n : from ≡ 0 + (from - 0) = omega arith in
     record {
-      pouring = subst (λ (k : ℕ). Pouring provider s from (sets d 0 (part s 0 from)) st from (sets d 0 (part s 0 from)) k no_days) n
+      pouring = subst (λ (k : ℕ). Pouring provider s from (sets d 0 (part s 0 from)) st from (sets d 0 (part s 0 from)) k) n
           (pouring_start provider s from (sets d 0 (part s 0 from)) b (omega (arith, length-sets d 0 (part s 0 from))) e);
       low = omega arith;
       hold = z;
       same = refl;
     }
 
-module _ {provider : Bool} {s : List ℕ} {from : ℕ} {d : List ℕ} {st : State} {at : ℕ} {d' : List ℕ} {run : Run} {days : Days} (v : Running provider s from d st at d' run days) where
+module _ {provider : Bool} {s : List ℕ} {from : ℕ} {d : List ℕ} {st : State} {at : ℕ} {d' : List ℕ} {run : Run} (v : Running provider s from d st at d' run) where
   pub running_countable : Countable st
   running_countable = v.pouring.room
 
@@ -264,15 +240,15 @@ module _ {provider : Bool} {s : List ℕ} {from : ℕ} {d : List ℕ} {st : Stat
 
   -- the answer with an array and a reply
   abbrev Pours : List ℕ → Answer → Type 0
-  Pours d'' r = Poured (length d) (poured (sets d 0 (part s 0 from)) from no_days 0 (records_from (start provider) (rows (drop from s)))) d'' r
+  Pours d'' r = Poured (length d) (poured (sets d 0 (part s 0 from)) from (records_from (start provider) (rows (drop from s)))) d'' r
 
   -- the same for the array as it will be when the run is copied
   abbrev Ahead : Answer → Type 0
-  Ahead r = Poured (length (sets d 0 (part s 0 from))) (poured (sets d 0 (part s 0 from)) from no_days 0 (records_from (start provider) (rows (drop from s)))) (ahead s d' run at) r
+  Ahead r = Poured (length (sets d 0 (part s 0 from))) (poured (sets d 0 (part s 0 from)) from (records_from (start provider) (rows (drop from s)))) (ahead s d' run at) r
 
-  finished : {d'' : List ℕ} {r : Answer} → Finished st s at d' d'' run days.astray r → Ahead r → Pours d'' r
+  finished : {d'' : List ℕ} {r : Answer} → Finished st s at d' d'' run r → Ahead r → Pours d'' r
   finished {d''} {r} f p = record {
-    means = subst (λ (y : List ℕ). PouredMeans (poured (sets d 0 (part s 0 from)) from no_days 0 (records_from (start provider) (rows (drop from s)))) y r) (sym f.buffer) p.means;
+    means = subst (λ (y : List ℕ). PouredMeans (poured (sets d 0 (part s 0 from)) from (records_from (start provider) (rows (drop from s)))) y r) (sym f.buffer) p.means;
     size = f.size ∙ v.same;
   }
 
@@ -281,10 +257,10 @@ module _ {provider : Bool} {s : List ℕ} {from : ℕ} {d : List ℕ} {st : Stat
   kept p = record { means = p.means; size = v.same }
 
   module _ {stops : List ℕ} {k : Turn} (w : TurnOf st s at stops k) where
-    pub running-over : {d'' : List ℕ} {r : Answer} → k ≡ Over → Finished st s at d' d'' run days.astray r → Poured (length d) (poured (sets d 0 (part s 0 from)) from no_days 0 (records_from (start provider) (rows (drop from s)))) d'' r
+    pub running-over : {d'' : List ℕ} {r : Answer} → k ≡ Over → Finished st s at d' d'' run r → Poured (length d) (poured (sets d 0 (part s 0 from)) from (records_from (start provider) (rows (drop from s)))) d'' r
     running-over q f = finished f (⊎_elim (λ l. poured-end v.pouring l refl f.answer) (λ l. poured-mark v.pouring l refl f.answer) (turn_over w q))
 
-    pub running-stopped : {n : ℕ} → k ≡ TurnRefused n → Poured (length d) (poured (sets d 0 (part s 0 from)) from no_days 0 (records_from (start provider) (rows (drop from s)))) d' (Refused n (st.line + 1))
+    pub running-stopped : {n : ℕ} → k ≡ TurnRefused n → Poured (length d) (poured (sets d 0 (part s 0 from)) from (records_from (start provider) (rows (drop from s)))) d' (Refused n (st.line + 1))
     running-stopped {n} q = kept (go (turn_refused w q))
       where
         go : RefusedAt st s at stops n → Ahead (Refused n (st.line + 1))
@@ -316,9 +292,8 @@ module _ {provider : Bool} {s : List ℕ} {from : ℕ} {d : List ℕ} {st : Stat
             room = omega (arith, v.pouring.behind, v.hold, whole.high, whole.low, whole_length here.line refl, n);
           }
 
-      pub running-on : {d'' : List ℕ} {r : Run} {g : Days} → Passed s d' d'' run r at (e + 2) (record_row (record_of (take (e - at) (drop at s))))
-          → g ≡ days_step days after.place st.day after.day (key_value (text_of (item (record_of (take (e - at) (drop at s))) 4))) → Running provider s from d after (e + 2) d'' r g
-      running-on {d''} {r} x t = subst (λ (y : Days). Running provider s from d after (e + 2) d'' r y) (sym t) (record { pouring = pouring-on v.pouring here.line refl (sym here.step) x.wrote; low = x.low; hold = omega (arith, x.size, v.hold); same = x.size ∙ v.same })
+      pub running-on : {d'' : List ℕ} {r : Run} → Passed s d' d'' run r at (e + 2) (record_row (record_of (take (e - at) (drop at s)))) → Running provider s from d after (e + 2) d'' r
+      running-on x = record { pouring = pouring-on v.pouring here.line refl (sym here.step) x.wrote; low = x.low; hold = omega (arith, x.size, v.hold); same = x.size ∙ v.same }
 
 pub ruleset running_laws = (
   turn_facts,
@@ -341,7 +316,7 @@ pub ruleset running_laws = (
 
 -- ---- the last run
 
-module _ (st : State) (s : List ℕ) (at : ℕ) (d : List ℕ) (run : Run) (astray : ℕ) (i : at ≤ length s) (r : Ready d run at []) where
+module _ (st : State) (s : List ℕ) (at : ℕ) (d : List ℕ) (run : Run) (i : at ≤ length s) (r : Ready d run at []) where
   pub finish_from : run.from ≤ at
   finish_from = r.low
 
@@ -352,9 +327,9 @@ module _ (st : State) (s : List ℕ) (at : ℕ) (d : List ℕ) (run : Run) (astr
     pub finish-small : reach run at ≤ 65536 → n ≤ 65536
     finish-small z = omega (arith, x.next, z, part_length s run.from at r.low i)
 
-    pub finish-done : {c : Answer} → c ≡ closing st n astray → Finished st s at d d₁ run astray c
+    pub finish-done : {c : Answer} → c ≡ closing st n → Finished st s at d d₁ run c
     finish-done e = record {
-      answer = e ∙ ap (λ (k : ℕ). closing st k astray) (x.next ∙ ap (λ (k : ℕ). run.at + k) (part_length s run.from at r.low i));
+      answer = e ∙ ap (closing st) (x.next ∙ ap (λ (k : ℕ). run.at + k) (part_length s run.from at r.low i));
       buffer = x.list;
       size = x.size;
     }

@@ -451,16 +451,16 @@ module _ (s : List ℕ) (at e : ℕ) {number : ℕ} (v : Sound number (take (e -
         ∙ sym (part_part s at e 0 (comma_at line 0) (omega arith) (omega (arith, comma_le line 0, part_length s at e i.low (omega (arith, i.high)), i.low)))
         ∙ sym (number_part line) ∙ ap (λ (x : List (List ℕ)). get_or x 0 []) own_parts.cut
 
-    first_high : at + comma_at line 0 ≤ e
+    first-high : at + comma_at line 0 ≤ e
     unfolding line
-    first_high = omega (arith, comma_le line 0, part_length s at e i.low (omega (arith, i.high)), i.low)
+    first-high = omega (arith, comma_le line 0, part_length s at e i.low (omega (arith, i.high)), i.low)
 
     first-length : length front ≡ comma_at line 0
-    first-length = sym (ap length first_is_lem) ∙ part_length s at (at + comma_at line 0) (omega arith) (omega (arith, first_high, i.high)) ∙ omega arith
+    first-length = sym (ap length first_is_lem) ∙ part_length s at (at + comma_at line 0) (omega arith) (omega (arith, first-high, i.high)) ∙ omega arith
 
     first-passed : Passed s d d run run at (at + comma_at line 0) front
     unfolding line
-    first-passed = waits s d run at (at + comma_at line 0) front (omega arith) (omega (arith, first_high, i.high)) first_is_lem (record { low = r.low; room = omega (arith, r.room, sizes) })
+    first-passed = waits s d run at (at + comma_at line 0) front (omega arith) (omega (arith, first-high, i.high)) first_is_lem (record { low = r.low; room = omega (arith, r.room, sizes) })
 
     pub record-ready : Ready d run (at + comma_at (take (e - at) (drop at s)) 0) (tail_of (slice_of (place_of number)) (drop 1 (items_of (take (e - at) (drop at s)))))
     unfolding line items place

@@ -21,11 +21,7 @@ use Rattle.buffers.specs.Buffers.{Wrote}
 use Rattle.replies.specs.declared.Answer.{Answer}
 use Rattle.replies.specs.declared.Answer.TheVariants.{Done, Refused}
 use Rattle.canonical.specs.declared.Run.{Run}
-use Rattle.canonical.specs.declared.Days.{Days}
-use Rattle.canonical.specs.Days.{astray_from}
-use Rattle.notebook.specs.Notebook.{Notebook, read_file}
-use Rattle.notebook.specs.Same.{arrange}
-use Rattle.notebook.specs.Canonical.{record_rows, write_file}
+use Rattle.notebook.specs.Canonical.{record_rows}
 
 -- ---- one item
 
@@ -143,20 +139,18 @@ pub record Ended (s : List ℕ) (at e : ℕ) : Type 0 where
   pub high : e + 2 ≤ length s
   pub end : part s e (e + 2) ≡ line_end
 
--- ---- the file: what stands in the buffer after the records that are left, where it ends, and whether two groups that stand side by side are out of sequence
+-- ---- the file: what stands in the buffer after the records that are left, and where it ends
 
 pub record Output : Type 0 where
   pub buffer : List ℕ
   pub end : ℕ
-  pub astray : ℕ
 
--- g: what the pass keeps of the groups before; day: of the last of them
-unfoldable pub poured : List ℕ → ℕ → Days → ℕ → Res (List Record) → Res Output
-poured d at g day (ok rs) = ok (record { buffer = sets d at (flat (record_rows rs)); end = at + length (flat (record_rows rs)); astray = astray_from g day rs })
-poured d at g day (refused n line) = refused n line
+unfoldable pub poured : List ℕ → ℕ → Res (List Record) → Res Output
+poured d at (ok rs) = ok (record { buffer = sets d at (flat (record_rows rs)); end = at + length (flat (record_rows rs)) })
+poured d at (refused n line) = refused n line
 
 abbrev pub PouredMeans : Res Output → List ℕ → Answer → Type 0
-PouredMeans x d (Done t b c) = (x ≡ ok (record { buffer = d; end = t; astray = b })) × (t ≤ 65536) × (t ≤ length d)
+PouredMeans x d (Done t b c) = (x ≡ ok (record { buffer = d; end = t })) × (t ≤ 65536) × (t ≤ length d)
 PouredMeans x d (Refused n line) = x ≡ refused n line
 
 -- m: the array's length
@@ -165,33 +159,24 @@ pub record Poured (m : ℕ) (x : Res Output) (d : List ℕ) (r : Answer) : Type 
   pub size : length d ≡ m
 
 -- the end: what is missing there, or the bytes
-unfoldable pub closing : State → ℕ → ℕ → Answer
-closing st at astray = cond (eqb (finish_of st) 0) (Done at astray 0) (Refused (finish_of st) (st.line + 1))
+unfoldable pub closing : State → ℕ → Answer
+closing st at = cond (eqb (finish_of st) 0) (Done at 0 0) (Refused (finish_of st) (st.line + 1))
 
 -- the last run is copied
-pub record Finished (st : State) (s : List ℕ) (at : ℕ) (d d' : List ℕ) (run : Run) (astray : ℕ) (r : Answer) : Type 0 where
-  pub answer : r ≡ closing st (reach run at) astray
+pub record Finished (st : State) (s : List ℕ) (at : ℕ) (d d' : List ℕ) (run : Run) (r : Answer) : Type 0 where
+  pub answer : r ≡ closing st (reach run at)
   pub buffer : d' ≡ ahead s d run at
   pub size : length d' ≡ length d
 
--- ---- the file's records, each in its one spelling, as they lie, in an array that can hold the file
+-- ---- the canonical file in an array that can hold the file
 
 pub record Holds (s d : List ℕ) : Type 0 where
   pub room : length s ≤ 65536 → length s ≤ length d
 
--- the first t bytes of d; astray: 0 where the records stand as the canonical file has them
-pub record Written (s d : List ℕ) (t astray : ℕ) : Type 0 where
-  pub book : Notebook
-  pub read : read_file s ≡ ok book
-  pub bytes : take t d ≡ write_file book
-  pub high : t ≤ length d
-  pub settled : astray ≡ 0 → arrange book ≡ book
+abbrev pub MadeMeans : Res (List ℕ) → List ℕ → Answer → Type 0
+MadeMeans x d (Done t b c) = (x ≡ ok (take t d)) × (t ≤ length d)
+MadeMeans x d (Refused n line) = x ≡ refused n line
 
-abbrev pub WrittenMeans : List ℕ → List ℕ → Answer → Type 0
-WrittenMeans s d (Done t b c) = Written s d t b
-WrittenMeans s d (Refused n line) = read_file s ≡ refused n line
-
--- m: the array's length
-pub record WrittenIn (m : ℕ) (s d : List ℕ) (r : Answer) : Type 0 where
-  pub means : WrittenMeans s d r
+pub record MadeOf (m : ℕ) (x : Res (List ℕ)) (d : List ℕ) (r : Answer) : Type 0 where
+  pub means : MadeMeans x d r
   pub size : length d ≡ m

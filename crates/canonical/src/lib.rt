@@ -1,5 +1,4 @@
-// The canonical file: one pass that checks and writes, into an array of the call's own; then a copy, where the output can hold it. Where the pass has met two
-// groups that are out of sequence, crate arranging writes the output in place of the copy.
+// The canonical file: one pass that checks and writes, into an array of the call's own; then a copy, where the output can hold it.
 // All bytes but a few are kept, so the pass copies runs of them: an item that has another spelling ends a run, and so does the file's end.
 // Definitions: notebook, specs/Canonical.antt; the same as the code writes it: specs/Writing.antt.
 ghost use Rattle.std.specs.Prelude.{◌≡◌, [], ◌∷◌, ◌+◌, ◌≤◌, length, drop};
@@ -15,11 +14,10 @@ ghost use Rattle.buffers.specs.Buffers.{Room, Wrote};
 ghost use Rattle.notebook.specs.Notebook.{records_from};
 ghost use Rattle.checking.specs.Walking.{Closing};
 ghost use Rattle.checking.specs.Opening.{Behind};
-ghost use Rattle.notebook.specs.Canonical.{record_row, canonical_result};
+ghost use Rattle.notebook.specs.Canonical.{record_row, canonical_file, canonical_result};
 ghost use Rattle.replies.specs.CallContracts.{Gives};
-ghost use Rattle.canonical.specs.Days.{no_days, opened_days, coded_days, days_step, line_key};
 ghost use Rattle.canonical.specs.Writing.{postal_bytes, number_bytes, day_bytes, item_bytes, Spellable, OwnUnless, Items, Sound};
-ghost use Rattle.canonical.specs.Writing.{Lies, Ready, Passed, spots_of, begins, ends, item_at, tail_at, Stays, Ended, reach, Finished, poured, Poured, closing, WrittenIn, Holds};
+ghost use Rattle.canonical.specs.Writing.{Lies, Ready, Passed, spots_of, begins, ends, item_at, tail_at, Stays, Ended, reach, Finished, poured, Poured, closing, MadeOf, Holds};
 
 use replies::Answer;
 
@@ -252,122 +250,34 @@ fn put_record(
 
 // ---- the file
 
-// What the pass keeps of the groups that it has met, to tell whether two that stand side by side are out of sequence: of one day, and the key of the second is less.
-// astray: 1 where two were; last: the key of the group before the open one, 0 where that is of another day, since no key is less; key: of the open group.
-#[derive(Drop)]
-pub struct Days {
-    pub astray: u32,
-    pub last: usize,
-    pub key: usize,
-}
-
-// A group begins; before: the day of the group before it. It has no code until its 11.
-fn open_group(days: Days, before: u32, day: u32) -> Days
-    ensures { result ≡ opened_days days before day }
-{
-    if before == day {
-        return Days {
-            astray: days.astray,
-            last: days.key,
-            key: places::NO_CODE,
-        };
-    }
-    Days {
-        astray: days.astray,
-        last: 0,
-        key: places::NO_CODE,
-    }
-}
-
-// The 11 of the open group.
-fn with_key(days: Days, key: usize) -> Days
-    ensures { result ≡ coded_days days key }
-{
-    let astray = days.astray;
-    let last = days.last;
-    if key < last {
-        return Days {
-            astray: 1,
-            last,
-            key,
-        };
-    }
-    Days { astray, last, key }
-}
-
-// The key of an 11 from at to end: what its fourth item spells, or more than seven digits can where that is empty.
-fn line_key(stops: &[usize; 16], n: usize, s: &[u8], at: usize, end: usize) -> usize
-    requires line_in { LineIn s.now at end stops.now n }
-    requires sound { Sound 11 (part s.now at end) }
-    ensures { result ≡ line_key (part s.now at end) }
-{
-    let code = lines::item_in(stops, n, s, at, end, 4);
-    let a = code.from;
-    let e = code.to;
-    if a == e {
-        return places::NO_CODE;
-    }
-    places::seven_value(&s[a..e])
-}
-
-// The same after one record more, of the line from at to end; before: the day of the last group before it; day: after it. Only a 5 and an 11 change anything.
-fn days_after(
-    days: Days,
-    number: u32,
-    before: u32,
-    day: u32,
-    stops: &[usize; 16],
-    n: usize,
-    s: &[u8],
-    at: usize,
-    end: usize,
-) -> Days
-    requires ended { Ended s.now at end }
-    requires commas { Commas (part s.now at end) n }
-    requires stops { Stops (part s.now at end) stops.now }
-    requires sixteen { Sixteen stops.now }
-    requires sound { Sound number (part s.now at end) }
-    ensures { result ≡ days_step days number before day (line_key (part s.now at end)) }
-{
-    if number == 5 {
-        return open_group(days, before, day);
-    }
-    if number == 11 {
-        let key = line_key(stops, n, s, at, end);
-        return with_key(days, key);
-    }
-    days
-}
-
-// The end of a file: what is missing there, or how many bytes are written, and whether two groups are out of sequence.
-fn close(st: order::State, at: usize, astray: u32) -> Answer
+// The end of a file: what is missing there, or how many bytes are written.
+fn close(st: order::State, at: usize) -> Answer
     requires closing { Closing st }
     requires at_bound { at ≤ 65536 }
-    ensures { result ≡ closing st at astray }
+    ensures { result ≡ closing st at }
 {
     let missing = st.finish();
     if missing == 0 {
-        return Answer::Done(at as u32, astray, 0);
+        return Answer::Done(at as u32, 0, 0);
     }
     Answer::Refused(missing, st.line + 1)
 }
 
 // The end of a file at a position: the last run, then as `close`.
-fn finish(st: order::State, s: &[u8], at: usize, out: &mut [u8], run: Run, astray: u32) -> Answer
+fn finish(st: order::State, s: &[u8], at: usize, out: &mut [u8], run: Run) -> Answer
     requires closing { Closing st }
     requires at_in_bounds { at ≤ length s.now }
     requires ready { Ready out.old run at [] }
     requires at_bound { reach run at ≤ 65536 }
-    ensures { Finished st s.now at out.old out.new run astray result }
+    ensures { Finished st s.now at out.old out.new run result }
 {
     let from = run.from;
     let next = run.at;
     let end = buffers::put_all(out, next, &s[from..at]);
-    close(st, end, astray)
+    close(st, end)
 }
 
-// Line 1, which is kept, and the records from after it on. Beside the bytes it tells whether two groups that stand side by side are out of sequence: in a file without
-// such the records stand as they lie.
+// Line 1, which is kept, and the records from after it on.
 fn write_records(
     codes: &[usize; 83],
     stops: &mut [usize; 16],
@@ -380,19 +290,14 @@ fn write_records(
     requires sixteen { Sixteen stops.old }
     requires behind { Behind s.now from }
     requires s_in_bounds { length s.now ≤ length out.old }
-    ensures { Poured (length out.old) (poured (sets out.old 0 (part s.now 0 from)) from no_days 0 (records_from (start provider) (rows (drop from s.now)))) out.new result }
+    ensures { Poured (length out.old) (poured (sets out.old 0 (part s.now 0 from)) from (records_from (start provider) (rows (drop from s.now)))) out.new result }
 {
     let mut st = order::State::new(provider);
     let mut at = from;
     let mut run = Run { from: 0, at: 0 };
-    let mut days = Days {
-        astray: 0,
-        last: 0,
-        key: 0,
-    };
     loop {
         match checking::read_record(codes, stops, st, s, at) {
-            checking::Turn::Over => return finish(st, s, at, out, run, days.astray),
+            checking::Turn::Over => return finish(st, s, at, out, run),
             checking::Turn::Refused(n) => {
                 let line = st.line + 1;
                 return Answer::Refused(n, line);
@@ -400,7 +305,6 @@ fn write_records(
             checking::Turn::On(after, _, _, end, commas) => {
                 let number = after.place;
                 run = put_record(number, stops, commas, s, at, end, out, run);
-                days = days_after(days, number, st.day, after.day, stops, commas, s, at, end);
                 st = after;
                 at = end + 2;
             }
@@ -408,11 +312,10 @@ fn write_records(
     }
 }
 
-// The records of an accepted file, each in its one spelling, as they lie, at the front of an array that holds the file; or the one refusal. The second value of the answer is 0
-// where the canonical file has them so too.
-pub fn written_into(s: &[u8], out: &mut [u8]) -> Answer
+// The canonical file of an accepted file at the front of an array that holds the file; or the one refusal.
+pub fn canonical_into(s: &[u8], out: &mut [u8]) -> Answer
     requires { Holds s.now out.old }
-    ensures { WrittenIn (length out.old) s.now out.new result }
+    ensures { MadeOf (length out.old) (canonical_file s.now) out.new result }
 {
     match checking::open_file(s) {
         checking::Opening::Refused(number, line) => Answer::Refused(number, line),
@@ -429,19 +332,15 @@ fn canonical_by(s: &[u8], file: &mut [u8], out: &mut [u8]) -> Answer
     requires { Holds s.now file.old }
     ensures { Gives (canonical_result s.now) out.old out.new result }
 {
-    match written_into(s, file) {
+    match canonical_into(s, file) {
         Answer::Refused(number, line) => Answer::Refused(number, line),
-        Answer::Done(bytes, astray, _) => {
+        Answer::Done(bytes, _, _) => {
             let start = 0;
             let end = bytes as usize;
             if out.len() < end {
                 return Answer::Refused(20, 0);
             }
-            if astray == 0 {
-                buffers::put_all(out, start, &file[start..end]);
-                return Answer::Done(bytes, 0, 0);
-            }
-            arranging::arrange_into(&file[start..end], out);
+            buffers::put_all(out, start, &file[start..end]);
             Answer::Done(bytes, 0, 0)
         }
     }

@@ -76,9 +76,9 @@ text_clean (a ∷ l) = go (is_stop a) refl (text_clean l)
     go false e i = rw e i
 
 -- a clean list before a 0Dh is the text
-pub text_of_lem : (t u : List ℕ) → clean t ≡ true → text (t ++ 0x0d ∷ u) ≡ t
-text_of_lem [] u e = refl
-text_of_lem (a ∷ t) u e = go (is_stop a) refl (text_of_lem t u) e
+pub text_of : (t u : List ℕ) → clean t ≡ true → text (t ++ 0x0d ∷ u) ≡ t
+text_of [] u e = refl
+text_of (a ∷ t) u e = go (is_stop a) refl (text_of t u) e
   where
     go : (b : Bool) → is_stop a ≡ b → (clean t ≡ true → text (t ++ 0x0d ∷ u) ≡ t) → (not b && clean t) ≡ true → text (a ∷ (t ++ 0x0d ∷ u)) ≡ a ∷ t
     go true p i e = absurd (false≢true e)
@@ -100,10 +100,10 @@ rows_line (a ∷ t) r e = go (is_stop a) refl (rows_line t r) e
 -- what is known of a clean text with its line end
 pub line_is : (t : List ℕ) → clean t ≡ true → is_line (t ++ line_end) ≡ true
 unfolding is_line
-line_is t e = ap (λ (x : List ℕ). same (t ++ line_end) (x ++ line_end)) (text_of_lem t (0x0a ∷ []) e) ∙ same_refl (t ++ line_end)
+line_is t e = ap (λ (x : List ℕ). same (t ++ line_end) (x ++ line_end)) (text_of t (0x0a ∷ []) e) ∙ same_refl (t ++ line_end)
 
 pub line_text : (t : List ℕ) → clean t ≡ true → text (t ++ line_end) ≡ t
-line_text t e = text_of_lem t (0x0a ∷ []) e
+line_text t e = text_of t (0x0a ∷ []) e
 
 pub line_no_mark : (t : List ℕ) → same (t ++ line_end) end_mark ≡ false
 line_no_mark [] = refl
@@ -126,7 +126,7 @@ line_first l r rs e h =
     let t : List ℕ = text r in
     let u : List ℕ = 0x0d ∷ 0x0a ∷ flat rs in
     let d : l ≡ t ++ u = sym (flat_rows l) ∙ ap flat e ∙ ap (λ (x : List ℕ). x ++ flat rs) (same_true r (t ++ line_end) h) ∙ append_assoc t line_end (flat rs) in
-    let x : text l ≡ t = ap text d ∙ text_of_lem t (0x0a ∷ flat rs) (text_clean r) in
+    let x : text l ≡ t = ap text d ∙ text_of t (0x0a ∷ flat rs) (text_clean r) in
     let n : length (text l) ≡ length t = ap length x in (
       omega (arith, n, ap length d, length-append t u),
       ap₂ (λ (s : List ℕ) (k : ℕ). get_or s k 0) d n ∙ get_or-append_seam t 0x0d (0x0a ∷ flat rs) 0,

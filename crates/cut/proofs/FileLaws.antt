@@ -20,18 +20,14 @@ use Rattle.replies.specs.declared.Answer.TheVariants.{Done, Refused}
 use Rattle.replies.specs.Results.{Result}
 use Rattle.replies.specs.CallContracts.{Gives}
 use Rattle.replies.proofs.Results.{gives_refusal}
-use Rattle.notebook.specs.Canonical.{head_row, record_rows, write_file, canonical_bytes, canonical_file}
-use Rattle.canonical.specs.Writing.{Written, WrittenMeans, WrittenIn}
-use Rattle.arranging.specs.Days.{AsWritten, ArrangedIn}
-use Rattle.notebook.proofs.Accepted.{accepted}
-use Rattle.notebook.proofs.WrittenLaws.{written_carries, written_small, written_long}
-use Rattle.buffers.proofs.Runs.{front}
+use Rattle.notebook.specs.Canonical.{head_row, record_rows, canonical_bytes, canonical_file}
+use Rattle.canonical.specs.Writing.{MadeMeans, MadeOf}
 use Rattle.notebook.proofs.CanonicalLaws.{canonical_head, canonical_rows, canonical_small, canonical_long}
 use Rattle.packing.specs.Widths.{Plan, in_one, in_runs, no_plan, plan}
 use Rattle.ids.specs.Used.{unused}
 use Rattle.division.specs.Marks.{valid_id, mark_row}
 use Rattle.division.specs.Cut.{piece_bytes, numbered, planned, cutting, listed, for_id, list_for, cut_list, writes_pieces, cut_result}
-use Rattle.cut.specs.Loops.{numbered_as, planned_as, cutting_of, Given, cut_of_bytes, cut_of_file}
+use Rattle.cut.specs.Loops.{numbered_as, planned_as, cutting_of, Given, cut_of_bytes}
 
 -- ---- the pieces of a notebook are those of its canonical bytes
 
@@ -56,43 +52,51 @@ module _ (f : List ℕ) (b : Notebook) (e : read_file f ≡ ok b) (id : List ℕ
       ap (λ (rs : List (List ℕ)). planned_as id (canonical_bytes b) (plan length c rs)) (canonical_rows f b e)
       ∙ planned_as_lem (plan length c (record_rows (arrange b).records))
 
+-- ---- the ways through cut
+
+-- an accepted file whose canonical bytes are s
+record Made (f s : List ℕ) : Type 0 where
+  book : Notebook
+  read : read_file f ≡ ok book
+  bytes : canonical_bytes book ≡ s
+
+made_of : (f s : List ℕ) (r : Res Notebook) → read_file f ≡ r → map_res canonical_bytes r ≡ ok s → Made f s
+made_of f s (ok b) q e = record { book = b; read = q; bytes = cc }
+made_of f s (refused n line) q e = let z : ◌≡◌ {A = ℕ} 0 1 = cc in absurd (omega arith)
+
+refused_of : (n line : ℕ) (r : Res Notebook) → map_res canonical_bytes r ≡ refused n line → r ≡ refused n line
+refused_of n line (ok b) e = let z : ◌≡◌ {A = ℕ} 0 1 = cc in absurd (omega arith)
+refused_of n line (refused m l) e = cc
+
 id_length : (id : List ℕ) → valid_id id ≡ true → length id ≡ 14
 unfolding valid_id
 id_length id e = eqb-true (length id) 14 (both (eqb (length id) 14) (all is_digit id) e).0
 
 -- ---- the ways through cut_by
 
-module _ (f : List ℕ) (c : ℕ) (id used d : List ℕ) {buf : List ℕ} {l : ℕ} {m : Answer} (p : WrittenIn l f buf m) where
+module _ (f : List ℕ) (c : ℕ) (id used d : List ℕ) {buf : List ℕ} {l : ℕ} {m : Answer} (p : MadeOf l (canonical_file f) buf m) where
   pub cut_refused : {n line : ℕ} → m ≡ Refused n line → Gives (cut_result f c id used) d d (Refused n line)
-  unfolding cut_result cut_list
+  unfolding canonical_file cut_result cut_list
   cut_refused {n} {line} e =
-      let q : read_file f ≡ refused n line = subst (WrittenMeans f buf) e p.means in
+      let q : read_file f ≡ refused n line = refused_of n line (read_file f) (subst (MadeMeans (map_res canonical_bytes (read_file f)) buf) e p.means) in
       gives_refusal d (ap (λ (r : Res Notebook). map_res writes_pieces (and_then r (list_for id used c))) q)
 
   module _ {t i j : ℕ} (e : m ≡ Done t i j) where
-    is : Written f buf t i
-    is = subst (WrittenMeans f buf) e p.means
-
-    abbrev b : Notebook
-    b = is.book
+    means : (canonical_file f ≡ ok (take t buf)) × (t ≤ length buf)
+    means = subst (MadeMeans (canonical_file f) buf) e p.means
 
     pub cut_inside : t ≤ length buf
-    cut_inside = is.high
+    cut_inside = means.1
 
-    bytes-are : part buf 0 t ≡ write_file b
-    bytes-are = let z : t - 0 ≡ t = omega arith in ap (λ (n : ℕ). take n buf) z ∙ is.bytes
-
-    written_read : read_file (part buf 0 t) ≡ ok b
-    written_read = ap read_file bytes-are ∙ written_carries f b is.read
-
-    pub cut-written : AsWritten (part buf 0 t)
-    cut-written = record { book = b; read = written_read; bytes = bytes-are }
+    made : Made f (part buf 0 t)
+    unfolding canonical_file
+    made = let z : t - 0 ≡ t = omega arith in made_of f (part buf 0 t) (read_file f) refl (rw z means.0)
 
     -- x, y: what the tests of the ID said
     module _ {x : Bool} (q : x ≡ valid_id id) where
-      list-is : (v u : Bool) → v ≡ valid_id id → u ≡ unused id used → cut_list f c id used ≡ for_id v u (listed (cutting id c (arrange b)))
+      list-is : (v u : Bool) → v ≡ valid_id id → u ≡ unused id used → cut_list f c id used ≡ for_id v u (listed (cutting id c (arrange made.book)))
       unfolding cut_list
-      list-is v u e₁ e₂ = ap (λ (r : Res Notebook). and_then r (list_for id used c)) is.read ∙ rw (← e₁, ← e₂)
+      list-is v u e₁ e₂ = ap (λ (r : Res Notebook). and_then r (list_for id used c)) made.read ∙ rw (← e₁, ← e₂)
 
       pub cut-no-id : not x ≡ true → Gives (cut_result f c id used) d d (Refused 17 0)
       unfolding cut_result
@@ -107,8 +111,8 @@ module _ (f : List ℕ) (c : ℕ) (id used d : List ℕ) {buf : List ℕ} {l : �
 
         pub cut-given : Given (part buf 0 t) id
         cut-given = record {
-          bytes = omega (arith, ap length bytes-are, written_small f b is.read);
-          header = omega (arith, ap length bytes-are, written_long f b is.read);
+          bytes = rw (← made.bytes) (canonical_small f made.book made.read);
+          header = rw (← made.bytes) (canonical_long f made.book made.read);
           ident = cut-long;
         }
 
@@ -118,57 +122,13 @@ module _ (f : List ℕ) (c : ℕ) (id used d : List ℕ) {buf : List ℕ} {l : �
           cut-used w = gives_refusal d (ap (map_res writes_pieces) (list-is true false digits (sym (not_true' y w) ∙ p₁)))
 
           module _ (w : not y ≡ false) where
-            pieces_are : cut_list f c id used ≡ listed (cutting_of id c (canonical_bytes b))
-            pieces_are = list-is true true digits (sym (not_false' y w) ∙ p₁) ∙ ap listed (sym (cutting_as f b is.read id c))
+            pieces_are : cut_list f c id used ≡ listed (cutting_of id c (part buf 0 t))
+            pieces_are =
+                list-is true true digits (sym (not_false' y w) ∙ p₁)
+                ∙ ap listed (sym (cutting_as f made.book made.read id c) ∙ ap (cutting_of id c) made.bytes)
 
-            -- no day has two groups: the bytes are the canonical file
-            pub cut-gives : {d' : List ℕ} {r : Answer} → i ≡ 0 → Gives (cut_of_bytes (part buf 0 t) c id) d d' r → Gives (cut_result f c id used) d d' r
-            unfolding cut_result cut_of_bytes canonical_bytes
-            cut-gives {d'} {r} n v =
-                let a : part buf 0 t ≡ write_file (arrange b) = bytes-are ∙ ap write_file (sym (is.settled n)) in
-                subst (λ (x : Res Result). Gives x d d' r) (ap (λ (x : List ℕ). map_res writes_pieces (listed (cutting_of id c x))) a ∙ ap (map_res writes_pieces) (sym pieces_are)) v
+            pub cut-gives : {d' : List ℕ} {r : Answer} → Gives (cut_of_bytes (part buf 0 t) c id) d d' r → Gives (cut_result f c id used) d d' r
+            unfolding cut_result cut_of_bytes
+            cut-gives {d'} {r} v = subst (λ (x : Res Result). Gives x d d' r) (ap (map_res writes_pieces) (sym pieces_are)) v
 
-            -- else they were arranged
-            pub cut-arranged-gives : {d' : List ℕ} {r : Answer} → Gives (cut_of_file (part buf 0 t) c id) d d' r → Gives (cut_result f c id used) d d' r
-            unfolding cut_result cut_of_bytes cut_of_file canonical_file
-            cut-arranged-gives {d'} {r} v =
-                subst (λ (x : Res Result). Gives x d d' r)
-                (ap (λ (x : Res Notebook). and_then (map_res canonical_bytes x) (λ w. map_res writes_pieces (listed (cutting_of id c w)))) written_read ∙ ap (map_res writes_pieces) (sym pieces_are)) v
-
-pub ruleset cut_laws = (cut_refused, cut_inside, cut-no-id, cut-long, cut-used, cut-given, cut-gives, cut-arranged-gives)
-
--- ---- the ways through cut_arranged: w is the canonical file of s, at the front of d'
-
-module _ (s : List ℕ) (c : ℕ) (id : List ℕ) {d d' : List ℕ} {n : ℕ} (a : AsWritten s) (w : ArrangedIn s d d' n) where
-  file_is : canonical_bytes a.book ≡ w.file
-  unfolding canonical_file
-  file_is = once (ap (map_res canonical_bytes) a.read) w.is
-    where
-      once : {r : Res (List ℕ)} {x y : List ℕ} → r ≡ ok x → r ≡ ok y → x ≡ y
-      once p q = cc
-
-  pub arranged_inside : n ≤ length d'
-  arranged_inside = omega (arith, w.wrote.high, w.wrote.size)
-
-  front_is : part d' 0 n ≡ w.file
-  front_is =
-      let z : n - 0 ≡ n = omega arith in
-      ap (λ (k : ℕ). take k d') z ∙ front w.wrote (omega (arith, w.wrote.next, w.wrote.high))
-
-  pub arranged_given : length id ≡ 14 → Given (part d' 0 n) id
-  arranged_given h = record {
-    bytes = omega (arith, ap length front_is, ap length file_is, canonical_small s a.book a.read);
-    header = omega (arith, ap length front_is, ap length file_is, canonical_long s a.book a.read);
-    ident = h;
-  }
-
-  pub arranged_gives : {o o' : List ℕ} {r : Answer} → Gives (cut_of_bytes (part d' 0 n) c id) o o' r → Gives (cut_of_file s c id) o o' r
-  unfolding cut_of_file
-  arranged_gives {o} {o'} {r} v =
-      subst (λ (x : Res Result). Gives x o o' r) (ap (λ (x : List ℕ). cut_of_bytes x c id) front_is ∙ sym (ap (λ (x : Res (List ℕ)). and_then x (λ y. cut_of_bytes y c id)) w.is)) v
-
-pub ruleset arranged_laws = (arranged_inside, arranged_given, arranged_gives)
-
--- any file fits the longest array
-pub any_fits : (s d : List ℕ) → length d ≡ 65536 → AsWritten s → length s ≤ length d
-any_fits s d e w = omega (arith, (accepted s w.book w.read).small)
+pub ruleset cut_laws = (cut_refused, cut_inside, cut-no-id, cut-long, cut-used, cut-given, cut-gives)

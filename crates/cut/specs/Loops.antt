@@ -4,11 +4,10 @@
 -- proofs/FileLaws.antt joins the two.
 use Rattle.std.specs.Prelude.{ℕ, zero, suc, ◌+◌, ◌-◌, ◌≤◌, ◌<◌, ◌≡◌, List, [], ◌∷◌, ◌++◌, length, drop}
 use Rattle.std.proofs.Math.Option.{Option, none, some}
-use Rattle.lists.specs.Lists.{Res, map_res, and_then}
+use Rattle.lists.specs.Lists.{Res, map_res}
 use Rattle.lists.specs.Searching.{part}
 use Rattle.digits.specs.Digits.{spell, digit_count}
 use Rattle.characters.specs.Rows.{rows, flat}
-use Rattle.notebook.specs.Canonical.{canonical_file}
 use Rattle.packing.specs.Packing.{pack}
 use Rattle.packing.specs.Widths.{Plan, in_one, in_runs, no_plan, over, tries, plan}
 use Rattle.division.specs.Marks.{mark_row}
@@ -135,7 +134,3 @@ pub record Given (s id : List ℕ) : Type 0 where
 -- what cutting them has to give
 unfoldable pub cut_of_bytes : List ℕ → ℕ → List ℕ → Res Result
 cut_of_bytes s c id = map_res writes_pieces (listed (cutting_of id c s))
-
--- the same of a file whose groups are not arranged yet
-unfoldable pub cut_of_file : List ℕ → ℕ → List ℕ → Res Result
-cut_of_file s c id = and_then (canonical_file s) (λ w. cut_of_bytes w c id)

@@ -7,12 +7,11 @@ ghost use Rattle.std.specs.Prelude.{◌≡◌, ◌≤◌, length};
 ghost use Rattle.buffers.specs.Buffers.{Wrote};
 ghost use Rattle.digits.specs.Digits.{digit_count};
 ghost use Rattle.packing.specs.Widths.{serves};
-ghost use Rattle.arranging.specs.Days.{AsWritten};
 ghost use Rattle.canonical.specs.Writing.{Holds};
 ghost use Rattle.division.specs.Marks.{mark_row};
 ghost use Rattle.division.specs.Cut.{cut_result};
 ghost use Rattle.replies.specs.CallContracts.{Gives};
-ghost use Rattle.cut.specs.Loops.{OverOf, RunAt, Small, chosen, MarkRoom, piece_as, PieceRoom, poured, Ready, Given, cut_of_bytes, cut_of_file};
+ghost use Rattle.cut.specs.Loops.{OverOf, RunAt, Small, chosen, MarkRoom, piece_as, PieceRoom, poured, Ready, Given, cut_of_bytes};
 
 use replies::Answer;
 
@@ -201,39 +200,8 @@ fn cut_bytes(s: &[u8], capacity: u64, id: &[u8], out: &mut [u8]) -> Answer
     }
 }
 
-// Cuts a file whose records are in their one spelling, but whose groups may have to change places; bytes: an array for its canonical file.
-fn cut_arranged_by(s: &[u8], bytes: &mut [u8], capacity: u64, id: &[u8], out: &mut [u8]) -> Answer
-    requires as_written { AsWritten s.now }
-    requires s_in_bounds { length s.now ≤ length bytes.old }
-    requires id_len { length id.now ≡ 14 }
-    ensures { Gives (cut_of_file s.now capacity id.now) out.old out.new result }
-{
-    let start = 0;
-    let end = arranging::arrange_into(s, bytes);
-    cut_bytes(&bytes[start..end], capacity, id, out)
-}
-
-// The same with an array of its own.
-fn cut_arranged(s: &[u8], capacity: u64, id: &[u8], out: &mut [u8]) -> Answer
-    requires as_written { AsWritten s.now }
-    requires id_len { length id.now ≡ 14 }
-    ensures { Gives (cut_of_file s.now capacity id.now) out.old out.new result }
-{
-    let len = s.len();
-    if len <= buffers::SHORT {
-        let mut bytes = [0u8; buffers::SHORT];
-        return cut_arranged_by(s, &mut bytes, capacity, id, out);
-    }
-    if len <= buffers::MIDDLING {
-        let mut bytes = [0u8; buffers::MIDDLING];
-        return cut_arranged_by(s, &mut bytes, capacity, id, out);
-    }
-    let mut bytes = [0u8; buffers::ANY];
-    cut_arranged_by(s, &mut bytes, capacity, id, out)
-}
-
 // Cuts a file into pieces of at most the capacity, one after another from the output's start on; or the one refusal. used: the run of used IDs.
-// bytes: an array for the file with its records in their one spelling, which is the canonical file where no two groups are out of sequence.
+// bytes: an array for the canonical file.
 fn cut_by(
     file: &[u8],
     bytes: &mut [u8],
@@ -245,9 +213,9 @@ fn cut_by(
     requires { Holds file.now bytes.old }
     ensures { Gives (cut_result file.now capacity id.now used.now) out.old out.new result }
 {
-    match canonical::written_into(file, bytes) {
+    match canonical::canonical_into(file, bytes) {
         Answer::Refused(number, line) => Answer::Refused(number, line),
-        Answer::Done(count, astray, _) => {
+        Answer::Done(count, _, _) => {
             if !pieces::valid_id(id) {
                 return Answer::Refused(17, 0);
             }
@@ -256,10 +224,7 @@ fn cut_by(
             }
             let start = 0;
             let end = count as usize;
-            if astray == 0 {
-                return cut_bytes(&bytes[start..end], capacity, id, out);
-            }
-            cut_arranged(&bytes[start..end], capacity, id, out)
+            cut_bytes(&bytes[start..end], capacity, id, out)
         }
     }
 }

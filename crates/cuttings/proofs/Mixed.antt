@@ -13,7 +13,7 @@ use Rattle.characters.specs.Rows.{flat}
 use Rattle.records.specs.Records.{is_mark}
 use Rattle.division.specs.Pieces.{Piece, split}
 use Rattle.division.specs.Join.{unmarked, Part, part_of, part_with, all_parts, join_parts, join_pieces, joined_file, join_file, join_result}
-use Rattle.lists.specs.Orders.{Insert, here, there}
+use Rattle.division.specs.Orders.{Insert, here, there}
 use Rattle.division.specs.Demand.{OnePiece}
 use Rattle.division.proofs.Chunks.{Chunk, mark, chunk_bytes, piece_of, Good, split_bytes, chunks_once}
 use Rattle.division.proofs.Parts.{no_none, some_inj, Joined, parts_joined}

@@ -11,7 +11,7 @@ use Rattle.ids.specs.Runs.{InRun, OtherLength}
 use Rattle.division.specs.Marks.{valid_id}
 use Rattle.division.specs.Cut.{cut_result}
 use Rattle.division.specs.Join.{join_result}
-use Rattle.lists.specs.Orders.{Insert}
+use Rattle.division.specs.Orders.{Insert}
 use Rattle.division.specs.Demand.{OnePiece, ListIn, ForFile, Valid}
 
 -- ---- "(24 used: the run's length isn't a multiple of 14 or one of its IDs is the one given; line 0, after 17 and before 18.)"

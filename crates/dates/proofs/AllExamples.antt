@@ -1,7 +1,5 @@
 -- The dates of specs/Examples.antt come out as written there. Assumes nothing.
 use mathlib.Core.Path.{◌≡◌, refl}
-use Rattle.lists.specs.Sequence.{in_sequence}
-use mathlib.Core.List.{flatten}
 use Rattle.lists.specs.Lists.{bytes, ok, map_res}
 use Rattle.digits.specs.Digits.{value as digitsValue, spell}
 use Rattle.characters.specs.Rows.{is_line}
@@ -18,12 +16,11 @@ use Rattle.rules.specs.Rules.{pair_broken, misplaced, closes_rp, lacking, missin
 use Rattle.order.specs.State.{nothing_yet, start, had_after, advance, refusal_of, finish_of, step_of}
 use Rattle.notebook.specs.Facts.{facts_of}
 use Rattle.notebook.specs.Notebook.{step_line, closed, onward, records_from, read_rows, read_file}
-use Rattle.notebook.specs.Groups.{parts_of, records_of}
 use Rattle.notebook.specs.Same.{arrange}
 use Rattle.notebook.specs.Canonical.{record_rows, write_file, canonical_bytes, canonical_file}
 use Rattle.dates.specs.Dates.{line_dates, file_dates}
 use Rattle.dates.specs.Examples.{notes, its_dates, canonical_dates}
 
 pub dates_hold : (file_dates notes ≡ its_dates) × (map_res file_dates (canonical_file notes) ≡ ok canonical_dates)
-unfolding bytes spell is_line digitsValue leap month_length is_real is_day gregorian era_of era_on in_era from_era read_day write_day table edge one_width is_decimal sized fault value_of item_fault item_value items_fault items_value row_in table_row pairs t911 record_from fault_from line_fault record_of header in_group may_follow pair_broken misplaced closes_rp lacking missing value_wrong newer_group order_refusal unfinished nothing_yet start had_after advance refusal_of step_of finish_of facts_of step_line closed onward records_from read_rows read_file joined write record_rows flatten parts_of records_of in_sequence arrange write_file canonical_bytes canonical_file line_dates file_dates
+unfolding bytes spell is_line digitsValue leap month_length is_real is_day gregorian era_of era_on in_era from_era read_day write_day table edge one_width is_decimal sized fault value_of item_fault item_value items_fault items_value row_in table_row pairs t911 record_from fault_from line_fault record_of header in_group may_follow pair_broken misplaced closes_rp lacking missing value_wrong newer_group order_refusal unfinished nothing_yet start had_after advance refusal_of step_of finish_of facts_of step_line closed onward records_from read_rows read_file joined write record_rows arrange write_file canonical_bytes canonical_file line_dates file_dates
 dates_hold = (refl, refl)

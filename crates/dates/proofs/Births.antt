@@ -3,9 +3,8 @@ use Prim.Native.Nat.{ℕ, ◌≤◌}
 use native.Mathlib.Omega.{arith}
 use mathlib.Core.Path.{◌≡◌, refl, sym, ap, ap₂, subst, ◌∙◌}
 use mathlib.Core.Bool.{true, false}
-use mathlib.Core.List.{List, [], ◌∷◌, ◌++◌, flatten}
+use mathlib.Core.List.{List, [], ◌∷◌, ◌++◌}
 use lib.ListN.{length, drop, length-append}
-use Rattle.lists.specs.Sequence.{in_sequence}
 use Rattle.lists.specs.Lists.{bytes, empty, ok}
 use Rattle.digits.specs.Digits.{spell}
 use Rattle.characters.specs.Text.{text}
@@ -29,12 +28,11 @@ use Rattle.rules.specs.Rules.{pair_broken, misplaced, continues, closes_rp, lack
 use Rattle.order.specs.State.{nothing_yet, start, had_after, advance, refusal_of, finish_of, step_of}
 use Rattle.notebook.specs.Facts.{facts_of}
 use Rattle.notebook.specs.Notebook.{Notebook, read_file}
-use Rattle.notebook.specs.Groups.{parts_of, records_of}
 use Rattle.notebook.specs.Same.{arrange}
 use Rattle.notebook.specs.Canonical.{head_row, canonical_bytes}
 use Rattle.notebook.proofs.Accepted.{Reads, none, more, Ruled, over, next, carries, row_cut, rows_flat, head_line, head_length}
 use Rattle.notebook.proofs.WrittenLaws.{row_of}
-use Rattle.lists.specs.Orders.{Insert, here}
+use Rattle.division.specs.Orders.{Insert, here}
 use Rattle.division.proofs.Answers.{canonical_file_lem}
 use Rattle.dates.specs.Dates.{Spelled, dates_among, line_dates, rows_dates, file_dates, WrittenFor}
 use Rattle.dates.proofs.Written.{file_dates_lem, head_dates}
@@ -130,7 +128,7 @@ module _ (n : ℕ) (s : List ℕ) (f : empty s ≡ false) (p : Plain s) (z : len
 
 -- every day is written in some canonical file
 pub written_once : (n : ℕ) → is_day n ≡ true → WrittenFor n (write_day n)
-unfolding write_day book birth flatten parts_of records_of in_sequence arrange
+unfolding write_day book birth arrange
 written_once n d =
     let c = birth_file n (write_day n) refl (write_plain n d) refl (read_write n d) in
     let g = file n (write_day n) refl (write_plain n d) refl (read_write n d) in

@@ -16,7 +16,7 @@ use Rattle.eras.specs.Orderly.{newest_era}
 use Rattle.eras.proofs.Eras.{WellMade, day_newest, eras_named, letter_row, on_newest, newest_under}
 use Rattle.calendar.proofs.Laws.{Plain, in_range, read_under, read_write, under_plain}
 use Rattle.calendar.proofs.EraForm.{Within, EraSpelled, era_spelled}
-use Rattle.lists.specs.Orders.{Insert, here}
+use Rattle.division.specs.Orders.{Insert, here}
 use Rattle.dates.specs.Dates.{WrittenFor, ReadUnder, SpelledOnce, UnderNewest, UnderReiwa, ReiwaYears, ReadInEra, ReadReiwa, ReadHeisei}
 use Rattle.dates.proofs.Written.{IsRead, inserted, written_is, dates_read}
 use Rattle.dates.proofs.Births.{file, book, birth_file, its_dates_lem, written_once}

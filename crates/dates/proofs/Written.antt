@@ -27,7 +27,7 @@ use Rattle.notebook.specs.Canonical.{head_row, record_row, record_rows, write_fi
 use Rattle.notebook.proofs.Accepted.{Reads, Lines, none, more, accepted, row_cut, rows_flat, head_line, head_text}
 use Rattle.notebook.proofs.WrittenLaws.{row_read, record_lines}
 use Rattle.notebook.proofs.CanonicalLaws.{canonical_carries}
-use Rattle.lists.specs.Orders.{Insert, here, there}
+use Rattle.division.specs.Orders.{Insert, here, there}
 use Rattle.division.proofs.Answers.{canonical_is}
 use Rattle.dates.specs.Dates.{Spelled, dated, dates_among, line_dates, rows_dates, file_dates, WrittenFor}
 

@@ -14,7 +14,7 @@ use Rattle.records.specs.Split.{items_of}
 use Rattle.records.specs.Items.{Value, raw, num, day}
 use Rattle.records.specs.Records.{record_of}
 use Rattle.notebook.specs.Notebook.{Notebook, read_file}
-use Rattle.lists.specs.Orders.{Insert}
+use Rattle.division.specs.Orders.{Insert}
 use Rattle.division.specs.Demand.{CanonicalFile}
 
 -- ---- the dates of a file

@@ -1,13 +1,11 @@
 -- The worked examples of specs/Examples.antt and specs/SoundExamples.antt come out as written there. Assumes nothing.
-use Prim.Native.Nat.{ℕ, ◌≤◌}
+use Prim.Native.Nat.{ℕ}
 use native.Mathlib.Omega.{arith}
 use mathlib.Core.Path.{◌≡◌, refl, sym, ap, ◌∙◌}
 use mathlib.Core.Bool.{true, false}
-use mathlib.Core.List.{List, [], ◌∷◌, map, flatten}
-use lib.ListN.{length, replicate, get_or}
-use Rattle.lists.specs.Sequence.{enter, in_sequence}
+use mathlib.Core.List.{List, [], ◌∷◌, map}
+use lib.ListN.{length, replicate}
 use Rattle.lists.specs.Lists.{bytes, same, All, Res, ok, refused}
-use Rattle.lists.proofs.Orders.{all_map}
 use Rattle.lists.proofs.Tests.{same_refl}
 use Rattle.digits.specs.Digits.{value, number, spell, digit_count}
 use Rattle.characters.specs.Rows.{flat, is_line}
@@ -17,16 +15,15 @@ use Rattle.calendar.specs.Day.{gregorian}
 use Rattle.calendar.specs.Era.{in_era, from_era, read_day}
 use Rattle.records.specs.Split.{joined}
 use Rattle.records.specs.Table.{table}
-use Rattle.records.specs.Items.{edge, one_width, seven, is_decimal, sized, fault, value_of as value_of}
-use Rattle.records.specs.Records.{Record, item_fault, item_value, items_fault, items_value, row_in, table_row, pairs, t911, is_mark, record_from, fault_from, line_fault, record_of, header, write}
+use Rattle.records.specs.Items.{edge, one_width, is_decimal, sized, fault, value_of as value_of}
+use Rattle.records.specs.Records.{item_fault, item_value, items_fault, items_value, row_in, table_row, pairs, t911, is_mark, record_from, fault_from, line_fault, record_of, header, write}
 use Rattle.rules.specs.Places.{in_group, may_follow}
 use Rattle.rules.specs.Rules.{pair_broken, misplaced, closes_rp, lacking, missing, value_wrong, newer_group, order_refusal, unfinished}
 use Rattle.order.specs.State.{nothing_yet, start, had_after, advance, refusal_of, step_of, finish_of}
 use Rattle.notebook.specs.Facts.{facts_of}
 use Rattle.notebook.specs.Notebook.{Notebook, step_line, closed, onward, records_from, read_rows, read_file}
 use Rattle.notebook.proofs.Accepted.{no_refusal}
-use Rattle.notebook.specs.Groups.{parts_of, records_of, first, group_day, institution}
-use Rattle.notebook.specs.Same.{smaller, code_first, behind, arrange}
+use Rattle.notebook.specs.Same.{arrange}
 use Rattle.notebook.specs.Canonical.{record_rows, write_file, canonical_bytes}
 use Rattle.notebook.proofs.CanonicalLaws.{canonical_same}
 use Rattle.ids.specs.Used.{first_i_ds, ids_in, unused}
@@ -38,8 +35,8 @@ use Rattle.division.specs.Join.{unmarked, part_of, all_parts, agree, find_part, 
 use Rattle.replies.specs.Results.{answer_in}
 use Rattle.division.specs.Cut.{piece_bytes, numbered, cutting, cut_list, cut_result}
 use Rattle.division.specs.Examples.{ident, mark_lines, their_marks, inputs, their_files, Asked, asked, their_answers}
-use Rattle.division.specs.Demand.{OnePiece, Within, Sound, Arranged}
-use Rattle.division.specs.SoundExamples.{two_dates, Claim, their_file, sound, not_sound, sixty, Unarranged, four_for_five, nine_for_none, unarranged, six_for_five, six_joined}
+use Rattle.division.specs.Demand.{Sound}
+use Rattle.division.specs.SoundExamples.{two_dates, Claim, their_file, sound, not_sound}
 
 pub mark_written : mark_line ident 12 3 ≡ bytes "911,20261115000001,12,3"
 unfolding bytes spell joined t911 mark_line
@@ -54,7 +51,7 @@ unfolding bytes value number spell is_line leap month_length is_real is_day greg
 joins_hold = refl
 
 pub cuts_hold : map (λ (a : Asked). answer_in (cut_result a.file a.capacity a.id a.used) (replicate a.room 0)) asked ≡ their_answers
-unfolding bytes spell is_line value leap month_length is_real is_day gregorian era_of era_on in_era from_era read_day write_day table edge one_width is_decimal sized fault value_of item_fault item_value items_fault items_value row_in table_row pairs t911 record_from fault_from line_fault record_of header in_group may_follow pair_broken misplaced closes_rp lacking missing value_wrong newer_group order_refusal unfinished nothing_yet start had_after advance refusal_of step_of finish_of facts_of step_line closed onward records_from read_rows read_file joined write record_rows flatten parts_of records_of in_sequence arrange write_file canonical_bytes total put pack digit_count over serves tries plan valid_id first_i_ds ids_in unused mark_line mark_row piece_bytes numbered cutting cut_list cut_result answer_in
+unfolding bytes spell is_line value leap month_length is_real is_day gregorian era_of era_on in_era from_era read_day write_day table edge one_width is_decimal sized fault value_of item_fault item_value items_fault items_value row_in table_row pairs t911 record_from fault_from line_fault record_of header in_group may_follow pair_broken misplaced closes_rp lacking missing value_wrong newer_group order_refusal unfinished nothing_yet start had_after advance refusal_of step_of finish_of facts_of step_line closed onward records_from read_rows read_file joined write record_rows arrange write_file canonical_bytes total put pack digit_count over serves tries plan valid_id first_i_ds ids_in unused mark_line mark_row piece_bytes numbered cutting cut_list cut_result answer_in
 cuts_hold = refl
 
 -- ---- sound lists
@@ -64,7 +61,7 @@ infixr 5 ◌also◌
 x also y = (x, y)
 
 pub sound_hold : All (λ (x : Claim). Sound two_dates x.capacity x.list) sound
-unfolding bytes value number spell is_line leap month_length is_real is_day gregorian era_of era_on in_era from_era read_day write_day table edge one_width is_decimal sized fault value_of item_fault item_value items_fault items_value row_in table_row pairs t911 is_mark record_from fault_from line_fault record_of header in_group may_follow pair_broken misplaced closes_rp lacking missing value_wrong newer_group order_refusal unfinished nothing_yet start had_after advance refusal_of step_of finish_of facts_of step_line closed onward records_from read_rows read_file joined write record_rows flatten parts_of records_of in_sequence arrange write_file canonical_bytes valid_id read_mark kind_of broken_from broken_line body_of pieces_in split_rows split file_of unmarked part_of all_parts agree find_part gather join_pieces joined_file join_file
+unfolding bytes value number spell is_line leap month_length is_real is_day gregorian era_of era_on in_era from_era read_day write_day table edge one_width is_decimal sized fault value_of item_fault item_value items_fault items_value row_in table_row pairs t911 is_mark record_from fault_from line_fault record_of header in_group may_follow pair_broken misplaced closes_rp lacking missing value_wrong newer_group order_refusal unfinished nothing_yet start had_after advance refusal_of step_of finish_of facts_of step_line closed onward records_from read_rows read_file joined write record_rows arrange write_file canonical_bytes valid_id read_mark kind_of broken_from broken_line body_of pieces_in split_rows split file_of unmarked part_of all_parts agree find_part gather join_pieces joined_file join_file
 sound_hold =
     record {
       pieces = record { piece = _; is = refl } also record { piece = _; is = refl } also record { piece = _; is = refl } also tt;
@@ -105,7 +102,7 @@ other ps c w j d s =
     omega arith
 
 pub not_sound_lem : All (λ (x : Claim). Sound two_dates x.capacity x.list → ⊥) not_sound
-unfolding bytes value number spell is_line leap month_length is_real is_day gregorian era_of era_on in_era from_era read_day write_day table edge one_width is_decimal sized fault value_of item_fault item_value items_fault items_value row_in table_row pairs t911 is_mark record_from fault_from line_fault record_of header in_group may_follow pair_broken misplaced closes_rp lacking missing value_wrong newer_group order_refusal unfinished nothing_yet start had_after advance refusal_of step_of finish_of facts_of step_line closed onward records_from read_rows read_file joined write record_rows flatten parts_of records_of in_sequence arrange write_file canonical_bytes valid_id read_mark kind_of broken_from broken_line body_of pieces_in split_rows split file_of unmarked part_of all_parts agree find_part gather join_pieces joined_file join_file
+unfolding bytes value number spell is_line leap month_length is_real is_day gregorian era_of era_on in_era from_era read_day write_day table edge one_width is_decimal sized fault value_of item_fault item_value items_fault items_value row_in table_row pairs t911 is_mark record_from fault_from line_fault record_of header in_group may_follow pair_broken misplaced closes_rp lacking missing value_wrong newer_group order_refusal unfinished nothing_yet start had_after advance refusal_of step_of finish_of facts_of step_line closed onward records_from read_rows read_file joined write record_rows arrange write_file canonical_bytes valid_id read_mark kind_of broken_from broken_line body_of pieces_in split_rows split file_of unmarked part_of all_parts agree find_part gather join_pieces joined_file join_file
 not_sound_lem =
     (λ s. omega (arith, s.fits.1.1.0.fits))
     also (λ s. two_one s.pieces.0.is)
@@ -117,73 +114,3 @@ not_sound_lem =
     also other _ _ _ refl refl
     also other _ _ _ refl refl
     also tt
-
--- ---- sound lists whose joined file is not arranged
-
--- a piece that fits
-record Fitting (p : List ℕ) : Type 0 where
-  whole : OnePiece p
-  within : Within sixty p
-
-fitting : {p : List ℕ} (x : Piece) → split p ≡ ok (x ∷ []) → length p ≤ sixty → Fitting p
-fitting x e h = record { whole = record { piece = x; is = e }; within = record { fits = h } }
-
--- the record at a place of the file is another than in the arranged file
-abbrev number_at : ℕ → Notebook → ℕ
-number_at i b = get_or (map (λ (r : Record). r.number) b.records) i 0
-
-pub record Apart (x : Unarranged) : Type 0 where
-  pub sound : Sound x.file sixty x.list
-  pub apart : Arranged sound → ⊥
-
-pub unarranged_hold : All Apart unarranged
-unfolding bytes value number spell is_line leap month_length is_real is_day gregorian era_of era_on in_era from_era read_day write_day table edge one_width seven is_decimal sized fault value_of item_fault item_value items_fault items_value row_in table_row pairs t911 is_mark record_from fault_from line_fault record_of header in_group may_follow pair_broken misplaced closes_rp lacking missing value_wrong newer_group order_refusal unfinished nothing_yet start had_after advance refusal_of step_of finish_of facts_of step_line closed onward records_from read_rows read_file joined write record_rows flatten parts_of records_of smaller code_first first group_day institution behind enter in_sequence arrange write_file canonical_bytes valid_id read_mark kind_of broken_from broken_line body_of pieces_in split_rows split file_of unmarked part_of all_parts agree find_part gather join_pieces joined_file join_file
-unarranged_hold =
-    (let p : All Fitting four_for_five.list = fitting _ refl (omega arith) also fitting _ refl (omega arith) also fitting _ refl (omega arith) also fitting _ refl (omega arith) also tt in
-    record {
-      sound = record {
-        pieces = all_map Fitting OnePiece (λ p h. h.whole) four_for_five.list p;
-        fits = all_map Fitting (Within sixty) (λ p h. h.within) four_for_five.list p;
-        file = four_for_five.file;
-        joins = refl;
-        same = record { one = _; other = _; read_one = refl; read_other = refl; same = refl };
-      };
-      apart = λ a. omega (arith, ap (number_at 2) a);
-    })
-    also (let p : All Fitting nine_for_none.list =
-    fitting _ refl (omega arith) also fitting _ refl (omega arith) also fitting _ refl (omega arith) also fitting _ refl (omega arith) also fitting _ refl (omega arith)
-    also fitting _ refl (omega arith) also fitting _ refl (omega arith) also fitting _ refl (omega arith) also fitting _ refl (omega arith) also tt in
-    record {
-      sound = record {
-        pieces = all_map Fitting OnePiece (λ p h. h.whole) nine_for_none.list p;
-        fits = all_map Fitting (Within sixty) (λ p h. h.within) nine_for_none.list p;
-        file = nine_for_none.file;
-        joins = refl;
-        same = record { one = _; other = _; read_one = refl; read_other = refl; same = refl };
-      };
-      apart = λ a. omega (arith, ap (number_at 7) a);
-    })
-    also tt
-
-pub cuts_arranged : map (λ (x : Unarranged). answer_in (cut_result x.file sixty ident []) (replicate 300 0)) unarranged ≡ map (λ (x : Unarranged). x.said) unarranged
-unfolding bytes spell is_line value leap month_length is_real is_day gregorian era_of era_on in_era from_era read_day write_day table edge one_width seven is_decimal sized fault value_of item_fault item_value items_fault items_value row_in table_row pairs t911 record_from fault_from line_fault record_of header in_group may_follow pair_broken misplaced closes_rp lacking missing value_wrong newer_group order_refusal unfinished nothing_yet start had_after advance refusal_of step_of finish_of facts_of step_line closed onward records_from read_rows read_file joined write record_rows flatten parts_of records_of smaller code_first first group_day institution behind enter in_sequence arrange write_file canonical_bytes total put pack digit_count over serves tries plan valid_id first_i_ds ids_in unused mark_line mark_row piece_bytes numbered cutting cut_list cut_result answer_in
-cuts_arranged = refl
-
-pub record Ordered (f : List ℕ) (ps : List (List ℕ)) : Type 0 where
-  pub sound : Sound f sixty ps
-  pub arranged : Arranged sound
-
-pub arranged_other : Ordered four_for_five.file six_for_five
-unfolding bytes value number spell is_line leap month_length is_real is_day gregorian era_of era_on in_era from_era read_day write_day table edge one_width seven is_decimal sized fault value_of item_fault item_value items_fault items_value row_in table_row pairs t911 is_mark record_from fault_from line_fault record_of header in_group may_follow pair_broken misplaced closes_rp lacking missing value_wrong newer_group order_refusal unfinished nothing_yet start had_after advance refusal_of step_of finish_of facts_of step_line closed onward records_from read_rows read_file joined write record_rows flatten parts_of records_of smaller code_first first group_day institution behind enter in_sequence arrange write_file canonical_bytes valid_id read_mark kind_of broken_from broken_line body_of pieces_in split_rows split file_of unmarked part_of all_parts agree find_part gather join_pieces joined_file join_file
-arranged_other =
-    let p : All Fitting six_for_five = fitting _ refl (omega arith) also fitting _ refl (omega arith) also fitting _ refl (omega arith) also fitting _ refl (omega arith) also fitting _ refl (omega arith) also fitting _ refl (omega arith) also tt in
-    record {
-      sound = record {
-        pieces = all_map Fitting OnePiece (λ p h. h.whole) six_for_five p;
-        fits = all_map Fitting (Within sixty) (λ p h. h.within) six_for_five p;
-        file = six_joined;
-        joins = refl;
-        same = record { one = _; other = _; read_one = refl; read_other = refl; same = refl };
-      };
-      arranged = refl;
-    }

@@ -17,7 +17,7 @@ use Rattle.notebook.specs.Notebook.{Notebook, read_file}
 use Rattle.notebook.specs.Same.{arrange}
 use Rattle.notebook.specs.Canonical.{write_file, canonical_bytes, canonical_file, canonical_result}
 use Rattle.notebook.proofs.Accepted.{no_refusal}
-use Rattle.notebook.proofs.Arranging.{arranged_carries, arranged_again}
+use Rattle.notebook.proofs.Arranging.{arranged_carries, arranged_again, arrange_as_is}
 use Rattle.ids.specs.Used.{unused}
 use Rattle.division.specs.Marks.{valid_id}
 use Rattle.division.proofs.Chunks.{chunk_bytes, chunks_once}
@@ -29,9 +29,8 @@ use Rattle.replies.specs.declared.Reply.{Reply}
 use Rattle.replies.specs.Replies.{refusal, result, reply_of}
 use Rattle.replies.specs.Results.{Result, writes as writing, answer_of, fitting, answer_in, reply_to, output_of}
 use Rattle.replies.proofs.Results.{gives_refusal, gives-20, gives-result}
-use Rattle.lists.specs.Orders.{Perm}
-use Rattle.lists.proofs.Orders.{perm_refl}
-use Rattle.division.specs.Demand.{OnePiece, ListIn, Sound, Arranged, Written, Delivers, CanonicalFile, JoinedFile, Valid, Found, OneOfThree, OwnCanonical}
+use Rattle.division.specs.Orders.{Perm}
+use Rattle.division.specs.Demand.{OnePiece, ListIn, Sound, Written, Delivers, CanonicalFile, JoinedFile, Valid, Found, OneOfThree}
 use Rattle.division.proofs.Own.{sound, restores}
 use Rattle.division.proofs.Fewest.{Chunks, chunked, Listed, least}
 
@@ -123,21 +122,9 @@ module _ (f : List ℕ) (b : Notebook) (c : ℕ) (id used : List ℕ) (e : read_
       let r : read_file (write_file (arrange b)) ≡ ok (arrange b) = arranged_carries f b e in
       sound (write_file (arrange b)) id (arrange b) c r v f (record { one = arrange b; other = b; read_one = r; read_other = e; same = arranged_again b })
 
-  -- its joined file is the canonical file, which is arranged
-  pub own_arranged : (v : valid_id id ≡ true) (ps : List (List ℕ)) (q : cutting id c (arrange b) ≡ some ps) → Arranged (own_sound v ps q)
-  own_arranged v ps q =
-      let s : Sound f c ps = own_sound v ps q in
-      let r : read_file (write_file (arrange b)) ≡ ok (arrange b) = arranged_carries f b e in
-      let one : s.same.one ≡ arrange b =
-      carried s.joins (restores (write_file (arrange b)) id (arrange b) c r v ps ps q (perm_refl ps)) s.same.read_one r in
-      ap arrange one ∙ arranged_again b ∙ sym one
-    where
-      carried : {j : Res (List ℕ)} {v w : List ℕ} {x y : Notebook} → j ≡ ok v → j ≡ ok w → read_file v ≡ ok x → read_file w ≡ ok y → x ≡ y
-      carried h k p q = cc
-
-  -- where the joined file is arranged its records stand as in the canonical file
-  joined_arranged : (qs : List (List ℕ)) (s : Sound f c qs) → Arranged s → s.same.one ≡ arrange b
-  joined_arranged qs s a = sym a ∙ s.same.same ∙ ap arrange (once s.same.read_other e)
+  -- the records of the joined file stand in the sequence of the canonical file
+  joined_arranged : (qs : List (List ℕ)) (s : Sound f c qs) → s.same.one ≡ arrange b
+  joined_arranged qs s = sym (arrange_as_is s.same.one) ∙ s.same.same ∙ ap arrange (once s.same.read_other e)
     where
       once : {r : Res Notebook} {x y : Notebook} → r ≡ ok x → r ≡ ok y → x ≡ y
       once p q = cc
@@ -207,8 +194,7 @@ module _ (f : List ℕ) (b : Notebook) (c : ℕ) (id used : List ℕ) (e : read_
         is = record { bytes = w.front; whole = s.pieces; count = w.count };
         inside = w.inside;
         sound = s;
-        arranged = own_arranged w.found.valid.digits w.list w.found.is;
-        fewest = λ qs u a. omega (arith, few w (least id (arrange b) c f qs u (joined_arranged qs u a)));
+        fewest = λ qs u. omega (arith, few w (least id (arrange b) c f qs u (joined_arranged qs u)));
         only = λ qs i. pieces_once qs w.list i.whole s.pieces (sym i.bytes ∙ w.front);
       }
     where
@@ -238,15 +224,15 @@ module _ (f : List ℕ) (b : Notebook) (c : ℕ) (id used : List ℕ) (e : read_
           let z : ◌≡◌ {A = ℕ} 20 18 = cc in
           omega arith
 
-  pub finds : Valid id used → (out : List ℕ) → (answer_in (cut_result f c id used) out ≡ Refused 18 0) ↔ ((qs : List (List ℕ)) (s : Sound f c qs) → Arranged s → ⊥)
+  pub finds : Valid id used → (out : List ℕ) → (answer_in (cut_result f c id used) out ≡ Refused 18 0) ↔ ((qs : List (List ℕ)) → Sound f c qs → ⊥)
   finds v out = (
-    λ h qs s a. let l : Listed id (arrange b) c (length qs) = least id (arrange b) c f qs s (joined_arranged qs s a) in list_no_18 v out l.list l.is h,
+    λ h qs s. let l : Listed id (arrange b) c (length qs) = least id (arrange b) c f qs s (joined_arranged qs s) in list_no_18 v out l.list l.is h,
     λ h. go h (cutting id c (arrange b)) refl,
   )
     where
-      go : ((qs : List (List ℕ)) (s : Sound f c qs) → Arranged s → ⊥) → (m : Option (List (List ℕ))) → cutting id c (arrange b) ≡ m → answer_in (cut_result f c id used) out ≡ Refused 18 0
+      go : ((qs : List (List ℕ)) → Sound f c qs → ⊥) → (m : Option (List (List ℕ))) → cutting id c (arrange b) ≡ m → answer_in (cut_result f c id used) out ≡ Refused 18 0
       go h none q = no_list_18 v out q
-      go h (some ps) q = absurd (h ps (own_sound v.digits ps q) (own_arranged v.digits ps q))
+      go h (some ps) q = absurd (h ps (own_sound v.digits ps q))
 
   -- ---- a list that is found
 
@@ -259,7 +245,7 @@ module _ (f : List ℕ) (b : Notebook) (c : ℕ) (id used : List ℕ) (e : read_
     where
       go : (m : Option (List (List ℕ))) → cutting id c (arrange b) ≡ m → Found f c id used
       go none q = absurd (h (ap reply_of (no_list_18 v out q)))
-      go (some ps) q = record { list = ps; sound = own_sound v.digits ps q; arranged = own_arranged v.digits ps q; delivered = delivers ps (list_of v ∙ ap listed q) }
+      go (some ps) q = record { list = ps; sound = own_sound v.digits ps q; delivered = delivers ps (list_of v ∙ ap listed q) }
 
   pub says : Valid id used → (out : List ℕ) → OneOfThree (reply_to (cut_result f c id used) out)
   unfolding answer_in cut_result
@@ -300,19 +286,6 @@ canonical_file_lem f b e = deliver (ap (λ (x : Res Notebook). map_res writing (
 -- any file that canonical writes is the notebook's
 pub canonical_is : (f : List ℕ) (b : Notebook) (w : List ℕ) → read_file f ≡ ok b → CanonicalFile f w → w ≡ canonical_bytes b
 canonical_is f b w e x = delivered_once x (canonical_file_lem f b e)
-
--- it carries the notebook arranged, so that it is its own
-pub canonical_own : (f : List ℕ) (b : Notebook) (w : List ℕ) → read_file f ≡ ok b → CanonicalFile f w → OwnCanonical f w
-unfolding canonical_bytes
-canonical_own f b w e x =
-    let q : w ≡ canonical_bytes b = canonical_is f b w e x in
-    let r : read_file w ≡ ok (arrange b) = ap read_file q ∙ arranged_carries f b e in
-    let z : canonical_bytes (arrange b) ≡ w = ap write_file (arranged_again b) ∙ sym q in
-    record {
-      same = record { one = arrange b; other = b; read_one = r; read_other = e; same = arranged_again b };
-      arranged = arranged_again b;
-      own = subst (CanonicalFile w) z (canonical_file_lem w (arrange b) r);
-    }
 
 -- ---- joining's answers
 

@@ -3,9 +3,8 @@
 use Prim.Native.Nat.{ℕ, zero, suc}
 use mathlib.Core.Path.{◌≡◌, refl, ap, ◌∙◌}
 use mathlib.Core.Bool.{false}
-use mathlib.Core.List.{List, [], ◌∷◌, map, flatten}
+use mathlib.Core.List.{List, [], ◌∷◌, map}
 use lib.ListN.{length}
-use Rattle.lists.specs.Sequence.{in_sequence}
 use Rattle.lists.specs.Lists.{bytes, Res, ok, map_res, and_then}
 use Rattle.digits.specs.Digits.{value as digitsValue, spell, digit_count}
 use Rattle.characters.specs.Rows.{is_line}
@@ -23,7 +22,6 @@ use Rattle.order.specs.State.{nothing_yet, start, had_after, advance, refusal_of
 use Rattle.notebook.specs.Facts.{facts_of}
 use Rattle.notebook.specs.Notebook.{Notebook, step_line, closed, onward, records_from, read_rows, read_file}
 use Rattle.notebook.specs.Check.{count, check_result}
-use Rattle.notebook.specs.Groups.{parts_of, records_of}
 use Rattle.notebook.specs.Same.{arrange}
 use Rattle.notebook.specs.Canonical.{record_rows, write_file, canonical_bytes, canonical_file, canonical_result}
 use Rattle.printing.specs.Printed.{digit_list as decimalDigits, decimal as decimalOf, spaced, line, printed}
@@ -89,11 +87,11 @@ cut : (n c : ℕ) → Read n → Cut n c (computed c (book n))
 cut n c e = answered (with_notes n) (book n) c e
 
 cuts : Cut 20 69 (Done 6 404 0) × Cut 18 60 (Done 10 547 0) × Cut 18 59 (Refused 18 0) × Cut 2 51 (Done 1 51 0) × Cut 2 50 (Refused 18 0)
-unfolding notes book bytes spell era_on in_era write_day joined header write record_rows flatten parts_of records_of in_sequence arrange write_file canonical_bytes total put packed digit_count over serves tried planned valid_id first_i_ds ids_in unused mark_line mark_row piece_bytes numbered t911
+unfolding notes book bytes spell era_on in_era write_day joined header write record_rows arrange write_file canonical_bytes total put packed digit_count over serves tried planned valid_id first_i_ds ids_in unused mark_line mark_row piece_bytes numbered t911
 cuts = (cut 20 69 reads.0, cut 18 60 reads.1, cut 18 59 reads.1, cut 2 51 reads.2, cut 2 50 reads.2)
 
 -- ---- ALL CASES
 
 pub cases_hold : map (λ (c : Case). answer c.asked) cases ≡ map (λ (c : Case). c.said) cases
-unfolding bytes spell is_line digitsValue leap month_length is_real is_day gregorian era_of era_on in_era from_era read_day write_day table edge one_width is_decimal sized fault value_of item_fault item_value items_fault items_value row_in table_row pairs t911 record_from fault_from line_fault record_of header in_group may_follow pair_broken misplaced closes_rp lacking missing value_wrong newer_group order_refusal unfinished nothing_yet start had_after advance refusal_of step_of finish_of facts_of step_line closed onward records_from read_rows read_file count check_result joined write record_rows flatten parts_of records_of in_sequence arrange write_file canonical_bytes canonical_file canonical_result answer_in decimalDigits decimalOf spaced line printed
+unfolding bytes spell is_line digitsValue leap month_length is_real is_day gregorian era_of era_on in_era from_era read_day write_day table edge one_width is_decimal sized fault value_of item_fault item_value items_fault items_value row_in table_row pairs t911 record_from fault_from line_fault record_of header in_group may_follow pair_broken misplaced closes_rp lacking missing value_wrong newer_group order_refusal unfinished nothing_yet start had_after advance refusal_of step_of finish_of facts_of step_line closed onward records_from read_rows read_file count check_result joined write record_rows arrange write_file canonical_bytes canonical_file canonical_result answer_in decimalDigits decimalOf spaced line printed
 cases_hold = rw (cuts.4, cuts.3, cuts.2, cuts.1, cuts.0) refl

@@ -30,7 +30,7 @@ use Rattle.division.proofs.MarkLaws.{read_length, read_count}
 use Rattle.division.specs.Cut.{numbered, planned, cutting}
 use Rattle.division.specs.Join.{unmarked, Part, all_parts, join_parts, join_pieces, or_set, join_split, joined_file, checked_file, then_checked, join_file}
 use Rattle.division.specs.Demand.{OnePiece, Within, Sound}
-use Rattle.lists.proofs.Orders.{all_append, all_left, all_right, map_length}
+use Rattle.division.proofs.Orders.{all_append, all_left, all_right, map_length}
 use Rattle.division.proofs.Parts.{no_none, some_inj, Runs, Gathered, gather_runs, IsPart, PartsOf, over as noParts, more as morePart, parts_are, Joined, parts_joined}
 use Rattle.division.proofs.Own.{total_flat}
 

@@ -30,10 +30,9 @@ use Rattle.division.proofs.MarkLaws.{read_written, written_is, mark_text, mark_b
 use Rattle.division.proofs.Bodies.{read_unmarked, read_body}
 use Rattle.division.specs.Cut.{piece_bytes, numbered, planned, cutting}
 use Rattle.division.specs.Join.{unmarked, Part, part_of, all_parts, join_parts, join_pieces, joined_file, join_file}
-use Rattle.lists.specs.Orders.{Perm}
+use Rattle.division.specs.Orders.{Perm}
 use Rattle.division.specs.Demand.{OnePiece, Within, Sound}
-use Rattle.lists.proofs.Orders.{all_append, all_map, all_left, all_right, map_length, perm_refl, perm_all, perm_length, perm_map, perm_unmap, perm_one}
-use Rattle.division.proofs.Orders.{perm_flat}
+use Rattle.division.proofs.Orders.{all_append, all_map, all_left, all_right, map_length, perm_refl, perm_all, perm_length, perm_map, perm_flat, perm_unmap, perm_one}
 use Rattle.division.proofs.Parts.{no_none, some_inj, part, parts, parts_distinct, parts_alike, parts_length, Alike, join_alike, gather_perm, gather_parts, part_of_lem}
 
 -- ---- lengths of rows

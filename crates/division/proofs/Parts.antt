@@ -18,8 +18,8 @@ use Rattle.packing.specs.Divisions.{concat}
 use Rattle.division.specs.Marks.{Mark, read_mark}
 use Rattle.division.specs.Pieces.{Piece}
 use Rattle.division.specs.Join.{unmarked, Part, row_before, last_mark, part_of, part_with, all_parts, agree, find_part, rows_of_part, gather, one_piece, join_parts}
-use Rattle.lists.specs.Orders.{Insert, here, there, Perm, nil, cons}
-use Rattle.lists.proofs.Orders.{all_append, all_map}
+use Rattle.division.specs.Orders.{Insert, here, there, Perm, nil, cons}
+use Rattle.division.proofs.Orders.{all_append, all_map}
 use Rattle.division.proofs.Chunks.{flat_append}
 
 pub no_none : {A : Type 0} {a : A} → ◌≡◌ {A = Option A} none (some a) → ⊥

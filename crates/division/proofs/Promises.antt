@@ -6,8 +6,8 @@ use Rattle.notebook.specs.Canonical.{canonical_bytes}
 use Rattle.notebook.proofs.CanonicalLaws.{canonical_same, canonical_short}
 use Rattle.replies.specs.Replies.{reply_of}
 use Rattle.division.specs.Demand.{CuttingWrites, CuttingFinds, CuttingWithholds, CuttingSays, JoiningAccepts, JoiningRestores}
-use Rattle.division.specs.Demand.{CanonicalWrites, CanonicalOwn, CanonicalSame, CanonicalShortest}
-use Rattle.division.proofs.Answers.{refused_told, done_told, numbered, writes, finds, withholds, says, says_valid, accepts, joins_back, canonical_file_lem, canonical_is, canonical_own}
+use Rattle.division.specs.Demand.{CanonicalWrites, CanonicalSame, CanonicalShortest}
+use Rattle.division.proofs.Answers.{refused_told, done_told, numbered, writes, finds, withholds, says, says_valid, accepts, joins_back, canonical_file_lem, canonical_is}
 
 pub cutting_writes : CuttingWrites
 cutting_writes f b c id used out e n t h = writes f b c id used e out n t (done_told _ n t 0 (numbered f b c id used out e) h)
@@ -31,9 +31,6 @@ joining_restores f b c id used out e n t h = joins_back f b c id used out e n t 
 
 pub canonical_writes : CanonicalWrites
 canonical_writes f b e = record { file = canonical_bytes b; is = canonical_file_lem f b e }
-
-pub canonical_file_own : CanonicalOwn
-canonical_file_own f b e w x = canonical_own f b w e x
 
 pub canonical_files_same : CanonicalSame
 canonical_files_same f g a b p q v w x y =

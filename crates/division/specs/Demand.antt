@@ -6,7 +6,7 @@ use Rattle.std.specs.Prelude.{ℕ, ◌≤◌, ◌<◌, ◌≡◌, ◌↔◌, ◌
 use Rattle.lists.specs.Lists.{All, Res, ok}
 use Rattle.characters.specs.Rows.{flat}
 use Rattle.notebook.specs.Notebook.{Notebook, read_file}
-use Rattle.notebook.specs.Same.{arrange, SameNotebook, CarrySame}
+use Rattle.notebook.specs.Same.{SameNotebook, CarrySame}
 use Rattle.notebook.specs.Canonical.{canonical_result}
 use Rattle.ids.specs.Used.{unused}
 use Rattle.division.specs.Marks.{valid_id}
@@ -16,7 +16,7 @@ use Rattle.division.specs.Join.{join_file, join_result}
 use Rattle.replies.specs.declared.Reply.{Reply}
 use Rattle.replies.specs.Replies.{refusal, result}
 use Rattle.replies.specs.Results.{Result, reply_to, output_of}
-use Rattle.lists.specs.Orders.{Perm}
+use Rattle.division.specs.Orders.{Perm}
 
 -- ---- "Call a list of pieces sound for an accepted file and a capacity if .."
 
@@ -38,11 +38,6 @@ pub record Sound (f : List ℕ) (c : ℕ) (ps : List (List ℕ)) : Type 0 where
   pub joins : join_file (flat ps) ≡ ok file
   -- "the joined file carries the same notebook"
   pub same : CarrySame file f
-
--- Document 02 (ix): "Fewest pieces, and 18, are now measured against lists whose joined file already has its groups so arranged, because another sequence may pack
--- better." To arrange the notebook that the joined file carries (`same.one`) changes nothing.
-abbrev pub Arranged : {f : List ℕ} {c : ℕ} {ps : List (List ℕ)} → Sound f c ps → Type 0
-Arranged s = arrange s.same.one ≡ s.same.one
 
 -- ---- what the calls reply, in document 01's numbers, and leave in their outputs
 
@@ -74,16 +69,14 @@ abbrev pub ForFile : (List ℕ → Notebook → ℕ → List ℕ → List ℕ �
 ForFile P = (f : List ℕ) (b : Notebook) (c : ℕ) (id used out : List ℕ) → read_file f ≡ ok b → P f b c id used out
 
 -- "Whenever our cutting writes a list, that list is sound for its file and capacity, and the result gives its number of pieces. Every other
--- list sound for them has at least as many": since (ix) every other whose joined file is arranged, as is that of the list written. As what is written splits into
--- whole pieces in one way only, the list is told by its bytes.
+-- list sound for them has at least as many." As what is written splits into whole pieces in one way only, the list is told by its bytes.
 pub record Written (f : List ℕ) (c : ℕ) (out : List ℕ) (n t : ℕ) : Type 0 where
   pub list : List (List ℕ)
   pub is : ListIn out n t list
   -- the first t bytes of the output are t bytes
   pub inside : t ≤ length out
   pub sound : Sound f c list
-  pub arranged : Arranged sound
-  pub fewest : (qs : List (List ℕ)) (s : Sound f c qs) → Arranged s → n ≤ length qs
+  pub fewest : (qs : List (List ℕ)) → Sound f c qs → n ≤ length qs
   pub only : (qs : List (List ℕ)) → ListIn out (length qs) t qs → qs ≡ list
 
 abbrev pub CuttingWrites : Type 0
@@ -98,17 +91,16 @@ pub record Valid (id used : List ℕ) : Type 0 where
   pub passes : unused id used ≡ true
 
 -- "For an accepted file and a valid ID, whatever the size of the output, cutting finds no list exactly when no sound one exists": "Cutting
--- finds no list when it answers 18". Since (ix): when no sound one exists whose joined file is arranged.
+-- finds no list when it answers 18"
 abbrev pub CuttingFinds : Type 0
 CuttingFinds =
-    ForFile (λ f b c id used out. Valid id used → (reply_to (cut_result f c id used) out ≡ refusal 18 0) ↔ ((qs : List (List ℕ)) (s : Sound f c qs) → Arranged s → ⊥))
+    ForFile (λ f b c id used out. Valid id used → (reply_to (cut_result f c id used) out ≡ refusal 18 0) ↔ ((qs : List (List ℕ)) → Sound f c qs → ⊥))
 
 -- "A list found is withheld exactly when the output can't hold it": it "withholds one when it answers 20"; else it is written. A list is
 -- found if some output is not answered with 18, and it is one list for every output.
 pub record Found (f : List ℕ) (c : ℕ) (id used : List ℕ) : Type 0 where
   pub list : List (List ℕ)
   pub sound : Sound f c list
-  pub arranged : Arranged sound
   pub delivered : Delivers (cut_result f c id used) (result (length list) (length (flat list)) 0) (flat list)
 
 abbrev pub CuttingWithholds : Type 0
@@ -147,16 +139,6 @@ pub record HasCanonical (f : List ℕ) : Type 0 where
 
 abbrev pub CanonicalWrites : Type 0
 CanonicalWrites = (f : List ℕ) (b : Notebook) → read_file f ≡ ok b → HasCanonical f
-
--- Document 02 (ix): "In the canonical file, groups of equal day now stand by the institution code". The canonical file w of f is accepted (`read_one` of `same`), carries
--- the same notebook, has its groups so arranged, and is its own canonical file.
-pub record OwnCanonical (f w : List ℕ) : Type 0 where
-  pub same : CarrySame w f
-  pub arranged : arrange same.one ≡ same.one
-  pub own : CanonicalFile w w
-
-abbrev pub CanonicalOwn : Type 0
-CanonicalOwn = (f : List ℕ) (b : Notebook) → read_file f ≡ ok b → (w : List ℕ) → CanonicalFile f w → OwnCanonical f w
 
 -- for two accepted files and their canonical files
 abbrev pub ForTwo : (List ℕ → List ℕ → Notebook → Notebook → List ℕ → List ℕ → Type 0) → Type 0

@@ -7,4 +7,4 @@ abbrev pub version_number : ℕ → ℕ → ℕ → ℕ
 version_number major minor patch = major * 10000 + minor * 100 + patch
 
 abbrev pub library_version : ℕ
-library_version = version_number 0 7 0
+library_version = version_number 0 6 1

@@ -65,7 +65,7 @@ pub extern "C" fn notebook_join(pieces: &[u8], out: &mut [u8]) -> replies::Reply
 }
 
 // The file VERSION as one number (tests/version.py).
-const VERSION: u64 = 700;
+const VERSION: u64 = 601;
 
 // The version of this library: 10,000 times the major, 100 times the minor, and the patch.
 #[unsafe(no_mangle)]

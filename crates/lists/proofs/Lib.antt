@@ -2,5 +2,3 @@ pub mod Tests
 pub mod Cuts
 pub mod Loops
 pub mod Parts
-pub mod Orders
-pub mod Sequences

@@ -1,4 +1,2 @@
 pub mod Lists
 pub mod Searching
-pub mod Sequence
-pub mod Orders

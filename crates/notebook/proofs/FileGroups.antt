@@ -1,5 +1,5 @@
 -- The groups of an accepted file (specs/Groups.antt): what stands before, in and after them (`file-front`, `file-groups`, `file-tail`), how many there are (`file-count`), that
--- their days never rise (`file-days`), that an 11 stands right behind its 5 (`file-elevens`), and that the index's group ordinals are theirs (`file-ordinals`). All but the days follow from what may
+-- their days never rise (`file-days`), and that the index's group ordinals are theirs (`file-ordinals`). All but the days follow from what may
 -- follow what, tested once over all places and rows of the pattern (`follow`). Assumes nothing.
 use Prim.Native.Nat.{ℕ, ◌+◌, ◌≤◌}
 use native.Mathlib.Omega.{arith}
@@ -8,9 +8,9 @@ use mathlib.Core.Bool.{Bool, true, false, cond, not, ◌&&◌, ◌||◌, beq, fa
 use mathlib.Core.List.{List, [], ◌∷◌, ◌++◌, map, append_assoc}
 use borrow.Author.Tests.{eqb-true, eq-eqb, ne_eqb, ltb-false}
 use lib.Dec.{eqb}
-use lib.ListN.{length, drop}
+use lib.ListN.{length}
 use Rattle.lists.specs.Lists.{All, all, member, ok}
-use Rattle.lists.proofs.Tests.{both, neither, not_true'}
+use Rattle.lists.proofs.Tests.{both, neither}
 use Rattle.characters.specs.Text.{text}
 use Rattle.records.specs.Records.{Record, record_of}
 use Rattle.rules.specs.Places.{look_up, pattern, may_follow, in_group}
@@ -23,8 +23,7 @@ use Rattle.notebook.specs.Facts.{facts_of}
 use Rattle.notebook.specs.Notebook.{Notebook, read_file}
 use Rattle.notebook.specs.Check.{count}
 use Rattle.notebook.specs.Index.{Entry, entry_of, entries_of}
-use Rattle.notebook.specs.Groups.{Parts, parts_of, first, group_day}
-use Rattle.notebook.specs.Shapes.{Inner, ordinals_from, ordinals, NoneNewer, NewestFirst}
+use Rattle.notebook.specs.Groups.{Parts, parts_of, Inner, ordinals_from, ordinals, first, group_day, NoneNewer, NewestFirst}
 use Rattle.notebook.proofs.Accepted.{Ruled, over, next, accepted}
 use Rattle.notebook.proofs.Walk.{Walk, over as nothing, more, accepted as walked}
 use Rattle.notebook.proofs.GroupLaws.{only_tail, parts_701, by_first}
@@ -73,7 +72,6 @@ record Next (p n : ℕ) : Type 0 where
   known : member places n ≡ true
   keeps : kept p n ≡ true
   last : p ≡ 701 → n ≡ 701
-  first : (eqb n 11 && not (eqb p 5)) ≡ false
 
 next_is : (p n : ℕ) → member places p ≡ true → may_follow p n ≡ true → Next p n
 unfolding places rows_pass kept in_group
@@ -81,7 +79,6 @@ next_is p n k h = record {
   known = follow (λ p n. member places n) refl p n k h;
   keeps = follow kept refl p n k h;
   last = λ e. eqb-true n 701 (go e (follow (λ p n. not (eqb p 701) || eqb n 701) refl p n k h));
-  first = not_true' (eqb n 11 && not (eqb p 5)) (follow (λ p n. not (eqb n 11 && not (eqb p 5))) refl p n k h);
 }
   where
     go : p ≡ 701 → (not (eqb p 701) || eqb n 701) ≡ true → eqb n 701 ≡ true
@@ -101,11 +98,11 @@ follows st f e = go _ _ _ _ _ (good st f e).place
     go true b c d e h = refl
     go false b c d e h = absurd (false≢true (sym h))
 
-pub place_after : (st : State) (r : Record) → (advance st (facts_of r)).place ≡ r.number
+place_after : (st : State) (r : Record) → (advance st (facts_of r)).place ≡ r.number
 unfolding advance facts_of
 place_after st r = refl
 
-pub number_of : (r : Record) → (facts_of r).number ≡ r.number
+number_of : (r : Record) → (facts_of r).number ≡ r.number
 unfolding facts_of
 number_of r = refl
 
@@ -118,7 +115,7 @@ ruled_pattern {st} k (next {after = t} {rp = rp} {doctor = doctor} {r = r} {rs =
     let e : t.place ≡ r.number = ap (λ (x : State). x.place) g.state ∙ place_after st r in
     (n, subst (λ p. Pattern p rs) e (ruled_pattern (rw e n.known) u))
 
-abbrev pub Is701 : Record → Type 0
+abbrev Is701 : Record → Type 0
 Is701 r = r.number ≡ 701
 
 last_ones : (rs : List Record) → Pattern 701 rs → All Is701 rs
@@ -161,40 +158,6 @@ numbers_of_lem (r ∷ rs) p g q (h, t) =
     let i = numbers_of_lem rs r.number g s.0 t in
     record { front = (s.1, i.front); groups = i.groups; tail = i.tail })
 
--- ---- an 11 stands right behind its 5
-
-abbrev Other : Record → Type 0
-Other r = eqb r.number 11 ≡ false
-
--- where no 5 stands right before, no 11 comes before the next 5
-no_elevens : (rs : List Record) (p : ℕ) → eqb p 5 ≡ false → Pattern p rs → All Other (parts_of rs).front
-unfolding parts_of
-no_elevens [] p q h = tt
-no_elevens (r ∷ rs) p q (h, t) =
-    by_first (λ x. All Other x.front) r rs (λ _. tt) (λ _. tt)
-    (λ e. (other (eqb r.number 11) (rw q at h.first), no_elevens rs r.number (neither (eqb r.number 5) (eqb r.number 701) e).0 t))
-  where
-    other : (x : Bool) → (x && true) ≡ false → x ≡ false
-    other true z = absurd (false≢true (sym z))
-    other false z = refl
-
--- a group without one, but for its second record
-pub record SecondAlone (g : List Record) : Type 0 where
-  pub behind : All Other (drop 2 g)
-
-elevens_of : (rs : List Record) (p : ℕ) → Pattern p rs → All SecondAlone (parts_of rs).groups
-unfolding parts_of
-elevens_of [] p h = tt
-elevens_of (r ∷ rs) p (h, t) =
-    let i : All SecondAlone (parts_of rs).groups = elevens_of rs r.number t in
-    by_first (λ x. All SecondAlone x.groups) r rs (λ _. tt) (λ _. (record { behind = second rs r.number t }, i)) (λ _. i)
-  where
-    second : (rs : List Record) (p : ℕ) → Pattern p rs → All Other (drop 1 (parts_of rs).front)
-    second [] p h = tt
-    second (x ∷ xs) p (h, t) =
-        by_first (λ q. All Other (drop 1 q.front)) x xs (λ _. tt) (λ _. tt)
-        (λ e. no_elevens xs x.number (neither (eqb x.number 5) (eqb x.number 701) e).0 t)
-
 -- ---- how many there are
 
 none_5 : (rs : List Record) → All Is701 rs → count 5 rs ≡ 0
@@ -235,11 +198,7 @@ module _ (st : State) (r : Record) where
   unfolding advance facts_of
   count_5 e = rw e
 
-  pub count_701 : r.number ≡ 701 → behind.groups ≡ st.groups
-  unfolding advance facts_of
-  count_701 e = rw e
-
-  pub count_inner : Inner r → behind.groups ≡ st.groups
+  count_inner : Inner r → behind.groups ≡ st.groups
   unfolding advance facts_of
   count_inner e = rw (neither (eqb r.number 5) (eqb r.number 701) e).0
 
@@ -255,15 +214,15 @@ module _ (st : State) (r : Record) where
   unfolding group_of advance facts_of
   ordinal_inner e q = rw ((neither (eqb r.number 5) (eqb r.number 701) e).0, q)
 
-  pub day_of_lem : (rs : List Record) → r.number ≡ 5 → group_day (r ∷ rs) ≡ (facts_of r).day
+  day_of_lem : (rs : List Record) → r.number ≡ 5 → group_day (r ∷ rs) ≡ (facts_of r).day
   unfolding group_day first facts_of
   day_of_lem rs e = rw e
 
-  pub day_5 : (rs : List Record) → r.number ≡ 5 → behind.day ≡ group_day (r ∷ rs)
+  day_5 : (rs : List Record) → r.number ≡ 5 → behind.day ≡ group_day (r ∷ rs)
   unfolding advance facts_of
   day_5 rs e = rw (day_of_lem rs e, eq-eqb r.number 5 e)
 
-  pub day_inner : Inner r → behind.day ≡ st.day
+  day_inner : Inner r → behind.day ≡ st.day
   unfolding advance facts_of
   day_inner e = rw (neither (eqb r.number 5) (eqb r.number 701) e).0
 
@@ -289,14 +248,14 @@ walk_ordinals (more {st = st} {r = line} {after = after} {recs = recs} {es = es}
 
 -- ---- their days
 
-abbrev pub Grouped : State → Type 0
+abbrev Grouped : State → Type 0
 Grouped st = eqb st.groups 0 ≡ false
 
-pub grouped_5 : (st : State) (r : Record) → r.number ≡ 5 → Grouped (behind st r)
+grouped_5 : (st : State) (r : Record) → r.number ≡ 5 → Grouped (behind st r)
 grouped_5 st r e = rw (count_5 st r e) (ne_eqb (st.groups + 1) 0 (λ z. omega arith))
 
 -- after a group no 5 is newer
-pub no_newer : (st : State) (r : Record) (rs : List Record) → refusal_of st (facts_of r) ≡ 0 → r.number ≡ 5 → Grouped st → group_day (r ∷ rs) ≤ st.day
+no_newer : (st : State) (r : Record) (rs : List Record) → refusal_of st (facts_of r) ≡ 0 → r.number ≡ 5 → Grouped st → group_day (r ∷ rs) ≤ st.day
 unfolding newer_group facts_of
 no_newer st r rs e n z =
     let d = (good st (facts_of r) e).date in
@@ -345,9 +304,6 @@ module _ (s : List ℕ) (b : Notebook) (e : read_file s ≡ ok b) where
 
   pub file_tail : All (λ r. r.number ≡ 701) (parts_of b.records).tail
   file_tail = numbers.tail
-
-  pub file_elevens : All SecondAlone (parts_of b.records).groups
-  file_elevens = elevens_of b.records (start b.provider).place in_pattern
 
   pub file_count : length (parts_of b.records).groups ≡ count 5 b.records
   file_count = count_of b.records (start b.provider).place in_pattern

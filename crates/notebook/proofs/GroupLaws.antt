@@ -8,8 +8,7 @@ use lib.Dec.{eqb}
 use Rattle.lists.specs.Lists.{All}
 use Rattle.lists.proofs.Tests.{neither}
 use Rattle.records.specs.Records.{Record}
-use Rattle.notebook.specs.Groups.{Parts, parts_of, records_of}
-use Rattle.notebook.specs.Shapes.{Inner, IsGroup, IsTail, Shaped}
+use Rattle.notebook.specs.Groups.{Parts, parts_of, records_of, Inner, IsGroup, IsTail, Shaped}
 
 -- ---- one record more at the front, by whether it is a 701 or a 5
 

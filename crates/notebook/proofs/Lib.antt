@@ -3,15 +3,10 @@ pub mod Placing
 pub mod Accepted
 pub mod GroupLaws
 pub mod WrittenLaws
-pub mod Walk
-pub mod FileGroups
-pub mod GroupSteps
-pub mod Closing
-pub mod Exchange
-pub mod Codes
 pub mod Arranging
 pub mod CanonicalLaws
-pub mod ArrangedLaws
+pub mod Walk
+pub mod FileGroups
 pub mod Lines
 pub mod Lasts
 pub mod IndexLaws

@@ -12,7 +12,7 @@ use Rattle.lists.proofs.Tests.{same_true, or_zero_lem, unless_zero}
 use Rattle.characters.specs.Text.{all_chars, text}
 use Rattle.characters.specs.Rows.{rows, flat, is_line, line_end}
 use Rattle.characters.specs.Scanning.{WholeLine}
-use Rattle.characters.proofs.RowLaws.{flat_rows, text_clean, text_of_lem, whole_at}
+use Rattle.characters.proofs.RowLaws.{flat_rows, text_clean, text_of, whole_at}
 use Rattle.records.specs.Records.{Record, record_of, fault_from, line_fault}
 use Rattle.records.specs.Split.{items_of}
 use Rattle.records.proofs.LineLaws.{reads}
@@ -36,7 +36,7 @@ at_row s at r rs e h =
     let u : List ℕ = 0x0d ∷ 0x0a ∷ flat rs in
     let f : r ≡ t ++ line_end = same_true r (t ++ line_end) h in
     let d : drop at s ≡ t ++ u = sym (flat_rows (drop at s)) ∙ ap flat e ∙ ap (λ (x : List ℕ). x ++ flat rs) f ∙ append_assoc t line_end (flat rs) in
-    let x : text (drop at s) ≡ t = ap text d ∙ text_of_lem t (0x0a ∷ flat rs) (text_clean r) in
+    let x : text (drop at s) ≡ t = ap text d ∙ text_of t (0x0a ∷ flat rs) (text_clean r) in
     let n : at + length t + 2 ≤ length s = omega (arith, ap length d, length-append t u, length-drop at s) in
     let m : at + length t + 1 ≡ at + (length t + 1) = omega arith in
     let a : get_or s (at + length t) 0 ≡ 0x0d =

@@ -1,6 +1,6 @@
 -- Definitions, to be believed.
 -- The call canonical. Document 01, "Same notebook, canonical file": "D in the era form, P without hyphen, R without leading zeros, no 1Ah,
--- all else kept"; "Index and canonical: 1–16, then 20". Document 02 (ix): its groups of equal day stand in sequence (`arrange`, Same.antt).
+-- all else kept"; "Index and canonical: 1–16, then 20".
 use Rattle.std.specs.Prelude.{ℕ, Bool, List, [], ◌∷◌, ◌++◌}
 use Rattle.lists.specs.Lists.{Res, map_res}
 use Rattle.characters.specs.Rows.{flat, line_end}

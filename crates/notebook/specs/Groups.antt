@@ -1,13 +1,16 @@
--- Definitions, to be believed.
+-- A second statement, proved equal.
 -- A notebook's records as what stands before its groups (`front`), its groups and its 701s (`tail`): `parts_of` divides them, `recordsOf` puts them
--- together. Then what is asked of a group: its day, and the institution code of its 11. Shapes.antt says the parts and the days in another way, and
--- proofs/GroupLaws.antt and FileGroups.antt prove it; the institution code is held by examples. Document 01, "Order of records"; 15-106 3.2.7, 3.2.9.
-use Rattle.std.specs.Prelude.{ℕ, cond, eqb}
+-- together, and no other division has the shape `Shaped` (proofs/GroupLaws.antt). Then what is asked of a group (`groupDay`, `institution`), of the
+-- groups (`NewestFirst`) and of a notebook (`person`). Proved equal to what the index and check say are the groups, their ordinals and their days; `institution`
+-- and `person` are held by examples alone until a call rests on them. Document 01, "Order of records", "Index"; 15-106 3.2.7, 3.2.9.
+use Rattle.std.specs.Prelude.{ℕ, ◌+◌, ◌≤◌, ◌≡◌, false, cond, ◌||◌, eqb}
 use Rattle.std.proofs.Math.Option.{Option, none, some}
-use mathlib.Core.List.{List, [], ◌∷◌, ◌++◌, flatten}
+use mathlib.Core.List.{List, [], ◌∷◌, ◌++◌, map, flatten}
+use Rattle.lists.specs.Lists.{All}
 use Rattle.records.specs.Items.{Value, raw, num, day}
 use Rattle.records.specs.Records.{Record, item}
 use Rattle.notebook.specs.Facts.{day_of}
+use Rattle.notebook.specs.Notebook.{Notebook}
 
 -- "At most one 1; then any 2s, then 3s, then 4s; then groups; then any 701s."
 pub record Parts : Type 0 where
@@ -27,7 +30,36 @@ parts_of (r ∷ rs) =
 unfoldable pub records_of : Parts → List Record
 records_of p = p.front ++ (flatten p.groups ++ p.tail)
 
--- ---- items of a group
+-- ---- the shape of parts, for every list of records
+
+-- neither a 5 nor a 701
+abbrev pub Inner : Record → Type 0
+Inner r = (eqb r.number 5 || eqb r.number 701) ≡ false
+
+abbrev pub IsGroup : List Record → Type 0
+IsGroup [] = ⊥
+IsGroup (r ∷ rs) = (r.number ≡ 5) × All Inner rs
+
+abbrev pub IsTail : List Record → Type 0
+IsTail [] = Unit {0}
+IsTail (r ∷ rs) = r.number ≡ 701
+
+pub record Shaped (p : Parts) : Type 0 where
+  pub front : All Inner p.front
+  pub groups : All IsGroup p.groups
+  pub tail : IsTail p.tail
+
+-- ---- "group ordinal (0 outside groups; 1 first)", of each record
+
+-- of records in groups, the first of which has the ordinal k
+unfoldable pub ordinals_from : ℕ → List (List Record) → List ℕ
+ordinals_from k [] = []
+ordinals_from k (g ∷ gs) = map (λ r. k) g ++ ordinals_from (k + 1) gs
+
+unfoldable pub ordinals : Parts → List ℕ
+ordinals p = map (λ r. 0) p.front ++ (ordinals_from 1 p.groups ++ map (λ r. 0) p.tail)
+
+-- ---- items of a group and of a notebook
 
 -- the first record of the number
 unfoldable pub first : ℕ → List Record → Option Record
@@ -52,3 +84,18 @@ group_day g = day_of (item_of (first 5 g) 1)
 -- the institution code of a group: the fourth item of its 11 (3.2.9, record 11), empty where it or the 11 is not there
 unfoldable pub institution : List Record → List ℕ
 institution g = text_of (item_of (first 11 g) 4)
+
+-- "At most one 1"
+unfoldable pub person : Notebook → Option Record
+person b = first 1 b.records
+
+-- ---- "No group is newer than the one before it; equal days are good." 3.2.7 note 1: from new to old.
+
+-- before: the day of the group before
+abbrev pub NoneNewer : ℕ → List (List Record) → Type 0
+NoneNewer before [] = Unit {0}
+NoneNewer before (g ∷ gs) = (group_day g ≤ before) × NoneNewer (group_day g) gs
+
+abbrev pub NewestFirst : List (List Record) → Type 0
+NewestFirst [] = Unit {0}
+NewestFirst (g ∷ gs) = NoneNewer (group_day g) gs

@@ -1,13 +1,11 @@
 pub mod Facts
 pub mod Notebook
-pub mod Groups
 pub mod Same
-pub mod Shapes
+pub mod Groups
 pub mod Check
 pub mod Samples
 pub mod Index
 pub mod Meaning
 pub mod Clinics
 pub mod Canonical
-pub mod Arranged
 pub mod Examples

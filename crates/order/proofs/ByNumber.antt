@@ -31,8 +31,7 @@ holds_among Q (x ∷ xs) = Q x || holds_among Q xs
 abbrev rp : List ℕ
 rp = 201 ∷ 281 ∷ 291 ∷ 301 ∷ 311 ∷ 391 ∷ []
 
--- where Q holds of p, and not of k, p is not k
-pub differs : (Q : ℕ → Bool) (p k : ℕ) → Q k ≡ false → Q p ≡ true → eqb p k ≡ false
+differs : (Q : ℕ → Bool) (p k : ℕ) → Q k ≡ false → Q p ≡ true → eqb p k ≡ false
 differs Q p k f t = by (eqb p k) refl
   where
     by : (b : Bool) → eqb p k ≡ b → eqb p k ≡ false

@@ -17,7 +17,7 @@ use Rattle.prefixes.specs.Prefixes.{late}
 use Rattle.verdict.proofs.Computed.{Fn, In, Each, each, every, every_at, at_each, agree, member_in}
 use Rattle.verdict.proofs.Machine.{Core, runs, finish}
 use Rattle.verdict.proofs.Steps.{st, bf, to401, to411, to501, to601, to_end, rp_places, drug_places, rp_over, may_close, treats}
-use Rattle.verdict.proofs.Steps.{at_end_lem, at_5, at_701, at-55, at_201, at-401, at-411, at-501, at-601}
+use Rattle.verdict.proofs.Steps.{at_end_lem, at_5, at-701, at-55, at_201, at-401, at-411, at-501, at-601}
 use Rattle.verdict.proofs.Backwards.{numbers, first_or, known, details_of, took}
 use Rattle.prefixes.proofs.GoingOn.{so}
 
@@ -99,7 +99,7 @@ module _ (rs : List Facts) (ih : Lost rs) (p : ℕ) (m : In p group_places) (d :
   lost_701 h =
       let t = took now (rec 701 b) rs h in
       let q = narrow 701 to_end refl t.follows in
-      clash t.good (at_701 true d e k f i v u c b q) (cant_close e k f i v u l q)
+      clash t.good (at-701 true d e k f i v u c b q) (cant_close e k f i v u l q)
 
   -- after a 5 nothing is too late
   lost_11 : Refused 11

@@ -24,7 +24,7 @@ use Rattle.division.specs.Pieces.{RowKind, head, end_head, body, end, broken, ki
 use Rattle.division.specs.Join.{unmarked, Part, row_before, last_mark, part_of, part_with, all_parts, find_part, rows_of_part, gather, join_parts, join_pieces}
 use Rattle.division.specs.Join.{or_set, join_split, joined_file, checked_file, then_checked, join_file}
 use Rattle.division.proofs.Chunks.{Chunk, mark, chunk_bytes, piece_of, Body, Good, body_line, Chunked, split_is}
-use Rattle.lists.proofs.Orders.{all_append, all_map}
+use Rattle.division.proofs.Orders.{all_append, all_map}
 use Rattle.division.proofs.Parts.{no_none, some_inj, Joined, parts_joined}
 use Rattle.refusals.specs.Refusals.{line_ends, AtLine, Given}
 use Rattle.refusals.proofs.LineEnds.{skip_byte, line_ends_lem, lines_ends}

@@ -28,17 +28,17 @@ module _ (s : List ℕ) (at : ℕ) (stops : List ℕ) where
         let m : at + (length (text (drop at s)) + n) ≡ r.end + n = omega (arith, v.ends) in
         get_or-drop at s (length (text (drop at s)) + n) 0 ∙ ap (λ (j : ℕ). get_or s j 0) m
 
-    byte_0 : get_or (drop at s) (length (text (drop at s))) 0 ≡ get_or s r.end 0
-    byte_0 =
+    byte-0 : get_or (drop at s) (length (text (drop at s))) 0 ≡ get_or s r.end 0
+    byte-0 =
         let m : at + length (text (drop at s)) ≡ r.end = omega (arith, v.ends) in
         get_or-drop at s (length (text (drop at s))) 0 ∙ ap (λ (j : ℕ). get_or s j 0) m
 
     broken-at : (r.end + 1 < length s → get_or s r.end 0 ≡ 0x0d → get_or s (r.end + 1) 0 ≡ 0x0a → ⊥) → (length s ≡ at + 1 → r.end ≡ at → get_or s r.end 0 ≡ 0x1a → ⊥) → LineOf s at stops Broken
     broken-at f g = record {
       means = broken (drop at s) (omega (arith, length-drop at s))
-          (λ n a b. f (omega (arith, v.ends, length-drop at s)) (sym byte_0 ∙ a) (sym (byte_at 1) ∙ b))
+          (λ n a b. f (omega (arith, v.ends, length-drop at s)) (sym byte-0 ∙ a) (sym (byte_at 1) ∙ b))
           (λ m. let x : r.end ≡ at = omega (arith, v.ends, ap (λ (l : List ℕ). length (text l)) m) in
-          g (omega (arith, length-drop at s, ap length m)) x (sym byte_0 ∙ ap (λ (l : List ℕ). get_or l (length (text l)) 0) m));
+          g (omega (arith, length-drop at s, ap length m)) x (sym byte-0 ∙ ap (λ (l : List ℕ). get_or l (length (text l)) 0) m));
       size = v.size;
     }
 

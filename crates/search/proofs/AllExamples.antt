@@ -4,7 +4,7 @@ use Prim.Native.Nat.{◌+◌, ◌*◌, ◌<◌}
 use mathlib.Core.Path.{◌≡◌, refl}
 use mathlib.Core.List.{[], ◌∷◌, map}
 use native.Mathlib.Omega.{arith}
-use Rattle.lists.specs.Orders.{here, there, Perm, nil, cons}
+use Rattle.division.specs.Orders.{here, there, Perm, nil, cons}
 use Rattle.search.specs.Places.{LiesAt}
 use Rattle.search.specs.Looks.{looks}
 use Rattle.search.specs.Search.{one_to, in_all}

@@ -8,8 +8,8 @@ use borrow.Author.Tests.{eq-eqb, ne_eqb}
 use lib.Dec.{eqb}
 use lib.ListN.{length}
 use Rattle.lists.specs.Lists.{All}
-use Rattle.lists.specs.Orders.{Insert, here, there, Perm, nil, cons}
-use Rattle.lists.proofs.Orders.{perm_length, perm_all}
+use Rattle.division.specs.Orders.{Insert, here, there, Perm, nil, cons}
+use Rattle.division.proofs.Orders.{perm_length, perm_all}
 use Rattle.search.specs.Places.{CountIs}
 use Rattle.search.specs.Looks.{looks}
 use Rattle.search.specs.Search.{one_to, in_all}

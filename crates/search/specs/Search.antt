@@ -4,7 +4,7 @@
 use Rattle.std.specs.Prelude.{ℕ, zero, suc, ◌+◌, ◌-◌, ◌*◌, ◌<◌, ◌≡◌, ◌↔◌, List, [], ◌∷◌}
 use Rattle.std.proofs.Math.Option.{Option, none, some}
 use Rattle.division.specs.Join.{Part, find_part}
-use Rattle.lists.specs.Orders.{Perm}
+use Rattle.division.specs.Orders.{Perm}
 use Rattle.search.specs.Places.{LiesAt, CountIs}
 
 -- "end at the piece found": no piece before that place is k

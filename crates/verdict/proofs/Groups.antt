@@ -19,7 +19,7 @@ use Rattle.grammar.specs.Grammar.{schedule_of, usage_named, all_named, names, on
 use Rattle.verdict.proofs.Computed.{taut, In, here, there, at_each, among}
 use Rattle.verdict.proofs.Machine.{before, taken, runs, step, finish, accepts, core_of, machine_core}
 use Rattle.verdict.proofs.Steps.{st, hd, front_places, to401, to411, to501, to601, to_end, head_places, rp_over, lacks, may_close, treats, one_stood}
-use Rattle.verdict.proofs.Steps.{at_end_lem, at_5, at_701, at_11, at-15, at-51, at-55, at-401, at-411, at-501, at-601}
+use Rattle.verdict.proofs.Steps.{at_end_lem, at_5, at-701, at_11, at-15, at-51, at-55, at-401, at-411, at-501, at-601}
 use Rattle.verdict.proofs.Steps.{head_end, head-1, head-2, head-3, head-4, head-5, head-701}
 use Rattle.verdict.proofs.Prescriptions.{Behind, rp_read, plain_read, later_read, usages}
 
@@ -200,7 +200,7 @@ only_701 (b ∷ bs) = step (hd false 701) (rec 701 b) _ refl ∙ only_701 bs
 last_read : (o : Bool) (d : ℕ) (zs : List Details) → Closes o d true to_end (any_of 701 zs [])
 last_read o d [] p m e k f i v u c = finish (st o p d e k f i v u c) ∙ at_end_lem o d e k f i v u c m ∙ sym (and-true (may_close o p e (eqb k 4) f i (eqb v 0) u))
 last_read o d (z ∷ zs) p m e k f i v u c =
-    step (st o p d e k f i v u c) (rec 701 z) _ (at_701 o d e k f i v u c z m)
+    step (st o p d e k f i v u c) (rec 701 z) _ (at-701 o d e k f i v u c z m)
     ∙ ap (λ x. may_close o p e (eqb k 4) f i (eqb v 0) u && x) (more_701 o d e k f i v u c zs)
 
 -- not newer is at most as new

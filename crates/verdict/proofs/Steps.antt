@@ -172,9 +172,9 @@ module _ {p : ℕ} (o : Bool) (d : ℕ) (e : Bool) (k : ℕ) (f i : Bool) (v : �
         ∙ at_each 5 (λ p o y z u l. sound (lk o p y (treats k) z u c) (ask 5 (eqb b.rp v) (eqb b.rp (v + 1)) l b.named (material b)))
         (λ p o y z u l. may_close_by o p y u && not l) refl m o (lacks e (eqb k 4) f i (eqb v 0)) (eqb v 0) u (ltb d b.day)
 
-    pub at_701 : In p to_end → taken (st o p d e k f i v u c) (rec 701 b) ≡ may_close o p e (eqb k 4) f i (eqb v 0) u
+    pub at-701 : In p to_end → taken (st o p d e k f i v u c) (rec 701 b) ≡ may_close o p e (eqb k 4) f i (eqb v 0) u
     unfolding order_refusal pair_broken misplaced missing value_wrong newer_group may_follow in_group continues closes_rp lacking
-    at_701 m =
+    at-701 m =
         701-lacked o p e (eqb k 4) (treats k) f i (eqb v 0) u c (eqb b.rp v) (eqb b.rp (v + 1)) (ltb d b.day) b.named (material b)
         ∙ at_each 4 (λ p o y z u. sound (lk o p y (treats k) z u c) (asking 701 d v b)) (λ p o y z u. may_close_by o p y u) refl m
         o (lacks e (eqb k 4) f i (eqb v 0)) (eqb v 0) u

@@ -4,7 +4,6 @@
 use crate::damage::Damage;
 use crate::division::{join_input, mixture, pieces_of, CutInput, TwoCuttings, MOST_PIECES_BYTES};
 use crate::faults::{faults, Fault};
-use crate::groups::{leveled, visits, Groups};
 use crate::kana::Kana;
 use crate::library::{replies, Reply, Told};
 use crate::ordinary::{self, ENTRY_NUMBERS};
@@ -42,7 +41,6 @@ pub struct Comparison {
     days: Days,
     kana: Kana,
     clinics: Clinics,
-    groups: Groups,
     runs: Runs,
     mixtures: Mixtures,
     sets: Sets,
@@ -74,7 +72,6 @@ impl Comparison {
             days: Days::default(),
             kana: Kana::default(),
             clinics: Clinics::default(),
-            groups: Groups::default(),
             runs: Runs::default(),
             mixtures: Mixtures::default(),
             sets: Sets::default(),
@@ -109,11 +106,6 @@ impl Comparison {
             let mut random = Random::of(self.seed ^ 0x4B, index);
             self.join(&searched_input(self.seed, index), &mut random);
         }
-        if index % ONE_IN_ARRANGED == 3 {
-            let mut random = Random::of(self.seed ^ 0x1DA7, index);
-            let input = CutInput::of_file(&mut random, visits(self.seed, index));
-            self.arrange(&input, &mut random);
-        }
     }
 
     /// Compares every call on these bytes, as a file and as pieces; of bytes with a run of used IDs after a file the run is
@@ -129,13 +121,6 @@ impl Comparison {
     pub fn compare(&mut self, file: &[u8], cut: &CutInput, pieces: &[u8]) {
         let mut random = Random::of(self.seed ^ 0xBFF, self.inputs);
         self.inputs += 1;
-        self.file(file, &mut random);
-        self.cut(cut, &mut random);
-        self.join(pieces, &mut random);
-    }
-
-    /// Compares the calls that take a file and nothing else.
-    fn file(&mut self, file: &[u8], random: &mut Random) {
         let answer = ordinary::check(file);
         self.kana.count(file, answer);
         let (ours, theirs) = (answer.reply(), replies::check(file));
@@ -150,7 +135,7 @@ impl Comparison {
             self.clinics.count(self.entries[..numbers].as_chunks().0);
         }
         self.call(
-            (1, random, needed),
+            (1, &mut random, needed),
             &[file],
             |out: &mut [u32]| ordinary::index(file, out).reply(),
             |out: &mut [u32]| replies::index(file, out),
@@ -159,52 +144,16 @@ impl Comparison {
         let needed = ordinary::canonical(file, &mut self.large).ok().map(|bytes| bytes as usize);
         if let Some(bytes) = needed {
             self.days.count(file, &self.large[..bytes]);
-            self.groups.count(file);
         }
         self.call(
-            (2, random, needed),
+            (2, &mut random, needed),
             &[file],
             |out: &mut [u8]| ordinary::canonical(file, out).reply(),
             |out: &mut [u8]| replies::canonical(file, out),
         );
-    }
 
-    /// Groups of one day: the canonical file and the pieces have them arranged, joining gives the canonical file back, and
-    /// leaves a file as it lies. All but the last two are compared before that.
-    fn arrange(&mut self, input: &CutInput, random: &mut Random) {
-        let CutInput { file, capacity, id, used } = input;
-        self.file(file, random);
-        self.cut(input, random);
-        let mut canonical = vec![0; file.len()];
-        let bytes = ordinary::canonical(file, &mut canonical).expect("the file is accepted");
-        canonical.truncate(bytes as usize);
-
-        let reply = ordinary::cut(file, *capacity, id, used, &mut self.large).reply();
-        let mut pieces = pieces_of(&self.large[..reply.b as usize]);
-        let lying = leveled(file).map(|file| ordinary::cut(&file, *capacity, id, used, &mut self.large).reply());
-        self.groups.count_cut(file, reply, lying);
-        if reply.refusal == 0 {
-            random.shuffle(&mut pieces);
-            self.joins_to(&canonical, &pieces.concat(), random);
-            self.groups.count_joined(file, false);
-        }
-        self.joins_to(file.strip_suffix(b"\x1A").unwrap_or(file), file, random);
-        self.groups.count_joined(file, true);
-    }
-
-    /// Compares join on pieces of which the file is known that the library must write.
-    fn joins_to(&mut self, file: &[u8], pieces: &[u8], random: &mut Random) {
-        self.join(pieces, random);
-        let ours = (file.len() as u64).reply();
-        let theirs = replies::join(pieces, &mut self.large);
-        let place = file.iter().zip(&self.large).position(|(our, their)| our != their).map(|place| place as isize);
-        if ours != theirs || place.is_some() {
-            self.tell(
-                "the file that the pieces have",
-                &[pieces],
-                &Difference { length: self.large.len(), ours, theirs, place },
-            );
-        }
+        self.cut(cut, &mut random);
+        self.join(pieces, &mut random);
     }
 
     fn join(&mut self, pieces: &[u8], random: &mut Random) {
@@ -335,8 +284,8 @@ impl Comparison {
     }
 
     /// What has not occurred though it can: refusals of a call, reasons for 19, spellings of days, kana names near the rule,
-    /// records and groups with and without a clinic, groups of one day near the rule of their sequence, runs of used IDs near
-    /// the rule, mixtures of two cuttings, and pieces for the search of piece k.
+    /// records and groups with and without a clinic, runs of used IDs near the rule, mixtures of two cuttings, and pieces for
+    /// the search of piece k.
     pub fn missing(&self) -> Vec<String> {
         let mut missing = Vec::new();
         for tally in &self.tallies {
@@ -348,7 +297,6 @@ impl Comparison {
         missing.extend(self.days.missing());
         missing.extend(self.kana.missing());
         missing.extend(self.clinics.missing());
-        missing.extend(self.groups.missing());
         missing.extend(self.runs.missing());
         missing.extend(self.mixtures.missing());
         missing.extend(self.sets.missing());
@@ -356,7 +304,7 @@ impl Comparison {
     }
 
     /// Tables of refusals by call, of the reasons for 19, of pieces for the search, of days by letter, of kana names, of clinics,
-    /// of groups of one day, of runs of used IDs and of mixtures, and the last line: inputs and differences.
+    /// of runs of used IDs and of mixtures, and the last line: inputs and differences.
     pub fn summary(&self) -> String {
         let names: String = self.tallies.iter().map(|tally| format!("{:>10}", tally.call)).collect();
         let mut text = format!("{:<10}{names}\n", "");
@@ -377,7 +325,6 @@ impl Comparison {
         for (what, [without, with], _) in self.clinics.rows() {
             let _ = writeln!(text, "{what:<32}{without:>6} without a clinic, {with} with one");
         }
-        text += &self.groups.summary();
         text += &self.runs.summary();
         for (what, count) in self.mixtures.rows() {
             let _ = writeln!(text, "{what:<44}{count:>6}");
@@ -391,8 +338,7 @@ impl Comparison {
 }
 
 /// How often each letter has stood before the day of a group in an accepted file: where the canonical file keeps it, and where
-/// that has another one, as it has for a day after the end of the letter's era. Lines are taken by their places: where groups
-/// of one day are moved, a 5 stands beside another one of its day, or is not counted.
+/// that has another one, as it has for a day after the end of the letter's era.
 #[derive(Default)]
 struct Days([[u64; 2]; 26]);
 
@@ -489,11 +435,9 @@ impl Clinics {
     }
 }
 
-/// One in so many inputs is followed by a mixture of two cuttings, one in so many by pieces for the search of piece k, and one in
-/// so many by a file with several groups of one day.
+/// One in so many inputs is followed by a mixture of two cuttings, and one in so many by pieces for the search of piece k.
 const ONE_IN_MIXED: u64 = 16;
 const ONE_IN_SEARCHED: u64 = 8;
-const ONE_IN_ARRANGED: u64 = 8;
 
 /// How often pieces of two cuttings were mixed: by whether one ID would let them join, and with one that is a single piece.
 #[derive(Default)]
@@ -547,9 +491,8 @@ mod tests {
     /// The gate's bounded comparison. Every refusal that a call can give, every reason for 19 and every era's letter must occur,
     /// and one that is read after its era's end must occur there; so must kana names of each script, and such that 11 refuses
     /// for each two sorts of characters that do not go together, every record of a group with and without a clinic, groups with
-    /// and without one after each other, groups of one day in and out of sequence in every way, every kind of run near the rule
-    /// of 24, mixtures of two cuttings, and pieces in every sort of order with a k again, missing and out of range: a
-    /// comparison that misses one shows nothing of it.
+    /// and without one after each other, every kind of run near the rule of 24, mixtures of two cuttings, and pieces in every
+    /// sort of order with a k again, missing and out of range: a comparison that misses one shows nothing of it.
     #[test]
     fn the_library_and_the_ordinary_implementation_answer_alike() {
         let mut comparison = Comparison::new(SEED);
@@ -634,13 +577,6 @@ mod tests {
             "check: kana name refused of hiragana and row 3: none",
             "check: kana name refused of katakana and row 6: none",
             "check: kana name refused of one-byte and 815Bh: none",
-            "groups: a day out of sequence with one code twice: none",
-            "groups: a day out of sequence spelled in several ways: none",
-            "groups: an empty code of a day between codes: none",
-            "groups: no 11 in a day between codes: none",
-            "groups: codes of 51s of a day rising, those of 11s falling: none",
-            "groups: codes falling from day to day: none",
-            "groups: groups out of sequence with 701s: none",
             "join: up to 9 pieces joined otherwise: none",
             "join: 19 by a k again for another last: none",
             "join: 19 by a k again beside all last: none",

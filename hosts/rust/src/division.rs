@@ -40,16 +40,6 @@ impl CutInput {
         CutInput { file, capacity, id, used }
     }
 
-    /// A cutting of this accepted file with an ID that has not been used, mostly with a capacity that serves.
-    pub fn of_file(random: &mut Random, file: Vec<u8>) -> Self {
-        let capacity = match random.below(6) {
-            0 | 1 => capacity(random, &file),
-            2 => capacity_for(random, &file, 1_000),
-            _ => capacity_that_serves(random, &file),
-        };
-        CutInput { file, capacity, id: good_id(random), used: Vec::new() }
-    }
-
     /// An input whose bytes are the file and, after the first mark, the run of used IDs. The file decides the capacity: often
     /// one near the canonical file's length, else any up to a little more.
     pub fn of_bytes(bytes: &[u8]) -> Self {
@@ -168,14 +158,9 @@ impl TwoCuttings {
 }
 
 fn capacity_that_serves(random: &mut Random, file: &[u8]) -> u64 {
-    let count = [2, 3, 4, 6, 10, 11, 101][random.below(7)];
-    capacity_for(random, file, count)
-}
-
-/// One for fewer pieces than `count`, at most some bytes more than the least.
-fn capacity_for(random: &mut Random, file: &[u8], count: u64) -> u64 {
     let mut out = vec![0; MOST_PIECES_BYTES];
     let length = ordinary::canonical(file, &mut out).expect("the file is accepted");
+    let count = [2, 3, 4, 6, 10, 11, 101][random.below(7)];
     least_capacity(file, length, count, &mut out) + random.below(20) as u64
 }
 

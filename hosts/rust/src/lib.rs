@@ -1,8 +1,7 @@
 //! The gateway's ordinary-Rust side: `ordinary` has the five calls by document 01 without any proof, `sample` makes files,
-//! `damage` spoils them, `calendar` spells their days and `kana` their kana names, `groups` has files with several groups of
-//! one day, `division` has inputs for cutting and joining, `runs` their runs of used IDs, `sets` pieces for the search of
-//! piece k, `library` has the replies of the proved static library, `comparison` compares the two, `timing` measures. The
-//! programs `bench` and `compare` use all of them.
+//! `damage` spoils them, `calendar` spells their days and `kana` their kana names, `division` has inputs for cutting and
+//! joining, `runs` their runs of used IDs, `sets` pieces for the search of piece k, `library` has the replies of the proved
+//! static library, `comparison` compares the two, `timing` measures. The programs `bench` and `compare` use all of them.
 
 #![forbid(unsafe_code)]
 // Days are written YYYY_MM_DD.
@@ -13,7 +12,6 @@ pub mod comparison;
 pub mod damage;
 pub mod division;
 pub mod faults;
-pub mod groups;
 pub mod kana;
 pub mod library;
 pub mod ordinary;

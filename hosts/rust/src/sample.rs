@@ -41,20 +41,6 @@ pub fn sized_from(newest: Day, target: usize) -> Vec<u8> {
     file
 }
 
-/// The file of direction 2 with the most groups that have codes: all of one day, and the codes falling, so that the canonical
-/// file has every group in another place.
-pub fn one_day() -> Vec<u8> {
-    let mut file = b"JAHISTC04,2\r\n1,A,1,H010108,,,,,,,\r\n".to_vec();
-    for code in (0..10_000_000).rev() {
-        let group = format!("5,R080411,1\r\n11,x,,,{code:07},,,,1\r\n");
-        if file.len() + group.len() > 65_536 {
-            break;
-        }
-        file.extend_from_slice(group.as_bytes());
-    }
-    file
-}
-
 /// Line 1 and what stands before the groups; its dates but the birth's are of this year.
 fn head(year: u32) -> Vec<u8> {
     let mut file = b"JAHISTC04,1\r\n".to_vec();
@@ -305,12 +291,6 @@ mod tests {
             assert_eq!(counts.records, lines - 1);
             assert!(counts.groups >= 1 && counts.drugs >= counts.groups);
         }
-    }
-
-    #[test]
-    fn the_most_groups_of_one_day_with_codes() {
-        let file = one_day();
-        assert_eq!((check(&file).map(|counts| counts.groups), file.len()), (Ok(1_926), 65_519));
     }
 
     /// The days of the groups, as spelled, and as a canonical file spells them.

@@ -9,17 +9,17 @@ use Rattle.order.proofs.State.finish.Reads as finish-reads
 finish-requires : tie.Need-finish-requires
 finish-requires c κs = search rules
 
-cast-t6 : tie.Need-overflow-cast-t6
-cast-t6 c = search rules
+cast-t5 : tie.Need-overflow-cast-t5
+cast-t5 c = search rules
 
 returns : tie.Need-returns
 returns c = search (rules, close_laws)
 
-add-t7 : tie.Need-overflow-add-t7
-add-t7 c = search rules
+add-t6 : tie.Need-overflow-add-t6
+add-t6 c = search rules
 
 returns-2 : tie.Need-returns-2
 returns-2 c = search (rules, close_laws)
 
 pub close_spec : {M : Type 1} → statement M
-close_spec = tie.close (tie.spec finish-requires cast-t6 returns add-t7 returns-2)
+close_spec = tie.close (tie.spec finish-requires cast-t5 returns add-t6 returns-2)

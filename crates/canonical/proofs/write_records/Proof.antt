@@ -3,22 +3,21 @@ use Prim.Native.Nat.{◌-◌}
 use lib.ListN.{length}
 use Rattle.scanning.specs.Scans.{Sixteen}
 use Rattle.checking.proofs.TurnLaws.{turn_size, turn-commas, turn-places}
-use Rattle.canonical.proofs.FileLaws.{Running, running_laws, running_countable, running_closing, running_inside, running_ready, running_reach, running-ended, running-sound, running-room, running-on}
+use Rattle.canonical.proofs.FileLaws.{Running, running_laws, running_countable, running_closing, running_inside, running_ready, running_reach, running-ended, running-sound, running-room}
 use Rattle.canonical.proofs.write_records.Statement.{statement}
 use Rattle.canonical.proofs.write_records.Tie as tie
 use Rattle.canonical.proofs.write_records.Reads as reads
 use Rattle.canonical.proofs.write_records.Lts as lts
 use Rattle.canonical.proofs.finish.Reads as finish-reads
 use Rattle.canonical.proofs.put_record.Reads as put-record-reads
-use Rattle.canonical.proofs.days_after.Reads as days-after-reads
 use Rattle.checking.proofs.read_record.Reads as read-record-reads
 use Rattle.order.proofs.State.new.Reads as new-reads
 
 abbrev invariant-loop : tie.invariant-loop
-invariant-loop codes stops₀ provider s from out₀ st₀ at₀ run₀ days₀ stops out st at run days = Running provider s from out₀ st at out run days × Sixteen stops
+invariant-loop codes stops₀ provider s from out₀ st₀ at₀ run₀ stops out st at run = Running provider s from out₀ st at out run × Sixteen stops
 
 abbrev decreases-loop : tie.decreases-loop
-decreases-loop codes stops₀ provider s from out₀ st₀ at₀ run₀ days₀ stops out st at run days = length s - at
+decreases-loop codes stops₀ provider s from out₀ st₀ at₀ run₀ stops out st at run = length s - at
 
 new-requires : tie.Need-new-requires invariant-loop decreases-loop
 new-requires c κs = search (rules, running_laws)
@@ -59,12 +58,6 @@ enum-known-after c = search (rules, running_laws)
 put-record-requires : tie.Need-put-record-requires invariant-loop decreases-loop
 put-record-requires c κs = (search (rules, running-ended), (search (rules, turn-commas), (search (rules, turn-places), (search (rules, turn_size), (search (rules, running-sound), search (rules, running-room))))))
 
-days-after-requires : tie.Need-days-after-requires invariant-loop decreases-loop
-days-after-requires c κs =
-    let w = c.before.before.before.before.before.before.before.before.before.read-record.ensures in
-    let q = c.before.before.before.before.before.before.before.after.given.1 in
-    let v = c.before.before.before.before.before.before.before.before.before.before.before.loop.invariant.0 in (running-ended v w q, (turn-commas w q, (turn-places w q, (turn_size w, running-sound v w q))))
-
 add_at : tie.Need-overflow-add-at invariant-loop decreases-loop
 add_at c = search (rules, running_laws)
 
@@ -72,7 +65,7 @@ loop-less : tie.Need-loop-smaller invariant-loop decreases-loop
 loop-less c = search (rules, running_laws)
 
 loop-again : tie.Need-loop-preserved invariant-loop decreases-loop
-loop-again c = (search (rules, running-on), search (rules, turn_size))
+loop-again c = search (rules, running_laws)
 
 pub write-records-spec : {M : Type 1} → statement M
 write-records-spec =
@@ -93,7 +86,6 @@ write-records-spec =
     returns-2
     enum-known-after
     put-record-requires
-    days-after-requires
     add_at
     loop-less
     loop-again)

@@ -1,19 +1,16 @@
 use borrow.Author.Rules.{rules}
-use Prim.Native.Nat.{◌-◌}
-use lib.ListN.{length}
-use Rattle.cut.proofs.FileLaws.{cut-given, cut-written, cut-long, cut_inside, cut_laws}
+use Rattle.cut.proofs.FileLaws.{cut-given, cut_laws}
 use Rattle.cut.proofs.cut_by.Statement.{statement}
 use Rattle.cut.proofs.cut_by.Tie as tie
 use Rattle.cut.proofs.cut_by.Reads as reads
 use Rattle.cut.proofs.cut_by.Lts as lts
-use Rattle.canonical.proofs.written_into.Reads as written-into-reads
-use Rattle.cut.proofs.cut_arranged.Reads as cut-arranged-reads
+use Rattle.canonical.proofs.canonical_into.Reads as canonical-into-reads
 use Rattle.cut.proofs.cut_bytes.Reads as cut-bytes-reads
 use Rattle.pieces.proofs.valid_id.Reads as valid-id-reads
 use Rattle.used.proofs.is_unused.Reads as is-unused-reads
 
-written-into-requires : tie.Need-written-into-requires
-written-into-requires c κs = search rules
+canonical-into-requires : tie.Need-canonical-into-requires
+canonical-into-requires c κs = search rules
 
 enum-known-number : tie.Need-enum-known-number
 enum-known-number c = search rules
@@ -57,23 +54,11 @@ cut-bytes-requires c κs = search (rules, cut-given)
 same-length-3 : tie.Need-same-length-3
 same-length-3 c = search rules
 
-same-length-4 : tie.Need-same-length-4
-same-length-4 c = search rules
-
 returns-3 : tie.Need-returns-3
 returns-3 c = search (rules, cut_laws)
 
-sub-cut-arranged : tie.Need-overflow-sub-cut-arranged
-sub-cut-arranged c = search rules
-
-part-cut-arranged-start : tie.Need-slice-bounds-cut-arranged-start
-part-cut-arranged-start c = search rules
-
-part-cut-arranged-end : tie.Need-slice-bounds-cut-arranged-end
-part-cut-arranged-end c = search (rules, cut_laws)
-
-cut-arranged-requires : tie.Need-cut-arranged-requires
-cut-arranged-requires c κs = (search (rules, cut-written), search (rules, cut-long))
+same-length-4 : tie.Need-same-length-4
+same-length-4 c = search rules
 
 same-length-5 : tie.Need-same-length-5
 same-length-5 c = search rules
@@ -81,20 +66,11 @@ same-length-5 c = search rules
 returns-4 : tie.Need-returns-4
 returns-4 c = search (rules, cut_laws)
 
-same-length-6 : tie.Need-same-length-6
-same-length-6 c = search rules
-
-same-length-7 : tie.Need-same-length-7
-same-length-7 c = search rules
-
-returns-5 : tie.Need-returns-5
-returns-5 c = search (rules, cut_laws)
-
 pub cut-by-spec : {M : Type 1} → statement M
 cut-by-spec =
     tie.close
     (tie.spec
-    written-into-requires
+    canonical-into-requires
     enum-known-number
     enum-known-count
     valid-id-requires
@@ -109,14 +85,7 @@ cut-by-spec =
     part-cut-bytes-end
     cut-bytes-requires
     same-length-3
-    same-length-4
     returns-3
-    sub-cut-arranged
-    part-cut-arranged-start
-    part-cut-arranged-end
-    cut-arranged-requires
+    same-length-4
     same-length-5
-    returns-4
-    same-length-6
-    same-length-7
-    returns-5)
+    returns-4)

@@ -198,8 +198,7 @@ pub fn at_line(entries: &[Entry], line: u32) -> Option<&Entry> {
 }
 
 /// The canonical file: days in the form of the newest era that has begun, postal codes without hyphen, RP numbers and
-/// quantities without leading zeros, no 1Ah; groups of one day by the institution code of their 11, smaller codes first, then
-/// those without a code or an 11, and equals as they lie.
+/// quantities without leading zeros, no 1Ah.
 ///
 /// ```
 /// // One day, as an older phone spells it, and as it is written.
@@ -208,7 +207,7 @@ pub fn at_line(entries: &[Entry], line: u32) -> Option<&Entry> {
 /// # Ok::<(), notebook::Refusal>(())
 /// ```
 pub fn canonical(file: &[u8]) -> Result<Vec<u8>, Refusal> {
-    // No canonical file is longer than a file of its notebook.
+    // No canonical spelling is longer than another.
     let mut out = vec![0; file.len().min(MOST_FILE_BYTES)];
     let bytes = canonical_into(file, &mut out)?;
     out.truncate(bytes);
@@ -220,9 +219,8 @@ pub fn canonical_into(file: &[u8], out: &mut [u8]) -> Result<usize, Refusal> {
     written(raw::canonical(file, out))
 }
 
-/// Cuts the canonical file of a file into the fewest pieces of at most `capacity` bytes; its groups stay in the sequence that
-/// they have there. `id` is the 14 digits that the pieces have in common; one that has been used is refused, also where one
-/// piece serves.
+/// Cuts a file into pieces of at most `capacity` bytes. `id` is the 14 digits that the pieces have in common; one that has been
+/// used is refused, also where one piece serves.
 ///
 /// ```
 /// use notebook::{Reason, Used};
@@ -266,8 +264,7 @@ pub fn cut_into(file: &[u8], capacity: u64, id: impl AsRef<[u8]>, used: &Used, o
     Refusal::of(reply).map_or(Ok(Written { pieces: reply.a as usize, bytes: reply.b as usize }), Err)
 }
 
-/// Joins pieces, given one after another in any order, to one file, whose items are spelled and whose groups stand as in the
-/// pieces. Those of [`cut`] join to the canonical file.
+/// Joins pieces, given one after another in any order, to one file.
 pub fn join(pieces: &[u8]) -> Result<Vec<u8>, Refusal> {
     let mut out = vec![0; pieces.len().min(MOST_FILE_BYTES)];
     let bytes = join_into(pieces, &mut out)?;
@@ -280,7 +277,7 @@ pub fn join_into(pieces: &[u8], out: &mut [u8]) -> Result<usize, Refusal> {
     written(raw::join(pieces, out))
 }
 
-/// The version of the library that is linked, as 10,000 times the major, 100 times the minor, and the patch: 700 is 0.7.0.
+/// The version of the library that is linked, as 10,000 times the major, 100 times the minor, and the patch: 601 is 0.6.1.
 #[inline]
 pub fn version() -> u64 {
     raw::version()

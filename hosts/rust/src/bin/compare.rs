@@ -4,8 +4,8 @@
 //! `label: ok R G D` or `label: no N L` for each frame of check; it passes over those of other calls.
 //! `compare --against-library SEED COUNT` gives inputs near every rule to both, in every call, and prints the first
 //! differences. A run of 20,000 inputs or more fails too if a call has not given a refusal that it can give, or a reason for
-//! 19, a spelling of days, a kana name near the rule, a record or group with or without a clinic, a sort of groups of one
-//! day, a kind of run of used IDs, a mixture of two cuttings or a sort of pieces for the search of piece k has not occurred.
+//! 19, a spelling of days, a kana name near the rule, a record or group with or without a clinic, a kind of run of used IDs,
+//! a mixture of two cuttings or a sort of pieces for the search of piece k has not occurred.
 //! `compare --minutes SEED MINUTES` is the same for so many minutes. Both tell their progress on standard error.
 //! `compare --seeds FOLDER` writes short inputs into a folder, for `fuzz/run` to begin with.
 //! `compare --frames SEED COUNT` writes the files of such a run as frames of check to standard output.
@@ -13,7 +13,6 @@
 use notebook_hosts::comparison::Comparison;
 use notebook_hosts::damage::Damage;
 use notebook_hosts::division::{bytes_with_run, join_input};
-use notebook_hosts::groups::visits;
 use notebook_hosts::ordinary::{self, Counts, Refusal};
 use std::fs;
 use std::io::{self, BufWriter, IsTerminal, Read, Write};
@@ -123,8 +122,7 @@ fn write_seeds(folder: &Path) -> Result<ExitCode, String> {
         let file = files.file(1, index);
         let pieces = join_input(1, index, &file, &files);
         let with_run = bytes_with_run(1, index, &file);
-        let one_day = visits(1, index);
-        for (name, bytes) in [("file", &file), ("pieces", &pieces), ("run", &with_run), ("day", &one_day)] {
+        for (name, bytes) in [("file", &file), ("pieces", &pieces), ("run", &with_run)] {
             if bytes.len() <= 4_096 {
                 fs::write(folder.join(format!("{name}-{index}")), bytes).map_err(|error| error.to_string())?;
             }

@@ -242,39 +242,6 @@ mod tests {
         }
     }
 
-    fn with_records<'a>(records: impl IntoIterator<Item = &'a str>) -> Vec<u8> {
-        let records = ["JAHISTC04,2", "1,A,1,H010108,,,,,,,"].into_iter().chain(records);
-        records.map(|record| format!("{record}\r\n")).collect::<String>().into_bytes()
-    }
-
-    /// The records in each piece, without line 1 and 911.
-    fn in_each(pieces: &[Vec<u8>]) -> Vec<usize> {
-        pieces.iter().map(|piece| piece.iter().filter(|&&byte| byte == b'\n').count() - 2).collect()
-    }
-
-    /// "because another sequence may pack better": as it lies the file would have six pieces, as its turned codes show.
-    #[test]
-    fn the_arranged_file_is_cut() {
-        let lying =
-            ["5,H280411,1", "11,x,,,1310002,,,,1", "15,x,,1", "401,x,1", "501,x,1", "5,H280411,1", "11,x,,,1310001,,,,1"];
-        let file = with_records(lying);
-        assert_eq!(file.len(), 130);
-        let list = pieces(&file, 60);
-        assert_eq!(in_each(&list), [1, 1, 1, 1, 1, 2, 1]);
-        let arranged = with_records([&lying[5..], &lying[..5]].concat());
-        assert_eq!(canonical_of(&file), arranged);
-        assert_eq!(joined(&list.iter().rev().map(|piece| &piece[..]).collect::<Vec<_>>()), arranged);
-        let level = with_records(lying.map(|record| if record.starts_with("11,") { lying[1] } else { record }));
-        assert_eq!(in_each(&pieces(&level, 60)), [1, 1, 1, 2, 2, 1]);
-
-        // A record of 23 bytes fits into no piece 10 and later of 61 bytes. As they lie it is in piece 3 of 14.
-        let (long, other) = (format!("401,{},1", "x".repeat(15)), format!("401,{},1", "x".repeat(14)));
-        let with_code = ["5,H280411,1", "11,x,,,1310001,,,,1"].into_iter().chain([&other[..]; 9]);
-        let file = with_records(["5,H280411,1", &long].into_iter().chain(with_code));
-        assert_eq!(cut(&file, 61, FILE_ID, b"", &mut [0; 2_000]), Err(without_line(18)));
-        assert_eq!(pieces(&file, 62).len(), 14);
-    }
-
     /// All orders of the numbers below `count`.
     fn orders(count: usize) -> Vec<Vec<usize>> {
         if count == 0 {

@@ -4,10 +4,6 @@ use super::characters::{scripts, Script, MOST_PARTS};
 use super::days::{self, Day};
 use super::{rule, Watcher, EDGE, EMPTY, FORM, LONG};
 
-/// Greater than every institution code: "An empty code or a missing 11 comes last". Of seven digits each, the smaller number
-/// has the smaller bytes.
-pub(super) const NO_CODE: u32 = u32::MAX;
-
 /// The items of a line from the left. Each method takes one item and refuses it by the lowest of 8 to 11. The short ones
 /// are worth inlining: a tenth of the whole time.
 pub(super) struct Items<'a, W> {
@@ -37,24 +33,6 @@ impl<'a, W: Watcher> Items<'a, W> {
     fn respell(&mut self, spelling: &[u8]) {
         let (from, to) = (self.ends[self.next - 2] + 1, self.ends[self.next - 1]);
         self.watcher.respell(self.line + from, self.line + to, spelling);
-    }
-
-    /// Tells of a 5, whose day has just been taken.
-    #[inline(always)]
-    pub(super) fn tell_group(&mut self, day: Day) {
-        self.watcher.group(self.line, day);
-    }
-
-    /// Tells of the code of an 11.
-    #[inline(always)]
-    pub(super) fn tell_code(&mut self, code: u32) {
-        self.watcher.code(code);
-    }
-
-    /// Tells of a 701, of which nothing has been taken.
-    #[inline(always)]
-    pub(super) fn tell_end_of_groups(&mut self) {
-        self.watcher.end_of_groups(self.line);
     }
 
     #[inline(always)]
@@ -148,13 +126,12 @@ impl<'a, W: Watcher> Items<'a, W> {
         }
     }
 
-    /// Kind C: seven digits, as a number; `NO_CODE` for an empty item.
+    /// Kind C: seven digits.
     #[inline(always)]
-    pub(super) fn institution(&mut self, must: bool) -> Result<u32, u8> {
+    pub(super) fn institution(&mut self, must: bool) -> Result<(), u8> {
         match self.some(must)? {
-            None => Ok(NO_CODE),
-            Some(item) if item.len() == 7 => digits(item, 7).ok_or(FORM),
-            Some(_) => Err(FORM),
+            None => Ok(()),
+            Some(item) => rule(item.len() == 7 && digits(item, 7).is_some(), FORM),
         }
     }
 

@@ -1,6 +1,5 @@
-//! The five calls on medication notebook files (JAHIS 15-106 version 2.1) by documents 01 and 02, in ordinary Rust: no unsafe
-//! code, no allocation but for arranging the groups of a day that has several, results in buffers of the caller. A refusal
-//! leaves the caller's buffer as lent.
+//! The five calls on medication notebook files (JAHIS 15-106 version 2.1) by document 01, in ordinary Rust: no unsafe code,
+//! no allocation, results in buffers of the caller. A refusal leaves the caller's buffer as lent.
 //!
 //! Check, index and canonical are one pass over the bytes. A line is scanned once: its characters, its end and the places of
 //! its commas. Its items are then read by the record's number, and the record takes its step in the order of records. Each
@@ -23,8 +22,6 @@ mod reference;
 mod stack;
 #[cfg(test)]
 mod tests;
-
-use days::Day;
 
 pub use canonical::canonical;
 pub use check::check;
@@ -96,15 +93,6 @@ trait Watcher {
 
     /// A record that has been read and has taken its step, and where its line begins in the file.
     fn record(&mut self, _number: u16, _line: usize) {}
-
-    /// A 5 whose day has been read, and respelled if need be, and where its line begins in the file.
-    fn group(&mut self, _line: usize, _day: Day) {}
-
-    /// The code of an 11, `NO_CODE` for an empty one.
-    fn code(&mut self, _code: u32) {}
-
-    /// A 701, before its items are read, and where its line begins in the file.
-    fn end_of_groups(&mut self, _line: usize) {}
 
     /// An item of the file, and how the canonical file spells it. Items come in the order of the file.
     fn respell(&mut self, _from: usize, _to: usize, _spelling: &[u8]) {}

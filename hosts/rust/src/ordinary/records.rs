@@ -73,7 +73,6 @@ pub(super) fn read<W: Watcher>(
         5 => {
             let mut items = items(2)?;
             record.day = items.day(must)?;
-            items.tell_group(record.day);
             items.author()?;
         }
         11 => {
@@ -81,8 +80,7 @@ pub(super) fn read<W: Watcher>(
             items.text(120, must)?;
             items.prefecture(provider)?;
             record.kind = items.digit(b"134", provider)?;
-            let code = items.institution(may)?;
-            items.tell_code(code);
+            items.institution(may)?;
             items.postal_code(may)?;
             items.text(800, may)?;
             items.code(13, may)?;
@@ -165,7 +163,6 @@ pub(super) fn read<W: Watcher>(
         }
         701 => {
             let mut items = items(6)?;
-            items.tell_end_of_groups();
             items.text(40, must)?;
             items.text(120, must)?;
             items.text(800, must)?;

@@ -4,8 +4,6 @@
 use super::{canonical, check, cut, index, join, Pieces, Refusal};
 use crate::damage::Damage;
 use crate::division::{join_input, CutInput, MOST_PIECES_BYTES};
-use crate::groups::visits;
-use crate::random::Random;
 use std::sync::LazyLock;
 
 type Lines = Vec<Vec<u8>>;
@@ -99,32 +97,8 @@ fn reference_canonical(file: &[u8]) -> Result<Vec<u8>, Refusal> {
             }
             *line = items.join(&b',');
         });
-        bytes_of(&arranged(&lines))
+        bytes_of(&lines)
     })
-}
-
-/// The lines of a file with canonical items, its groups arranged: each in its turn goes before the first one of its day that it
-/// comes before, and else to the end.
-fn arranged(lines: &[Vec<u8>]) -> Lines {
-    let first = lines.iter().position(|line| line.starts_with(b"5,")).unwrap_or(lines.len());
-    let end = lines.iter().position(|line| line.starts_with(b"701,")).unwrap_or(lines.len()).max(first);
-    let item = |line: &[u8], place: usize| line.split(|&byte| byte == b',').nth(place).unwrap_or_default().to_vec();
-    let day = |group: &[Vec<u8>]| item(&group[0], 1);
-    let code = |group: &[Vec<u8>]| {
-        group.iter().find(|line| line.starts_with(b"11,")).map(|line| item(line, 4)).filter(|code| !code.is_empty())
-    };
-    let mut groups: Vec<&[Vec<u8>]> = Vec::new();
-    for group in lines[first..end].chunk_by(|_, next| !next.starts_with(b"5,")) {
-        let comes_before = |other: &&[Vec<u8>]| match (code(group), code(other)) {
-            _ if day(group) != day(other) => false,
-            (Some(code), Some(other)) => code < other,
-            (code, None) => code.is_some(),
-            (None, Some(_)) => false,
-        };
-        let place = groups.iter().position(comes_before).unwrap_or(groups.len());
-        groups.insert(place, group);
-    }
-    [&lines[..first], &groups.concat(), &lines[end..]].concat()
 }
 
 /// A day, however it is spelled, as YYYYMMDD.
@@ -303,46 +277,29 @@ fn left<T: Copy>(result: &[T], length: usize, filling: T) -> Vec<T> {
     result.iter().copied().chain(std::iter::repeat_n(filling, length - result.len())).collect()
 }
 
-/// Index, canonical and the cutting on both sides.
-fn agree(number: u64, file: &[u8], CutInput { file: cut_file, capacity, id, used }: &CutInput) {
-    let (expected, mut out) = (reference_index(file), vec![9; 7 * 8_192]);
-    assert_eq!(index(file, &mut out), expected.clone().map(|entries| entries.len() as u64 / 7), "index {number}");
-    assert!(out == left(&expected.unwrap_or_default(), out.len(), 9), "index {number}");
-
-    let (expected, mut out) = (reference_canonical(file), vec![b'?'; 65_536]);
-    assert_eq!(canonical(file, &mut out), expected.clone().map(|bytes| bytes.len() as u64), "canonical {number}");
-    assert!(out == left(&expected.unwrap_or_default(), out.len(), b'?'), "canonical {number}");
-
-    let (expected, mut out) = (reference_cut(cut_file, *capacity, id, used), vec![b'?'; MOST_PIECES_BYTES]);
-    let answer = expected.as_ref().map(|list| Pieces { count: list.len() as u64, bytes: list.concat().len() as u64 });
-    assert_eq!(cut(cut_file, *capacity, id, used, &mut out), answer.map_err(|refusal| *refusal), "cut {number}");
-    assert!(out == left(&expected.unwrap_or_default().concat(), out.len(), b'?'), "cut {number}");
-}
-
 #[test]
 fn the_fast_calls_agree_with_the_reference() {
     let files = Damage::default();
     for number in 0..2_000 {
         let file = files.file(11, number);
-        agree(number, &file, &CutInput::new(11, number, &file, &files));
+
+        let (expected, mut out) = (reference_index(&file), vec![9; 7 * 8_192]);
+        assert_eq!(index(&file, &mut out), expected.clone().map(|entries| entries.len() as u64 / 7), "index {number}");
+        assert!(out == left(&expected.unwrap_or_default(), out.len(), 9), "index {number}");
+
+        let (expected, mut out) = (reference_canonical(&file), vec![b'?'; 65_536]);
+        assert_eq!(canonical(&file, &mut out), expected.clone().map(|bytes| bytes.len() as u64), "canonical {number}");
+        assert!(out == left(&expected.unwrap_or_default(), out.len(), b'?'), "canonical {number}");
+
+        let CutInput { file: cut_file, capacity, id, used } = CutInput::new(11, number, &file, &files);
+        let (expected, mut out) = (reference_cut(&cut_file, capacity, &id, &used), vec![b'?'; MOST_PIECES_BYTES]);
+        let answer = expected.as_ref().map(|list| Pieces { count: list.len() as u64, bytes: list.concat().len() as u64 });
+        assert_eq!(cut(&cut_file, capacity, &id, &used, &mut out), answer.map_err(|refusal| *refusal), "cut {number}");
+        assert!(out == left(&expected.unwrap_or_default().concat(), out.len(), b'?'), "cut {number}");
 
         let input = join_input(11, number, &file, &files);
         let (expected, mut out) = (reference_join(&input), vec![b'?'; 65_536]);
         assert_eq!(join(&input, &mut out), expected.clone().map(|bytes| bytes.len() as u64), "join {number}");
         assert!(out == left(&expected.unwrap_or_default(), out.len(), b'?'), "join {number}");
-    }
-}
-
-/// The reference takes a time that grows as the square of the groups.
-const MOST_ARRANGED: usize = 10_000;
-
-#[test]
-fn groups_of_one_day_agree_with_the_reference() {
-    for number in 0..800 {
-        let file = visits(11, number);
-        if file.len() <= MOST_ARRANGED {
-            let input = CutInput::of_file(&mut Random::of(11, number), file);
-            agree(number, &input.file, &input);
-        }
     }
 }

@@ -104,20 +104,6 @@ fn measure_calls(newest: Day, wanted: &[&str]) -> Result<(), String> {
                 |file, _: &mut [u8]| ordinary::check(file).reply(),
                 |file, _| replies::check(file),
             ),
-            "canonical-one-day" => compare(
-                call,
-                &sample::one_day(),
-                65_536,
-                |file, out: &mut [u8]| ordinary::canonical(file, out).reply(),
-                replies::canonical,
-            ),
-            "cut-one-day" => compare(
-                call,
-                &sample::one_day(),
-                MOST_PIECES_BYTES,
-                |file, out: &mut [u8]| ordinary::cut(file, CAPACITY, ID, b"", out).reply(),
-                |file, out| replies::cut(file, CAPACITY, ID, b"", out),
-            ),
             _ => compare(
                 call,
                 &laid(call, cut_pieces(&fine(), FINE_CAPACITY)),

@@ -6,26 +6,16 @@ use std::fmt::Write;
 pub const CALLS: [&str; 5] = ["check", "index", "canonical", "cut", "join"];
 
 /// Measured at one length: the calls on files for 999 pieces, which lie out of order for `join-999`, cut with a run of 100,000
-/// used IDs, check with a kana name of the most characters, and canonical and cut on the worst file to arrange, with as many
-/// groups that have codes as a file can have, all of one day, the codes falling. The bytes of the run and of the file are
-/// counted together.
-pub const OF_ONE_LENGTH: [&str; 8] = [
-    "cut-999",
-    "join-999",
-    "join-999-in-order",
-    "join-999-reversed",
-    "cut-used",
-    "check-kana",
-    "canonical-one-day",
-    "cut-one-day",
-];
+/// used IDs, and check with a kana name of the most characters. The bytes of the run and of the file are counted together.
+pub const OF_ONE_LENGTH: [&str; 6] =
+    ["cut-999", "join-999", "join-999-in-order", "join-999-reversed", "cut-used", "check-kana"];
 
 /// The greatest ratio that is asked of a call at its least length, as docs/BENCHMARKS.md says.
 const LEAST_LENGTH_BOUNDS: [(&str, f64); 1] = [("join", 1.3)];
 
 /// The same at its greatest length. With 999 pieces joining looks 499,500 times for them, however they lie; the ordinary one
 /// goes by place.
-const BOUNDS: [(&str, f64); 13] = [
+const BOUNDS: [(&str, f64); 11] = [
     ("check", 2.0),
     ("index", 1.1),
     ("canonical", 1.2),
@@ -37,8 +27,6 @@ const BOUNDS: [(&str, f64); 13] = [
     ("join-999-reversed", 3.5),
     ("cut-used", 1.2),
     ("check-kana", 2.0),
-    ("canonical-one-day", 1.5),
-    ("cut-one-day", 1.5),
 ];
 
 const BEGIN: &str = "<!-- begin: hosts/rust/benchmark writes from here -->\n";

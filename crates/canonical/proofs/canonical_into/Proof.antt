@@ -1,10 +1,10 @@
 use borrow.Author.Rules.{rules}
 use Rattle.checking.proofs.OpenLaws.{zeros_size, opening-behind}
 use Rattle.canonical.proofs.WholeLaws.{into_laws, into-room}
-use Rattle.canonical.proofs.written_into.Statement.{statement}
-use Rattle.canonical.proofs.written_into.Tie as tie
-use Rattle.canonical.proofs.written_into.Reads as reads
-use Rattle.canonical.proofs.written_into.Lts as lts
+use Rattle.canonical.proofs.canonical_into.Statement.{statement}
+use Rattle.canonical.proofs.canonical_into.Tie as tie
+use Rattle.canonical.proofs.canonical_into.Reads as reads
+use Rattle.canonical.proofs.canonical_into.Lts as lts
 use Rattle.canonical.proofs.write_records.Reads as write-records-reads
 use Rattle.checking.proofs.open_file.Reads as open-file-reads
 use Rattle.codes.proofs.item_codes.Reads as item-codes-reads
@@ -33,8 +33,8 @@ same_length c = search rules
 returns-2 : tie.Need-returns-2
 returns-2 c = search (rules, into_laws)
 
-pub written-into-spec : {M : Type 1} → statement M
-written-into-spec =
+pub canonical-into-spec : {M : Type 1} → statement M
+canonical-into-spec =
     tie.close
     (tie.spec
     open-file-requires
