@@ -74,6 +74,13 @@ def own_names(root):
                 for name in m.group(1).split():
                     if re.match(r"^[A-Za-z][\w'′-]*$", name):
                         found.setdefault(name, False)
+    # the second names that imports give
+    for p in files(os.path.join(root, "crates"), (".antt", ".rt", ".antt.txt", ".rt.txt")):
+        with open(p, encoding="utf-8") as f:
+            for line in f:
+                if re.match(r"(?:pub |ghost )?use ", line):
+                    for name in re.findall(r" as (\w[\w'-]*)", line):
+                        found.setdefault(name, False)
     return found
 
 
@@ -175,6 +182,9 @@ def respell(text, names, in_comments):
 def spelled(text, names):
     def one(m):
         t = m.group(0)
+        # the folder of a function's proof has the function's name
+        if text[: m.start()].endswith(".proofs."):
+            return t
         if t in names:
             return names[t]
         bare = t.strip("◌")
@@ -203,6 +213,8 @@ def main(argv):
         at = os.path.join(root, "crates", crate, "specs")
         if os.path.exists(os.path.join(at, old + ".antt")):
             os.rename(os.path.join(at, old + ".antt"), os.path.join(at, new + ".antt"))
+    # a snake-case word in src/ is a function, a field or a variable there, and keeps its spelling
+    in_code = {o: n for o, n in names.items() if not re.match(r"^[a-z][a-z0-9_]*$", o)}
     # what documents and tests may mean by the word itself: only names that no English word is
     told = {o: n for o, n in names.items() if re.search(r"[a-z][A-Z]|^[A-Z].*-", o)}
     changed = 0
@@ -217,7 +229,8 @@ def main(argv):
             new = re.sub(rf"{crate}/specs/{was}(?!\w)", f"{crate}/specs/{now}", new)
             if p.endswith(os.path.join(crate, "specs", "Lib.antt")):
                 new = re.sub(rf"(?m)^pub mod {was}$", f"pub mod {now}", new)
-        new = respell(new, told if p.endswith((".md", ".py")) else names, told)
+        rust = p.endswith((".rt", ".rt.txt"))
+        new = respell(new, told if p.endswith((".md", ".py")) else in_code if rust else names, told)
         if new != old:
             with open(p, "w", encoding="utf-8") as f:
                 f.write(new)

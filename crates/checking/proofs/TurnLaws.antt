@@ -19,7 +19,7 @@ use Rattle.notebook.specs.Notebook.{step_line}
 use Rattle.lines.specs.Codes.{Commas}
 use Rattle.lines.specs.declared.LineRead.{LineRead}
 use Rattle.lines.specs.declared.LineRead.TheVariants.{Record, Fault, Over as ReadOver}
-use Rattle.lines.specs.Found.{FaultAt, broken as broken_line_lem, faulty as faulty-line, OverAt, RecordAt, ReadMeans, ReadOf}
+use Rattle.lines.specs.Found.{FaultAt, broken as broken_line_lem, faulty as faulty_line, OverAt, RecordAt, ReadMeans, ReadOf}
 use Rattle.checking.specs.declared.Turn.{Turn}
 use Rattle.checking.specs.declared.Turn.TheVariants.{On, Refused, Over}
 use Rattle.checking.specs.Turns.{StepAt, RefusedAt, broken, faulty, TurnMeans, TurnOf}
@@ -41,7 +41,7 @@ module _ (st : State) {s : List ℕ} {at : ℕ} {stops : List ℕ} {k : LineRead
     where
       go : FaultAt st.provider s at stops n → RefusedAt st s at stops n
       go (broken_line_lem l e) = broken l e
-      go (faulty-line e good m l p z) = faulty e m (record { good = good; line = l; step = step_faulty st (part s at e) p z })
+      go (faulty_line e good m l p z) = faulty e m (record { good = good; line = l; step = step_faulty st (part s at e) p z })
 
   module _ {facts : Facts} {e n : ℕ} (q : k ≡ Record facts e n) {m : Moved} (o : m ≡ step_of st facts) where
     placed_at : {j : Moved} → m ≡ j → StepAt st s at stops e n j

@@ -8,7 +8,7 @@ ghost use Rattle.scanning.specs.Scans.{Sixteen};
 ghost use Rattle.order.specs.State.{start};
 ghost use Rattle.order.specs.Room.{Room};
 ghost use Rattle.codes.specs.Codes.{Lent};
-ghost use Rattle.notebook.specs.Notebook.{closed as closedOf, records_from};
+ghost use Rattle.notebook.specs.Notebook.{closed as closed_of, records_from};
 ghost use Rattle.checking.specs.Turns.{TurnOf};
 ghost use Rattle.notebook.specs.Check.{check_result};
 ghost use Rattle.replies.specs.Results.{answer_in};
@@ -50,7 +50,7 @@ pub fn open_file(s: &[u8]) -> Opening
 // The end of a file: what is missing there, or the counts.
 pub fn close(st: order::State) -> Answer
     requires { Closing st }
-    ensures { result ≡ tally st (closedOf st) }
+    ensures { result ≡ tally st (closed_of st) }
 {
     let missing = st.finish();
     if missing == 0 {

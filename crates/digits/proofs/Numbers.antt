@@ -98,25 +98,25 @@ count_up m n h =
     (count_most m)
 
 -- a number that is read has at least the digits of its value
-digits_value : (s : List ℕ) → length s ≤ 3 → 1 ≤ length s → all is_digit s ≡ true → (digit_count (value 0 s) ≤ length s) × (value 0 s ≤ 999)
+digits_value_lem : (s : List ℕ) → length s ≤ 3 → 1 ≤ length s → all is_digit s ≡ true → (digit_count (value 0 s) ≤ length s) × (value 0 s ≤ 999)
 unfolding value
-digits_value [] h g e = absurd (omega arith)
-digits_value (a ∷ []) h g e =
+digits_value_lem [] h g e = absurd (omega arith)
+digits_value_lem (a ∷ []) h g e =
     let p : (48 ≤ a) × (a ≤ 57) = digit_is a (both (is_digit a) true e).0 in
     (omega (arith, count_1 (value 0 (a ∷ [])) (omega arith)), omega arith)
-digits_value (a ∷ b ∷ []) h g e =
+digits_value_lem (a ∷ b ∷ []) h g e =
     let q : (is_digit a ≡ true) × (is_digit b && true ≡ true) = both (is_digit a) (is_digit b && true) e in
     let p : (48 ≤ a) × (a ≤ 57) = digit_is a q.0 in
     let r : (48 ≤ b) × (b ≤ 57) = digit_is b (both (is_digit b) true q.1).0 in
     (to_99 (value 0 (a ∷ b ∷ [])) (omega arith), omega arith)
-digits_value (a ∷ b ∷ c ∷ []) h g e =
+digits_value_lem (a ∷ b ∷ c ∷ []) h g e =
     let q : (is_digit a ≡ true) × (is_digit b && (is_digit c && true) ≡ true) = both (is_digit a) (is_digit b && (is_digit c && true)) e in
     let q' : (is_digit b ≡ true) × (is_digit c && true ≡ true) = both (is_digit b) (is_digit c && true) q.1 in
     let p : (48 ≤ a) × (a ≤ 57) = digit_is a q.0 in
     let r : (48 ≤ b) × (b ≤ 57) = digit_is b q'.0 in
     let t : (48 ≤ c) × (c ≤ 57) = digit_is c (both (is_digit c) true q'.1).0 in
     (to_999 (value 0 (a ∷ b ∷ c ∷ [])) (omega arith), omega arith)
-digits_value (a ∷ b ∷ c ∷ d ∷ s) h g e = absurd (omega arith)
+digits_value_lem (a ∷ b ∷ c ∷ d ∷ s) h g e = absurd (omega arith)
 
 -- what is known of a list that is read to n
 pub record Digits (s : List ℕ) (n : ℕ) : Type 0 where
@@ -137,4 +137,4 @@ number_is s n e = go (leb 1 (length s)) refl (leb (length s) 3) refl (all is_dig
     go false p y q z r e = let z : ◌≡◌ {A = ℕ} 0 1 = cc in absurd (omega arith)
 
 pub number_length : (s : List ℕ) (n : ℕ) → number s ≡ some n → (digit_count n ≤ length s) × (n ≤ 999)
-number_length s n e = let d = number_is s n e in rw (← d.is) (digits_value s d.high d.low d.digits)
+number_length s n e = let d = number_is s n e in rw (← d.is) (digits_value_lem s d.high d.low d.digits)

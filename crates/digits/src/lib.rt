@@ -5,7 +5,7 @@ ghost use Rattle.lists.specs.Lists.{all};
 ghost use Rattle.digits.specs.Digits.{is_digit};
 ghost use Rattle.digits.specs.Short.{short_value, plain_number};
 
-pub fn is_digit_lem(b: u8) -> bool
+pub fn is_digit(b: u8) -> bool
     ensures { result ≡ is_digit b }
 {
     (0x30 <= b) & (b <= 0x39)
@@ -17,7 +17,7 @@ pub fn all_digits(s: &[u8]) -> bool
     let mut i = 0;
     while i < s.len() {
         let b = s[i];
-        if is_digit_lem(b) {
+        if is_digit(b) {
             i += 1;
         } else {
             return false;

@@ -6,7 +6,7 @@ use mathlib.Core.Bool.{false}
 use mathlib.Core.List.{List, [], ◌∷◌, map}
 use lib.ListN.{length}
 use Rattle.lists.specs.Lists.{bytes, Res, ok, map_res, and_then}
-use Rattle.digits.specs.Digits.{value as digitsValue, spell, digit_count}
+use Rattle.digits.specs.Digits.{value as digits_value, spell, digit_count}
 use Rattle.characters.specs.Rows.{is_line}
 use Rattle.eras.specs.Day.{leap, month_length, is_real, is_day}
 use Rattle.calendar.specs.Day.{gregorian}
@@ -24,7 +24,7 @@ use Rattle.notebook.specs.Notebook.{Notebook, step_line, closed, onward, records
 use Rattle.notebook.specs.Check.{count, check_result}
 use Rattle.notebook.specs.Same.{arrange}
 use Rattle.notebook.specs.Canonical.{record_rows, write_file, canonical_bytes, canonical_file, canonical_result}
-use Rattle.printing.specs.Printed.{digit_list as decimalDigits, decimal as decimalOf, spaced, line, printed}
+use Rattle.printing.specs.Printed.{digit_list as decimal_digits, decimal as decimal_of, spaced, line, printed}
 use Rattle.packing.specs.Packing.{total, put}
 use Rattle.packing.specs.Widths.{Plan, over, serves}
 use Rattle.packing.proofs.Computed.{packed, tried, planned, plan_is}
@@ -56,7 +56,7 @@ abbrev Read : ℕ → Type 0
 Read n = read_file (with_notes n) ≡ ok (book n)
 
 reads : Read 20 × Read 18 × Read 2
-unfolding notes book bytes spell is_line digitsValue leap month_length is_real is_day gregorian era_of era_on in_era from_era read_day write_day table edge one_width is_decimal sized fault value_of item_fault item_value items_fault items_value row_in table_row pairs t911 record_from fault_from line_fault record_of header in_group may_follow pair_broken misplaced closes_rp lacking missing value_wrong newer_group order_refusal unfinished nothing_yet start had_after advance refusal_of step_of finish_of facts_of step_line closed onward records_from read_rows read_file
+unfolding notes book bytes spell is_line digits_value leap month_length is_real is_day gregorian era_of era_on in_era from_era read_day write_day table edge one_width is_decimal sized fault value_of item_fault item_value items_fault items_value row_in table_row pairs t911 record_from fault_from line_fault record_of header in_group may_follow pair_broken misplaced closes_rp lacking missing value_wrong newer_group order_refusal unfinished nothing_yet start had_after advance refusal_of step_of finish_of facts_of step_line closed onward records_from read_rows read_file
 reads = (refl, refl, refl)
 
 -- ---- cut
@@ -93,5 +93,5 @@ cuts = (cut 20 69 reads.0, cut 18 60 reads.1, cut 18 59 reads.1, cut 2 51 reads.
 -- ---- ALL CASES
 
 pub cases_hold : map (λ (c : Case). answer c.asked) cases ≡ map (λ (c : Case). c.said) cases
-unfolding bytes spell is_line digitsValue leap month_length is_real is_day gregorian era_of era_on in_era from_era read_day write_day table edge one_width is_decimal sized fault value_of item_fault item_value items_fault items_value row_in table_row pairs t911 record_from fault_from line_fault record_of header in_group may_follow pair_broken misplaced closes_rp lacking missing value_wrong newer_group order_refusal unfinished nothing_yet start had_after advance refusal_of step_of finish_of facts_of step_line closed onward records_from read_rows read_file count check_result joined write record_rows arrange write_file canonical_bytes canonical_file canonical_result answer_in decimalDigits decimalOf spaced line printed
+unfolding bytes spell is_line digits_value leap month_length is_real is_day gregorian era_of era_on in_era from_era read_day write_day table edge one_width is_decimal sized fault value_of item_fault item_value items_fault items_value row_in table_row pairs t911 record_from fault_from line_fault record_of header in_group may_follow pair_broken misplaced closes_rp lacking missing value_wrong newer_group order_refusal unfinished nothing_yet start had_after advance refusal_of step_of finish_of facts_of step_line closed onward records_from read_rows read_file count check_result joined write record_rows arrange write_file canonical_bytes canonical_file canonical_result answer_in decimal_digits decimal_of spaced line printed
 cases_hold = rw (cuts.4, cuts.3, cuts.2, cuts.1, cuts.0) refl

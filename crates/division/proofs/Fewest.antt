@@ -16,7 +16,7 @@ use Rattle.characters.specs.Rows.{flat, line_end}
 use Rattle.records.specs.Records.{Record}
 use Rattle.notebook.specs.Notebook.{Notebook, read_file}
 use Rattle.notebook.specs.Canonical.{record_rows, write_file}
-use Rattle.notebook.proofs.Accepted.{no_refusal, line_bytes, Lines, none as noLines, more, LinesRead, lines_read}
+use Rattle.notebook.proofs.Accepted.{no_refusal, line_bytes, Lines, none as no_lines, more, LinesRead, lines_read}
 use Rattle.notebook.proofs.WrittenLaws.{row_short, lines_short}
 use Rattle.packing.specs.Packing.{total}
 use Rattle.packing.specs.Divisions.{concat, Fits}
@@ -31,7 +31,7 @@ use Rattle.division.specs.Cut.{numbered, planned, cutting}
 use Rattle.division.specs.Join.{unmarked, Part, all_parts, join_parts, join_pieces, or_set, join_split, joined_file, checked_file, then_checked, join_file}
 use Rattle.division.specs.Demand.{OnePiece, Within, Sound}
 use Rattle.division.proofs.Orders.{all_append, all_left, all_right, map_length}
-use Rattle.division.proofs.Parts.{no_none, some_inj, Runs, Gathered, gather_runs, IsPart, PartsOf, over as noParts, more as morePart, parts_are, Joined, parts_joined}
+use Rattle.division.proofs.Parts.{no_none, some_inj, Runs, Gathered, gather_runs, IsPart, PartsOf, over as no_parts, more as more_part, parts_are, Joined, parts_joined}
 use Rattle.division.proofs.Own.{total_flat}
 
 -- ---- pieces that stand for themselves are the bytes of chunks
@@ -82,8 +82,8 @@ small_part c x p g h r =
 
 small_parts : (c : ℕ) (zs : List Chunk) (ps : List Part) → All Good zs → All (Within c) (map chunk_bytes zs) → PartsOf (map piece_of zs) ps
     → All (Small c) ps × (length ps ≡ length zs)
-small_parts c [] ps g h noParts = (tt, refl)
-small_parts c (z ∷ zs) ps (g, u) (h, t) (morePart {p = p} {ps = qs} i is) =
+small_parts c [] ps g h no_parts = (tt, refl)
+small_parts c (z ∷ zs) ps (g, u) (h, t) (more_part {p = p} {ps = qs} i is) =
     let r : All (Small c) qs × (length qs ≡ length zs) = small_parts c zs qs u t is in
     ((small_part c z p g h.fits i, r.0), ap suc r.1)
 
@@ -142,7 +142,7 @@ divided_by c ps w a j =
 
 rows_pairs : {d : Bool} {rs : List Record} {ls : List (List ℕ)} → Lines d rs ls → Pairs (λ a b. length a ≤ length b) (record_rows rs) ls
 unfolding record_rows
-rows_pairs noLines = nil
+rows_pairs no_lines = nil
 rows_pairs (more x xs) = cons (row_short x) (rows_pairs xs)
 
 -- ---- joining's steps backwards

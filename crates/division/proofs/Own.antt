@@ -15,7 +15,7 @@ use Rattle.records.specs.Records.{Record, is_mark}
 use Rattle.notebook.specs.Notebook.{Notebook, read_file}
 use Rattle.notebook.specs.Same.{CarrySame}
 use Rattle.notebook.specs.Canonical.{head_row, record_rows, write_file}
-use Rattle.notebook.proofs.Accepted.{head_length, Lines, none as noLines, more, accepted}
+use Rattle.notebook.proofs.Accepted.{head_length, Lines, none as no_lines, more, accepted}
 use Rattle.notebook.proofs.WrittenLaws.{lines_written, written_small, written_carries}
 use Rattle.packing.specs.Packing.{total}
 use Rattle.packing.specs.Divisions.{concat, Fits}
@@ -239,7 +239,7 @@ module _ (d : Bool) (i : List ℕ) (ys : List (List (List ℕ))) (v : valid_id i
 -- ---- the runs of a plan
 
 free_lines : {d : Bool} {rs : List Record} {ls : List (List ℕ)} → Lines d rs ls → All Free ls
-free_lines noLines = tt
+free_lines no_lines = tt
 free_lines (more x xs) = ((read_body x, read_unmarked x), free_lines xs)
 
 free_runs : (xs : List (List (List ℕ))) → All Free (concat xs) → All AllFree xs

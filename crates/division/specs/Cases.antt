@@ -11,7 +11,7 @@ use Rattle.calendar.specs.declared.DateRead.TheVariants.{Date, NotADate}
 use Rattle.calendar.specs.Era.{read_day}
 use Rattle.eras.specs.Era.{write_day}
 use Rattle.records.specs.Table.{Kind, Q, D}
-use Rattle.records.specs.Items.{fault as faultOf}
+use Rattle.records.specs.Items.{fault as fault_of}
 use Rattle.replies.specs.declared.Reply.{Reply}
 use Rattle.replies.specs.Replies.{refusal, result}
 use Rattle.replies.specs.Results.{reply_to}
@@ -110,7 +110,7 @@ thousand = replicate 1000 0
 -- check has no output; cut has an ID of 14 digits, and none has been used
 abbrev pub answer : Asked → Said
 answer (date s) = dated (read_day (bytes s))
-answer (item k s) = fault (faultOf k (bytes s))
+answer (item k s) = fault (fault_of k (bytes s))
 answer (size s) = count (length s)
 answer (check s) = reply (reply_to (check_result s) [])
 answer (canonical s) = reply (reply_to (canonical_result s) thousand)

@@ -29,7 +29,7 @@ use Rattle.order.specs.declared.Moved.TheVariants.{Fault, On}
 use Rattle.order.specs.Questions.{before_of, asked_of}
 use Rattle.rules.specs.Rules.{pair_broken, misplaced, missing, value_wrong, newer_group, order_refusal}
 use Rattle.order.specs.State.{start, refusal_of, step_of, finish_of}
-use Rattle.order.proofs.Laws.{taken, refused as refusedLaw, next_line, line_start}
+use Rattle.order.proofs.Laws.{taken, refused as refused_law, next_line, line_start}
 use Rattle.notebook.specs.Facts.{facts_of}
 use Rattle.notebook.specs.Notebook.{step_line, prepend, closed, onward, records_from, notebook_of, read_rows, read_file}
 use Rattle.notebook.proofs.Placing.{placed}
@@ -383,7 +383,7 @@ refused_first st l n e = by (line_fault st.provider l) refl e
   where
     by : (f : ℕ) → line_fault st.provider l ≡ f → cond (eqb f 0) (step_of st (facts_of (record_of l))) (Fault f) ≡ Fault n → Stepped st l n
     by zero q e =
-        let k = refusedLaw st (facts_of (record_of l)) n e in
+        let k = refused_law st (facts_of (record_of l)) n e in
         record { some = omega (arith, k.from); first = first_of_lem st l ∙ ap (λ (x : ℕ). x or_else refusal_of st (facts_of (record_of l))) q ∙ sym k.number }
     by (suc f) q e =
         let g : suc f ≡ n = cc (eqb-suc-zero f) in

@@ -31,7 +31,7 @@ fn clinic_after(line: u32, before: u32, number: u32) -> u32
 fn clinic_of(number: u32, clinic: u32) -> u32
     ensures { result ≡ clinic_of number clinic }
 {
-    if order::in_group_lem(number) { clinic } else { 0 }
+    if order::in_group(number) { clinic } else { 0 }
 }
 
 // The entry of a record whose line stands from at to end and moved the reader to the state; clinic: the line of its group's 51, or 0.

@@ -3,12 +3,12 @@
 // of `kind_fault` and a clause of `kind_of`. What a kind asks of characters (their width, their script, a blank at an end) it asks of the scripts
 // that the reading of the characters tells.
 ghost use Rattle.std.specs.Prelude.{◌≡◌, true, cond, not, ◌&&◌, ◌||◌, ◌+◌, ◌≤◌, ◌<◌, ◌/◌, ◌%◌, leb, eqb, length, get_or};
-ghost use Rattle.lists.specs.Lists.{all, member as memberOf, unless as unlessOf};
+ghost use Rattle.lists.specs.Lists.{all, member as member_of, unless as unless_of};
 ghost use Rattle.digits.specs.Digits.{number};
 ghost use Rattle.scanning.specs.Scans.{RunOf, Counted};
 ghost use Rattle.calendar.specs.Era.{read_day};
-ghost use Rattle.records.specs.Table.{required as requiredOf};
-ghost use Rattle.records.specs.Items.{is_code, ends_wide, edge as edge_of, seven as sevenOf, unhyphened, postal as postalOf, prefecture as prefectureOf, whole_part as whole_of, fraction_part as places_of, fraction as fractionOf, is_decimal as decimalOf, sized as sizedOf, fault as faultOf, number_fault, day_fault};
+ghost use Rattle.records.specs.Table.{required as required_of};
+ghost use Rattle.records.specs.Items.{is_code, ends_wide, edge as edge_of, seven as seven_of, unhyphened, postal as postal_of, prefecture as prefecture_of, whole_part as whole_of, fraction_part as places_of, fraction as fraction_of, is_decimal as decimal_of, sized as sized_of, fault as fault_of, number_fault, day_fault};
 ghost use Rattle.records.specs.Records.{item_fault};
 ghost use Rattle.items.specs.Codes.{set_of, kind_of, need_of, item_of};
 ghost use Rattle.items.specs.Ends.{Within, scripts_fit, text_form, sized_end, EndOf, SpelledAt, CodeRun, DigitAt, DigitFits};
@@ -29,7 +29,7 @@ fn all_code(s: &[u8]) -> bool
     let mut i = 0;
     while i < s.len() {
         let b = s[i];
-        if digits::is_digit_lem(b) {
+        if digits::is_digit(b) {
             i += 1;
         } else if is_code(b) {
             i += 1;
@@ -110,13 +110,13 @@ fn edge(s: &[u8]) -> bool
 }
 
 fn seven(s: &[u8]) -> bool
-    ensures { result ≡ sevenOf s.now }
+    ensures { result ≡ seven_of s.now }
 {
     (s.len() == 7) & digits::all_digits(s)
 }
 
 fn hyphened(s: &[u8]) -> bool
-    ensures { result ≡ sevenOf (unhyphened s.now) }
+    ensures { result ≡ seven_of (unhyphened s.now) }
 {
     let n = s.len();
     if n != 8 {
@@ -129,14 +129,14 @@ fn hyphened(s: &[u8]) -> bool
 }
 
 fn postal(s: &[u8]) -> bool
-    ensures { result ≡ postalOf s.now }
+    ensures { result ≡ postal_of s.now }
 {
     let h = lists::byte_at(s, 3);
     seven(s) | ((h == 0x2d) & hyphened(s))
 }
 
 fn prefecture(s: &[u8]) -> bool
-    ensures { result ≡ prefectureOf s.now }
+    ensures { result ≡ prefecture_of s.now }
 {
     let v = digits::short_value(s);
     (s.len() == 2) & ((1 <= v) & (v <= 47))
@@ -161,7 +161,7 @@ fn decimals(f: usize, b: &[u8]) -> bool
 }
 
 fn fraction(f: usize, s: &[u8]) -> bool
-    ensures { result ≡ fractionOf f s.now }
+    ensures { result ≡ fraction_of f s.now }
 {
     if s.len() == 0 {
         return true;
@@ -170,7 +170,7 @@ fn fraction(f: usize, s: &[u8]) -> bool
 }
 
 fn decimal(w: usize, f: usize, s: &[u8]) -> bool
-    ensures { result ≡ decimalOf w f s.now }
+    ensures { result ≡ decimal_of w f s.now }
 {
     let n = s.len();
     let start = 0;
@@ -180,7 +180,7 @@ fn decimal(w: usize, f: usize, s: &[u8]) -> bool
 
 // The values in braces.
 fn member(set: usize, n: u32) -> bool
-    ensures { result ≡ memberOf (set_of set) n }
+    ensures { result ≡ member_of (set_of set) n }
 {
     match set {
         0 => (n == 1) | (n == 2),
@@ -204,14 +204,14 @@ fn member(set: usize, n: u32) -> bool
 }
 
 pub fn unless(good: bool, n: u8) -> u8
-    ensures { result ≡ unlessOf good n }
+    ensures { result ≡ unless_of good n }
 {
     if good { 0 } else { n }
 }
 
 // The kinds N, U, X and K: too long, then an edge, then the form.
 fn sized(m: usize, s: &[u8], good: bool) -> u8
-    ensures { result ≡ sizedOf m s.now good }
+    ensures { result ≡ sized_of m s.now good }
 {
     if m < s.len() {
         return 9;
@@ -240,7 +240,7 @@ fn day_fault(s: &[u8]) -> u8
 
 // The fault of an item that is not empty, by the number of its kind and its most bytes or set.
 fn kind_fault(k: usize, m: usize, s: &[u8]) -> u8
-    ensures { result ≡ faultOf (kind_of k m) s.now }
+    ensures { result ≡ fault_of (kind_of k m) s.now }
 {
     match k {
         0 => sized(m, s, true),
@@ -260,7 +260,7 @@ fn kind_fault(k: usize, m: usize, s: &[u8]) -> u8
 }
 
 fn required(n: usize, provider: bool) -> bool
-    ensures { result ≡ requiredOf (provider) (need_of n) }
+    ensures { result ≡ required_of (provider) (need_of n) }
 {
     (n == 0) | ((n == 1) & provider)
 }
@@ -286,7 +286,7 @@ fn code_end(s: &[u8], from: usize) -> usize
     let mut i = from;
     while i < s.len() {
         let b = s[i];
-        if digits::is_digit_lem(b) {
+        if digits::is_digit(b) {
             i += 1;
         } else if is_code(b) {
             i += 1;
@@ -299,7 +299,7 @@ fn code_end(s: &[u8], from: usize) -> usize
 
 // Where an empty item ends: where it begins, unless it must not be empty.
 fn blank_end(c: usize, provider: bool, from: usize) -> usize
-    ensures { result ≡ cond (requiredOf (provider) (need_of (c % 4))) 0 from }
+    ensures { result ≡ cond (required_of (provider) (need_of (c % 4))) 0 from }
 {
     if required(c % 4, provider) { 0 } else { from }
 }
@@ -410,7 +410,7 @@ fn digit_at(s: &[u8], from: usize) -> u32
     let b = s[next];
     if (b == 0x2c) | (b == 0x0d) {
         let a = s[from];
-        if digits::is_digit_lem(a) {
+        if digits::is_digit(a) {
             return digits::wide(a - 48);
         }
     }
@@ -448,12 +448,12 @@ pub fn spelled_at(s: &[u8], at: usize) -> Spelled
         return Spelled { end: at, value: 0 };
     }
     let a = s[at];
-    if !digits::is_digit_lem(a) {
+    if !digits::is_digit(a) {
         return Spelled { end: at, value: 0 };
     }
     let one = digits::wide(a - 48);
     let b = s[second];
-    if !digits::is_digit_lem(b) {
+    if !digits::is_digit(b) {
         return Spelled {
             end: second,
             value: one,
@@ -461,7 +461,7 @@ pub fn spelled_at(s: &[u8], at: usize) -> Spelled
     }
     let two = 10 * one + digits::wide(b - 48);
     let c = s[third];
-    if !digits::is_digit_lem(c) {
+    if !digits::is_digit(c) {
         return Spelled {
             end: third,
             value: two,

@@ -129,7 +129,7 @@ fn next_piece(s: &[u8], at: usize) -> Next
 }
 
 // Whether a row of the same piece begins at a position.
-fn goes_on_lem(s: &[u8], at: usize) -> bool
+fn goes_on(s: &[u8], at: usize) -> bool
     requires { at ≤ length s.now }
     ensures { result ≡ goes_on (rows (drop at s.now)) }
 {
@@ -167,7 +167,7 @@ fn last_mark(s: &[u8], at: usize, e: usize) -> Lines
     match pieces::read_mark(&s[at..t]) {
         pieces::Numbers::Unread => Lines::Wrong,
         pieces::Numbers::Read(n, k) => {
-            if goes_on_lem(s, e) {
+            if goes_on(s, e) {
                 return Lines::Wrong;
             }
             Lines::Marked(at, e, n, k)

@@ -100,7 +100,7 @@ fn in_rest(p: u32) -> bool
 }
 
 // Whether a record of this number stands in a group.
-pub fn in_group_lem(p: u32) -> bool
+pub fn in_group(p: u32) -> bool
     ensures { result ≡ in_group p }
 {
     in_front(p) | (p == 55) | in_rp(p) | in_rest(p)
@@ -341,7 +341,7 @@ impl State {
             return kept_rp(in_drugs(p), same);
         }
         if !self.provider
-            | in_group_lem(p) & (self.had.schedule == 4) & !((r.form == 9) | (r.form == 10))
+            | in_group(p) & (self.had.schedule == 4) & !((r.form == 9) | (r.form == 10))
         {
             return 12;
         }
@@ -472,7 +472,7 @@ impl State {
                 | self.provider & (p == 51)
                 | self.provider & (self.groups == 0)
                 | self.provider & in_rp(p) & !self.had.had301
-                | self.provider & in_group_lem(p) & self.lacking(),
+                | self.provider & in_group(p) & self.lacking(),
             14,
             0,
         )
@@ -482,7 +482,7 @@ impl State {
     pub fn group(self) -> u32
         ensures { result ≡ group_of self }
     {
-        pick(in_group_lem(self.place), self.groups, 0)
+        pick(in_group(self.place), self.groups, 0)
     }
 
     // The line of the drug that the last record, a 281 or 291, belongs to, else 0: the index's sixth number.

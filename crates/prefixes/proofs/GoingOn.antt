@@ -20,7 +20,7 @@ use Rattle.rules.specs.Questions.{Before, Asked}
 use Rattle.rules.specs.Rules.{closes_rp, lacking, missing, value_wrong, continues}
 use Rattle.order.specs.State.{nothing_yet, start, advance, refusal_of, step_of}
 use Rattle.order.specs.Run.{refused_at, stepped, run_of, after}
-use Rattle.order.proofs.Laws.{taken as takenLaw}
+use Rattle.order.proofs.Laws.{taken as taken_law}
 use Rattle.grammar.specs.Grammar.{Details, rec, ◌⇒◌}
 use Rattle.prefixes.specs.Prefixes.{late}
 use Rattle.verdict.proofs.Computed.{Fn, taut, In, every, every_at, at_each, agree, member_in, among}
@@ -294,7 +294,7 @@ before_refusal (x ∷ rs) s r rest n line q e = by (step_of s x) refl e (before_
         → AllTaken s (x ∷ rs)
     by (Fault k) w e ih = absurd (omega (arith, never e))
     by (On t p d) w e ih =
-        let k = takenLaw s x t p d w in
+        let k = taken_law s x t p d w in
         (k.good, ih (omega (arith, line_next s x)) (subst (λ (u : State). run_of u (rs ++ r ∷ rest) ≡ refused_at n line) k.state e))
 
 -- what follows them decides

@@ -9,7 +9,7 @@ use lib.Dec.{leb}
 use lib.ListN.{length, length-append}
 use borrow.Author.Tests.{le-leb}
 use Rattle.lists.specs.Lists.{bytes, empty, all, All}
-use Rattle.digits.specs.Digits.{is_digit, value as digitsValue, number, spell, digit_count}
+use Rattle.digits.specs.Digits.{is_digit, value as digits_value, number, spell, digit_count}
 use Rattle.digits.proofs.Numbers.{number_spell, digits_spell, length_spell, some_digit}
 use Rattle.characters.specs.Cells.{full_row, part_row, allowed, cell_script, trail_script, pair_script}
 use Rattle.characters.specs.Text.{all_chars}
@@ -48,7 +48,7 @@ one = number_spell 1 (omega arith)
 
 -- records without an RP value
 fixed : (o : Bool) → Line o (rec 1 plain) × Line o (rec 5 dated) × Line o (rec 11 medical) × Line o (rec 411 plain)
-unfolding bytes digitsValue spell leap month_length is_real is_day gregorian era_of era_on in_era from_era read_day table edge one_width one_script prefecture is_decimal sized fault value_of item_fault item_value items_fault items_value row_in table_row code_pair form_pair pairs t911 record_from fault_from line_fault record_of read_line facts_of
+unfolding bytes digits_value spell leap month_length is_real is_day gregorian era_of era_on in_era from_era read_day table edge one_width one_script prefecture is_decimal sized fault value_of item_fault item_value items_fault items_value row_in table_row code_pair form_pair pairs t911 record_from fault_from line_fault record_of read_line facts_of
 fixed o = (
   record { line = bytes "1,A,1,19890108,,,,,,,"; rec' = _; read = refl; facts = refl; short = omega arith },
   record { line = bytes "5,19890108,1"; rec' = _; read = refl; facts = refl; short = omega arith },

@@ -38,10 +38,10 @@ unfolding decimal
 bounded k zero p h = absurd (omega arith)
 bounded k (suc n) p h = enough k (suc n) (suc n) h (omega arith)
 
-pub decimal_digits : DecimalDigits
+pub decimal_digits_lem : DecimalDigits
 unfolding decimal digit_list
-decimal_digits zero = refl
-decimal_digits (suc n) = go (leb (suc n) 9) refl
+decimal_digits_lem zero = refl
+decimal_digits_lem (suc n) = go (leb (suc n) 9) refl
   where
     last : List ℕ
     last = (48 + suc n % 10) ∷ []
@@ -57,10 +57,10 @@ decimal_digits (suc n) = go (leb (suc n) 9) refl
         ap (λ (s : List ℕ). s ++ last) (bounded n (suc n / 10) (omega arith) (omega arith))
 
 pub decimal_one : (n : ℕ) → n ≤ 9 → decimal n ≡ (48 + n) ∷ []
-decimal_one n h = decimal_digits n ∙ rw (le-leb n 9 h)
+decimal_one n h = decimal_digits_lem n ∙ rw (le-leb n 9 h)
 
 pub decimal_more : (n : ℕ) → 9 < n → decimal n ≡ decimal (n / 10) ++ ((48 + n % 10) ∷ [])
-decimal_more n h = decimal_digits n ∙ rw (lt-leb n 9 h)
+decimal_more n h = decimal_digits_lem n ∙ rw (lt-leb n 9 h)
 
 -- a number below a power of ten has no more digits than that
 pub decimal_short : (k n : ℕ) → n < 10 ^ suc k → length (decimal n) ≤ suc k

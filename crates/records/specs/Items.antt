@@ -4,7 +4,7 @@
 use Rattle.std.specs.Prelude.{ℕ, ◌-◌, Bool, true, false, cond, not, ◌&&◌, ◌||◌, List, [], ◌∷◌, ◌++◌, leb, eqb, length, get_or, take, drop}
 use Rattle.std.proofs.Math.Option.{Option, none, some}
 use Rattle.lists.specs.Lists.{within, all, same, last, up_to, ◌or_else◌, unless}
-use Rattle.digits.specs.Digits.{is_digit, value as digitsValue, number, spell}
+use Rattle.digits.specs.Digits.{is_digit, value as digits_value, number, spell}
 use Rattle.calendar.specs.declared.DateRead.{DateRead}
 use Rattle.calendar.specs.declared.DateRead.TheVariants.{Date, NotADate}
 use Rattle.calendar.specs.Era.{read_day}
@@ -76,7 +76,7 @@ postal s = seven s || (eqb (get_or s 3 0) 0x2d && seven (unhyphened s))
 
 -- F: "01–47". 15-106 appended table 2 lists these codes; 3.2.9, records 11 and 51: type X, two bytes
 unfoldable pub prefecture : List ℕ → Bool
-prefecture s = eqb (length s) 2 && (all is_digit s && within 1 47 (digitsValue 0 s))
+prefecture s = eqb (length s) 2 && (all is_digit s && within 1 47 (digits_value 0 s))
 
 abbrev pub is_period : ℕ → Bool
 is_period b = eqb b 0x2e

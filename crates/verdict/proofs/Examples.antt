@@ -8,7 +8,7 @@ use Rattle.order.specs.declared.Facts.{Facts}
 use Rattle.rules.specs.Places.{in_group, may_follow}
 use Rattle.rules.specs.Rules.{pair_broken, misplaced, continues, closes_rp, lacking, missing, value_wrong, newer_group, order_refusal, unfinished}
 use Rattle.order.specs.State.{nothing_yet, start, had_after, advance, refusal_of, finish_of, step_of}
-use Rattle.digits.specs.Digits.{value as digitsValue, spell}
+use Rattle.digits.specs.Digits.{value as digits_value, spell}
 use Rattle.characters.specs.Rows.{is_line}
 use Rattle.eras.specs.Day.{leap, month_length, is_real, is_day}
 use Rattle.calendar.specs.Day.{gregorian}
@@ -44,5 +44,5 @@ wrong_hold = none_has wrong refl
 
 -- document 01's file of 37 bytes is a file in the sense of specs/Acceptance.antt
 pub small_file_lem : Carries small_file 1 0 0
-unfolding bytes spell is_line digitsValue leap month_length is_real is_day gregorian era_of era_on in_era from_era read_day table edge one_width is_decimal sized fault value_of item_fault item_value items_fault items_value row_in table_row pairs t911 record_from fault_from line_fault record_of header in_group may_follow pair_broken misplaced closes_rp lacking missing value_wrong newer_group order_refusal unfinished nothing_yet start had_after advance refusal_of step_of finish_of facts_of step_line closed onward records_from read_rows read_file count check_result
+unfolding bytes spell is_line digits_value leap month_length is_real is_day gregorian era_of era_on in_era from_era read_day table edge one_width is_decimal sized fault value_of item_fault item_value items_fault items_value row_in table_row pairs t911 record_from fault_from line_fault record_of header in_group may_follow pair_broken misplaced closes_rp lacking missing value_wrong newer_group order_refusal unfinished nothing_yet start had_after advance refusal_of step_of finish_of facts_of step_line closed onward records_from read_rows read_file count check_result
 small_file_lem = (check_is_grammar small_file 1 0 0).0 refl

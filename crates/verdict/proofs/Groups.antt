@@ -11,7 +11,7 @@ use borrow.Author.Tests.{le-leb, lt-leb, leb-true, leb-false}
 use Rattle.lists.proofs.Tests.{member_left, both}
 use Rattle.order.specs.declared.Facts.{Facts}
 use Rattle.rules.specs.Places.{in_rp, in_group, may_follow}
-use Rattle.order.specs.State.{nothing_yet as noHad, start}
+use Rattle.order.specs.State.{nothing_yet as no_had, start}
 use Rattle.rules.specs.Rules.{pair_broken, misplaced, continues, closes_rp, lacking, missing, value_wrong, newer_group, order_refusal, unfinished}
 use Rattle.grammar.specs.Grammar.{Details, Prescriptions, without_doctors, with_doctors, Group, Tree, rec, opt, any_of, plain_records, later_records}
 use Rattle.grammar.specs.Grammar.{prescriptions_records, rest_records, groups_records, records, all_of, none_of, stands, ◌⇒◌, later_ones, rps, no55}
@@ -296,7 +296,7 @@ first_words o (g ∷ gs) =
 
 -- a tree whose RP values are right is run through exactly if it is good
 pub tree_run : (o : Bool) (t : Tree) → all_of values t.groups ≡ true → runs (core_of (start o)) (records t) ≡ good o t
-unfolding start noHad
+unfolding start no_had
 tree_run true t w =
     tree_read true t w
     ∙ ap (λ x. not (none_of t.groups) && x) (first_words true t.groups)

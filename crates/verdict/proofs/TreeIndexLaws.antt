@@ -15,7 +15,7 @@ use Rattle.order.specs.declared.State.{State}
 use Rattle.order.specs.declared.Facts.{Facts}
 use Rattle.lists.specs.Lists.{member}
 use Rattle.rules.specs.Places.{in_front, in_rp, in_rest, in_group}
-use Rattle.order.specs.State.{nothing_yet as noHad, start, had_after, advance, doctor_of, group_of, drug_of}
+use Rattle.order.specs.State.{nothing_yet as no_had, start, had_after, advance, doctor_of, group_of, drug_of}
 use Rattle.order.proofs.Laws.{taken, next_line, line_start}
 use Rattle.notebook.specs.Facts.{facts_of}
 use Rattle.notebook.specs.Index.{Entry, entry_of, entries_of, clinic_after, clinic_of, listed_from, list_of}
@@ -182,7 +182,7 @@ tree_rows_lem t =
     t.r4s) t.r3s) t.r2s) t.r1 1
 
 start_rows : (provider : Bool) (rs : List Facts) → hand_from (start provider) 0 rs ≡ hand 1 outside 0 0 rs
-unfolding start noHad
+unfolding start no_had
 start_rows provider rs = refl
 
 -- ---- the claims

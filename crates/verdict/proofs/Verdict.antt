@@ -21,7 +21,7 @@ use Rattle.order.specs.declared.Facts.{Facts}
 use Rattle.order.specs.declared.Moved.{Moved}
 use Rattle.order.specs.declared.Moved.TheVariants.{Fault, On}
 use Rattle.order.specs.State.{start, advance, refusal_of, step_of, finish_of, rp_of, doctor_of}
-use Rattle.order.specs.Run.{refused_at, ran_to, at_end, stepped as orderOnward, run_of, after}
+use Rattle.order.specs.Run.{refused_at, ran_to, at_end, stepped as order_onward, run_of, after}
 use Rattle.order.proofs.Laws.{taken, takes, provider_kept, provider_start}
 use Rattle.order.proofs.Run.{run_on, ran_after}
 use Rattle.notebook.specs.Facts.{facts_of}
@@ -66,11 +66,11 @@ never : {n l : ℕ} {t : State} → refused_at n l ≡ ran_to t → ⊥
 never e = let z : ◌≡◌ {A = ℕ} 0 1 = cc in omega arith
 
 through_ran : (rs : List Facts) (s t : State) → run_of s rs ≡ ran_to t → accepts s rs ≡ true
-unfolding run_of after orderOnward
+unfolding run_of after order_onward
 through_ran [] s t e = let g = ran_after [] s t e in end_accepts s (subst (λ u. finish_of u ≡ 0) g.0 g.1)
 through_ran (r ∷ rs) s t e = by (step_of s r) refl e (through_ran rs (advance s r) t)
   where
-    by : (m : Moved) → step_of s r ≡ m → orderOnward s.line (λ u. run_of u rs) m ≡ ran_to t
+    by : (m : Moved) → step_of s r ≡ m → order_onward s.line (λ u. run_of u rs) m ≡ ran_to t
         → (run_of (advance s r) rs ≡ ran_to t → accepts (advance s r) rs ≡ true) → accepts s (r ∷ rs) ≡ true
     by (Fault n) q f i = absurd (never f)
     by (On u p d) q f i = let k = taken s r u p d q in on_accepts s r rs k.good (i (subst (λ v. run_of v rs ≡ ran_to t) k.state f))

@@ -5,7 +5,7 @@ use Rattle.answers.proofs.print.Statement.{statement}
 use Rattle.answers.proofs.print.Tie as tie
 use Rattle.answers.proofs.print.Reads as reads
 use Rattle.answers.proofs.print.Lts as lts
-use Rattle.answers.proofs.put_line.Reads as put-line-reads
+use Rattle.answers.proofs.put_line.Reads as put_line_reads
 
 put-line-requires : tie.Need-put-line-requires
 put-line-requires c κs = search rules

@@ -6,8 +6,8 @@ use Rattle.answers.proofs.put_decimal.Statement.{statement}
 use Rattle.answers.proofs.put_decimal.Tie as tie
 use Rattle.answers.proofs.put_decimal.Reads as reads
 use Rattle.answers.proofs.put_decimal.Lts as lts
-use Rattle.buffers.proofs.put_all.Reads as put-all-reads
-use Rattle.io.proofs.decimal.Reads as decimal-reads
+use Rattle.buffers.proofs.put_all.Reads as put_all_reads
+use Rattle.io.proofs.decimal.Reads as decimal_reads
 
 decimal-requires : tie.Need-decimal-requires
 decimal-requires c κs = search rules

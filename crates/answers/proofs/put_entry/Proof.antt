@@ -4,9 +4,9 @@ use Rattle.answers.proofs.put_entry.Statement.{statement}
 use Rattle.answers.proofs.put_entry.Tie as tie
 use Rattle.answers.proofs.put_entry.Reads as reads
 use Rattle.answers.proofs.put_entry.Lts as lts
-use Rattle.answers.proofs.put_decimal.Reads as put-decimal-reads
-use Rattle.answers.proofs.put_numbers.Reads as put-numbers-reads
-use Rattle.buffers.proofs.put_byte.Reads as put-byte-reads
+use Rattle.answers.proofs.put_decimal.Reads as put_decimal_reads
+use Rattle.answers.proofs.put_numbers.Reads as put_numbers_reads
+use Rattle.buffers.proofs.put_byte.Reads as put_byte_reads
 
 put-decimal-requires : tie.Need-put-decimal-requires
 put-decimal-requires c κs = search rules

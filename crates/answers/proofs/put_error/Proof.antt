@@ -8,9 +8,9 @@ use Rattle.answers.proofs.put_error.Statement.{statement}
 use Rattle.answers.proofs.put_error.Tie as tie
 use Rattle.answers.proofs.put_error.Reads as reads
 use Rattle.answers.proofs.put_error.Lts as lts
-use Rattle.answers.proofs.put_numbers.Reads as put-numbers-reads
-use Rattle.buffers.proofs.put_all.Reads as put-all-reads
-use Rattle.buffers.proofs.put_byte.Reads as put-byte-reads
+use Rattle.answers.proofs.put_numbers.Reads as put_numbers_reads
+use Rattle.buffers.proofs.put_all.Reads as put_all_reads
+use Rattle.buffers.proofs.put_byte.Reads as put_byte_reads
 
 slice-aggregate-put-all : tie.Need-slice-aggregate-put-all
 slice-aggregate-put-all c = search rules

@@ -6,9 +6,9 @@ use Rattle.answers.proofs.put_line.Statement.{statement}
 use Rattle.answers.proofs.put_line.Tie as tie
 use Rattle.answers.proofs.put_line.Reads as reads
 use Rattle.answers.proofs.put_line.Lts as lts
-use Rattle.answers.proofs.put_numbers.Reads as put-numbers-reads
-use Rattle.buffers.proofs.put_all.Reads as put-all-reads
-use Rattle.buffers.proofs.put_byte.Reads as put-byte-reads
+use Rattle.answers.proofs.put_numbers.Reads as put_numbers_reads
+use Rattle.buffers.proofs.put_all.Reads as put_all_reads
+use Rattle.buffers.proofs.put_byte.Reads as put_byte_reads
 
 put-all-requires : tie.Need-put-all-requires
 put-all-requires c κs = search rules

@@ -4,8 +4,8 @@ use Rattle.answers.proofs.put_number.Statement.{statement}
 use Rattle.answers.proofs.put_number.Tie as tie
 use Rattle.answers.proofs.put_number.Reads as reads
 use Rattle.answers.proofs.put_number.Lts as lts
-use Rattle.answers.proofs.put_decimal.Reads as put-decimal-reads
-use Rattle.buffers.proofs.put_byte.Reads as put-byte-reads
+use Rattle.answers.proofs.put_decimal.Reads as put_decimal_reads
+use Rattle.buffers.proofs.put_byte.Reads as put_byte_reads
 
 put-byte-requires : tie.Need-put-byte-requires
 put-byte-requires c κs = search rules

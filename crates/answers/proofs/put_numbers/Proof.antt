@@ -5,7 +5,7 @@ use Rattle.answers.proofs.put_numbers.Statement.{statement}
 use Rattle.answers.proofs.put_numbers.Tie as tie
 use Rattle.answers.proofs.put_numbers.Reads as reads
 use Rattle.answers.proofs.put_numbers.Lts as lts
-use Rattle.answers.proofs.put_number.Reads as put-number-reads
+use Rattle.answers.proofs.put_number.Reads as put_number_reads
 
 returns : tie.Need-returns
 returns c =

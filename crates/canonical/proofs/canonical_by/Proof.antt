@@ -4,8 +4,8 @@ use Rattle.canonical.proofs.canonical_by.Statement.{statement}
 use Rattle.canonical.proofs.canonical_by.Tie as tie
 use Rattle.canonical.proofs.canonical_by.Reads as reads
 use Rattle.canonical.proofs.canonical_by.Lts as lts
-use Rattle.buffers.proofs.put_all.Reads as put-all-reads
-use Rattle.canonical.proofs.canonical_into.Reads as canonical-into-reads
+use Rattle.buffers.proofs.put_all.Reads as put_all_reads
+use Rattle.canonical.proofs.canonical_into.Reads as canonical_into_reads
 
 canonical-into-requires : tie.Need-canonical-into-requires
 canonical-into-requires c κs = search rules

@@ -5,9 +5,9 @@ use Rattle.canonical.proofs.canonical_into.Statement.{statement}
 use Rattle.canonical.proofs.canonical_into.Tie as tie
 use Rattle.canonical.proofs.canonical_into.Reads as reads
 use Rattle.canonical.proofs.canonical_into.Lts as lts
-use Rattle.canonical.proofs.write_records.Reads as write-records-reads
-use Rattle.checking.proofs.open_file.Reads as open-file-reads
-use Rattle.codes.proofs.item_codes.Reads as item-codes-reads
+use Rattle.canonical.proofs.write_records.Reads as write_records_reads
+use Rattle.checking.proofs.open_file.Reads as open_file_reads
+use Rattle.codes.proofs.item_codes.Reads as item_codes_reads
 
 open-file-requires : tie.Need-open-file-requires
 open-file-requires c κs = search rules

@@ -4,7 +4,7 @@ use Rattle.canonical.proofs.close.Statement.{statement}
 use Rattle.canonical.proofs.close.Tie as tie
 use Rattle.canonical.proofs.close.Reads as reads
 use Rattle.canonical.proofs.close.Lts as lts
-use Rattle.order.proofs.State.finish.Reads as finish-reads
+use Rattle.order.proofs.State.finish.Reads as finish_reads
 
 finish-requires : tie.Need-finish-requires
 finish-requires c κs = search rules

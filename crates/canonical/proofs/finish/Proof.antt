@@ -4,8 +4,8 @@ use Rattle.canonical.proofs.finish.Statement.{statement}
 use Rattle.canonical.proofs.finish.Tie as tie
 use Rattle.canonical.proofs.finish.Reads as reads
 use Rattle.canonical.proofs.finish.Lts as lts
-use Rattle.buffers.proofs.put_all.Reads as put-all-reads
-use Rattle.canonical.proofs.close.Reads as close-reads
+use Rattle.buffers.proofs.put_all.Reads as put_all_reads
+use Rattle.canonical.proofs.close.Reads as close_reads
 
 sub-put-all : tie.Need-overflow-sub-put-all
 sub-put-all c = search (rules, finish_laws)

@@ -4,9 +4,9 @@ use Rattle.canonical.proofs.pass_item.Statement.{statement}
 use Rattle.canonical.proofs.pass_item.Tie as tie
 use Rattle.canonical.proofs.pass_item.Reads as reads
 use Rattle.canonical.proofs.pass_item.Lts as lts
-use Rattle.canonical.proofs.respell.Reads as respell-reads
-use Rattle.canonical.proofs.stays.Reads as stays-reads
-use Rattle.lines.proofs.item_in.Reads as item-in-reads
+use Rattle.canonical.proofs.respell.Reads as respell_reads
+use Rattle.canonical.proofs.stays.Reads as stays_reads
+use Rattle.lines.proofs.item_in.Reads as item_in_reads
 
 item-in-requires : tie.Need-item-in-requires
 item-in-requires c κs = search rules

@@ -4,9 +4,9 @@ use Rattle.canonical.proofs.put_date.Statement.{statement}
 use Rattle.canonical.proofs.put_date.Tie as tie
 use Rattle.canonical.proofs.put_date.Reads as reads
 use Rattle.canonical.proofs.put_date.Lts as lts
-use Rattle.buffers.proofs.put_all.Reads as put-all-reads
-use Rattle.calendar.proofs.Day.era_form.Reads as era-form-reads
-use Rattle.calendar.proofs.Day.read.Reads as read-reads
+use Rattle.buffers.proofs.put_all.Reads as put_all_reads
+use Rattle.calendar.proofs.Day.era_form.Reads as era_form_reads
+use Rattle.calendar.proofs.Day.read.Reads as read_reads
 
 read-requires : tie.Need-read-requires
 read-requires c κs = search rules

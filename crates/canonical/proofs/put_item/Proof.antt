@@ -4,10 +4,10 @@ use Rattle.canonical.proofs.put_item.Statement.{statement}
 use Rattle.canonical.proofs.put_item.Tie as tie
 use Rattle.canonical.proofs.put_item.Reads as reads
 use Rattle.canonical.proofs.put_item.Lts as lts
-use Rattle.buffers.proofs.put_all.Reads as put-all-reads
-use Rattle.canonical.proofs.put_date.Reads as put-date-reads
-use Rattle.canonical.proofs.put_postal.Reads as put-postal-reads
-use Rattle.canonical.proofs.put_value.Reads as put-value-reads
+use Rattle.buffers.proofs.put_all.Reads as put_all_reads
+use Rattle.canonical.proofs.put_date.Reads as put_date_reads
+use Rattle.canonical.proofs.put_postal.Reads as put_postal_reads
+use Rattle.canonical.proofs.put_value.Reads as put_value_reads
 
 put-postal-requires : tie.Need-put-postal-requires
 put-postal-requires c κs = search (rules, item_laws)

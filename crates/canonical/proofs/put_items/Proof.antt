@@ -5,8 +5,8 @@ use Rattle.canonical.proofs.put_items.Statement.{statement}
 use Rattle.canonical.proofs.put_items.Tie as tie
 use Rattle.canonical.proofs.put_items.Reads as reads
 use Rattle.canonical.proofs.put_items.Lts as lts
-use Rattle.canonical.proofs.pass_item.Reads as pass-item-reads
-use Rattle.canonical.proofs.spots.Reads as spots-reads
+use Rattle.canonical.proofs.pass_item.Reads as pass_item_reads
+use Rattle.canonical.proofs.spots.Reads as spots_reads
 
 abbrev invariant-loop : tie.invariant-loop
 invariant-loop number stops n s at end out₀ left₀ run₀ out left run = Spotting (place_of number) n s at end run₀ out₀ out run left

@@ -4,7 +4,7 @@ use Rattle.canonical.proofs.put_postal.Statement.{statement}
 use Rattle.canonical.proofs.put_postal.Tie as tie
 use Rattle.canonical.proofs.put_postal.Reads as reads
 use Rattle.canonical.proofs.put_postal.Lts as lts
-use Rattle.buffers.proofs.put_all.Reads as put-all-reads
+use Rattle.buffers.proofs.put_all.Reads as put_all_reads
 
 sub-put-all : tie.Need-overflow-sub-put-all
 sub-put-all c = search rules

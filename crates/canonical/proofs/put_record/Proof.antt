@@ -4,7 +4,7 @@ use Rattle.canonical.proofs.put_record.Statement.{statement}
 use Rattle.canonical.proofs.put_record.Tie as tie
 use Rattle.canonical.proofs.put_record.Reads as reads
 use Rattle.canonical.proofs.put_record.Lts as lts
-use Rattle.canonical.proofs.put_items.Reads as put-items-reads
+use Rattle.canonical.proofs.put_items.Reads as put_items_reads
 
 put-items-requires : tie.Need-put-items-requires
 put-items-requires c κs = (search (rules, record-line), (search (rules, record-items), search (rules, record-ready)))

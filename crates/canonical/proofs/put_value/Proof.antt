@@ -4,8 +4,8 @@ use Rattle.canonical.proofs.put_value.Statement.{statement}
 use Rattle.canonical.proofs.put_value.Tie as tie
 use Rattle.canonical.proofs.put_value.Reads as reads
 use Rattle.canonical.proofs.put_value.Lts as lts
-use Rattle.buffers.proofs.put_number.Reads as put-number-reads
-use Rattle.digits.proofs.short_value.Reads as short-value-reads
+use Rattle.buffers.proofs.put_number.Reads as put_number_reads
+use Rattle.digits.proofs.short_value.Reads as short_value_reads
 
 short-value-requires : tie.Need-short-value-requires
 short-value-requires c κs = search rules

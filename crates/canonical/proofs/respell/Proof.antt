@@ -4,9 +4,9 @@ use Rattle.canonical.proofs.respell.Statement.{statement}
 use Rattle.canonical.proofs.respell.Tie as tie
 use Rattle.canonical.proofs.respell.Reads as reads
 use Rattle.canonical.proofs.respell.Lts as lts
-use Rattle.buffers.proofs.put_all.Reads as put-all-reads
-use Rattle.canonical.proofs.put_item.Reads as put-item-reads
-use Rattle.canonical.proofs.respelled.Reads as respelled-reads
+use Rattle.buffers.proofs.put_all.Reads as put_all_reads
+use Rattle.canonical.proofs.put_item.Reads as put_item_reads
+use Rattle.canonical.proofs.respelled.Reads as respelled_reads
 
 sub-respelled : tie.Need-overflow-sub-respelled
 sub-respelled c = search rules

@@ -4,8 +4,8 @@ use Rattle.canonical.proofs.respelled.Statement.{statement}
 use Rattle.canonical.proofs.respelled.Tie as tie
 use Rattle.canonical.proofs.respelled.Reads as reads
 use Rattle.canonical.proofs.respelled.Lts as lts
-use Rattle.calendar.proofs.Day.is_written_form.Reads as is-written-form-reads
-use Rattle.lists.proofs.byte_at.Reads as byte-at-reads
+use Rattle.calendar.proofs.Day.is_written_form.Reads as is_written_form_reads
+use Rattle.lists.proofs.byte_at.Reads as byte_at_reads
 
 byte-at-requires : tie.Need-byte-at-requires
 byte-at-requires c κs = search rules

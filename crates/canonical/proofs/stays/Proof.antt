@@ -4,7 +4,7 @@ use Rattle.canonical.proofs.stays.Statement.{statement}
 use Rattle.canonical.proofs.stays.Tie as tie
 use Rattle.canonical.proofs.stays.Reads as reads
 use Rattle.canonical.proofs.stays.Lts as lts
-use Rattle.lists.proofs.byte_at.Reads as byte-at-reads
+use Rattle.lists.proofs.byte_at.Reads as byte_at_reads
 
 byte-at-requires : tie.Need-byte-at-requires
 byte-at-requires c κs = search rules

@@ -8,10 +8,10 @@ use Rattle.canonical.proofs.write_records.Statement.{statement}
 use Rattle.canonical.proofs.write_records.Tie as tie
 use Rattle.canonical.proofs.write_records.Reads as reads
 use Rattle.canonical.proofs.write_records.Lts as lts
-use Rattle.canonical.proofs.finish.Reads as finish-reads
-use Rattle.canonical.proofs.put_record.Reads as put-record-reads
-use Rattle.checking.proofs.read_record.Reads as read-record-reads
-use Rattle.order.proofs.State.new.Reads as new-reads
+use Rattle.canonical.proofs.finish.Reads as finish_reads
+use Rattle.canonical.proofs.put_record.Reads as put_record_reads
+use Rattle.checking.proofs.read_record.Reads as read_record_reads
+use Rattle.order.proofs.State.new.Reads as new_reads
 
 abbrev invariant-loop : tie.invariant-loop
 invariant-loop codes stops₀ provider s from out₀ st₀ at₀ run₀ stops out st at run = Running provider s from out₀ st at out run × Sixteen stops

@@ -5,7 +5,7 @@ use Rattle.cases.proofs.main.Statement.{statement}
 use Rattle.cases.proofs.main.Tie as tie
 use Rattle.cases.proofs.main.Reads as reads
 use Rattle.cases.proofs.main.Lts as lts
-use Rattle.cases.proofs.next_frame.Reads as next-frame-reads
+use Rattle.cases.proofs.next_frame.Reads as next_frame_reads
 
 abbrev invariant-loop : tie.invariant-loop
 invariant-loop frames₀ frames = frames ≤ 100000

@@ -5,9 +5,9 @@ use Rattle.cases.proofs.write_bytes.Statement.{statement}
 use Rattle.cases.proofs.write_bytes.Tie as tie
 use Rattle.cases.proofs.write_bytes.Reads as reads
 use Rattle.cases.proofs.write_bytes.Lts as lts
-use Rattle.cases.proofs.add_byte.Reads as add-byte-reads
-use Rattle.cases.proofs.begin_bytes.Reads as begin-bytes-reads
-use Rattle.cases.proofs.end_buffer.Reads as end-buffer-reads
+use Rattle.cases.proofs.add_byte.Reads as add_byte_reads
+use Rattle.cases.proofs.begin_bytes.Reads as begin_bytes_reads
+use Rattle.cases.proofs.end_buffer.Reads as end_buffer_reads
 
 abbrev invariant-loop : tie.invariant-loop
 invariant-loop out sum₀ i₀ sum i = Unit {0}

@@ -5,8 +5,8 @@ use Rattle.cases.proofs.write_numbers.Statement.{statement}
 use Rattle.cases.proofs.write_numbers.Tie as tie
 use Rattle.cases.proofs.write_numbers.Reads as reads
 use Rattle.cases.proofs.write_numbers.Lts as lts
-use Rattle.cases.proofs.add_number.Reads as add-number-reads
-use Rattle.cases.proofs.end_buffer.Reads as end-buffer-reads
+use Rattle.cases.proofs.add_number.Reads as add_number_reads
+use Rattle.cases.proofs.end_buffer.Reads as end_buffer_reads
 
 abbrev invariant-loop : tie.invariant-loop
 invariant-loop out sum₀ i₀ sum i = Unit {0}

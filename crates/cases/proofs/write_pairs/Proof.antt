@@ -5,8 +5,8 @@ use Rattle.cases.proofs.write_pairs.Statement.{statement}
 use Rattle.cases.proofs.write_pairs.Tie as tie
 use Rattle.cases.proofs.write_pairs.Reads as reads
 use Rattle.cases.proofs.write_pairs.Lts as lts
-use Rattle.cases.proofs.write_pair.Reads as write-pair-reads
-use Rattle.io.proofs.write_all.Reads as write-all-reads
+use Rattle.cases.proofs.write_pair.Reads as write_pair_reads
+use Rattle.io.proofs.write_all.Reads as write_all_reads
 
 abbrev invariant-loop : tie.invariant-loop
 invariant-loop n₀ n = n ≤ 65536

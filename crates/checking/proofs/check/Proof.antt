@@ -4,9 +4,9 @@ use Rattle.checking.proofs.check.Statement.{statement}
 use Rattle.checking.proofs.check.Tie as tie
 use Rattle.checking.proofs.check.Reads as reads
 use Rattle.checking.proofs.check.Lts as lts
-use Rattle.checking.proofs.check_records.Reads as check-records-reads
-use Rattle.checking.proofs.open_file.Reads as open-file-reads
-use Rattle.codes.proofs.item_codes.Reads as item-codes-reads
+use Rattle.checking.proofs.check_records.Reads as check_records_reads
+use Rattle.checking.proofs.open_file.Reads as open_file_reads
+use Rattle.codes.proofs.item_codes.Reads as item_codes_reads
 
 open-file-requires : tie.Need-open-file-requires
 open-file-requires c κs = search rules

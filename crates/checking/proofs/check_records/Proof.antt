@@ -8,9 +8,9 @@ use Rattle.checking.proofs.check_records.Statement.{statement}
 use Rattle.checking.proofs.check_records.Tie as tie
 use Rattle.checking.proofs.check_records.Reads as reads
 use Rattle.checking.proofs.check_records.Lts as lts
-use Rattle.checking.proofs.close.Reads as close-reads
-use Rattle.checking.proofs.read_record.Reads as read-record-reads
-use Rattle.order.proofs.State.new.Reads as new-reads
+use Rattle.checking.proofs.close.Reads as close_reads
+use Rattle.checking.proofs.read_record.Reads as read_record_reads
+use Rattle.order.proofs.State.new.Reads as new_reads
 
 abbrev invariant-loop : tie.invariant-loop
 invariant-loop codes stops₀ provider s from st₀ at₀ stops st at = Reading (start provider) s from st at × Sixteen stops

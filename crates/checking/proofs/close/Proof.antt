@@ -4,7 +4,7 @@ use Rattle.checking.proofs.close.Statement.{statement}
 use Rattle.checking.proofs.close.Tie as tie
 use Rattle.checking.proofs.close.Reads as reads
 use Rattle.checking.proofs.close.Lts as lts
-use Rattle.order.proofs.State.finish.Reads as finish-reads
+use Rattle.order.proofs.State.finish.Reads as finish_reads
 
 finish-requires : tie.Need-finish-requires
 finish-requires c κs = search rules

@@ -4,8 +4,8 @@ use Rattle.checking.proofs.open_file.Statement.{statement}
 use Rattle.checking.proofs.open_file.Tie as tie
 use Rattle.checking.proofs.open_file.Reads as reads
 use Rattle.checking.proofs.open_file.Lts as lts
-use Rattle.heading.proofs.read_heading.Reads as read-heading-reads
-use Rattle.scanning.proofs.line_at.Reads as line-at-reads
+use Rattle.heading.proofs.read_heading.Reads as read_heading_reads
+use Rattle.scanning.proofs.line_at.Reads as line_at_reads
 
 returns : tie.Need-returns
 returns c = search (rules, open_laws)

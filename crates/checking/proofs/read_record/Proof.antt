@@ -4,8 +4,8 @@ use Rattle.checking.proofs.read_record.Statement.{statement}
 use Rattle.checking.proofs.read_record.Tie as tie
 use Rattle.checking.proofs.read_record.Reads as reads
 use Rattle.checking.proofs.read_record.Lts as lts
-use Rattle.lines.proofs.read_line.Reads as read-line-reads
-use Rattle.order.proofs.State.step.Reads as step-reads
+use Rattle.lines.proofs.read_line.Reads as read_line_reads
+use Rattle.order.proofs.State.step.Reads as step_reads
 
 read-line-requires : tie.Need-read-line-requires
 read-line-requires c κs = search rules

@@ -4,10 +4,10 @@ use Rattle.cut.proofs.cut_by.Statement.{statement}
 use Rattle.cut.proofs.cut_by.Tie as tie
 use Rattle.cut.proofs.cut_by.Reads as reads
 use Rattle.cut.proofs.cut_by.Lts as lts
-use Rattle.canonical.proofs.canonical_into.Reads as canonical-into-reads
-use Rattle.cut.proofs.cut_bytes.Reads as cut-bytes-reads
-use Rattle.pieces.proofs.valid_id.Reads as valid-id-reads
-use Rattle.used.proofs.is_unused.Reads as is-unused-reads
+use Rattle.canonical.proofs.canonical_into.Reads as canonical_into_reads
+use Rattle.cut.proofs.cut_bytes.Reads as cut_bytes_reads
+use Rattle.pieces.proofs.valid_id.Reads as valid_id_reads
+use Rattle.used.proofs.is_unused.Reads as is_unused_reads
 
 canonical-into-requires : tie.Need-canonical-into-requires
 canonical-into-requires c κs = search rules

@@ -4,9 +4,9 @@ use Rattle.cut.proofs.cut_bytes.Statement.{statement}
 use Rattle.cut.proofs.cut_bytes.Tie as tie
 use Rattle.cut.proofs.cut_bytes.Reads as reads
 use Rattle.cut.proofs.cut_bytes.Lts as lts
-use Rattle.buffers.proofs.put_all.Reads as put-all-reads
-use Rattle.cut.proofs.first_width.Reads as first-width-reads
-use Rattle.cut.proofs.pour_pieces.Reads as pour-pieces-reads
+use Rattle.buffers.proofs.put_all.Reads as put_all_reads
+use Rattle.cut.proofs.first_width.Reads as first_width_reads
+use Rattle.cut.proofs.pour_pieces.Reads as pour_pieces_reads
 
 returns : tie.Need-returns
 returns c = search (rules, answer_laws)

@@ -6,10 +6,10 @@ use Rattle.cut.proofs.first_width.Statement.{statement}
 use Rattle.cut.proofs.first_width.Tie as tie
 use Rattle.cut.proofs.first_width.Reads as reads
 use Rattle.cut.proofs.first_width.Lts as lts
-use Rattle.cut.proofs.digits_of.Reads as digits-of-reads
-use Rattle.cut.proofs.overhead.Reads as overhead-reads
-use Rattle.cut.proofs.run_end.Reads as run-end-reads
-use Rattle.cut.proofs.serves_width.Reads as serves-width-reads
+use Rattle.cut.proofs.digits_of.Reads as digits_of_reads
+use Rattle.cut.proofs.overhead.Reads as overhead_reads
+use Rattle.cut.proofs.run_end.Reads as run_end_reads
+use Rattle.cut.proofs.serves_width.Reads as serves_width_reads
 
 abbrev invariant-loop : tie.invariant-loop
 invariant-loop s c w₀ t₀ k₀ u₀ i₀ w t k u i = Packing s c w₀ w t k u i

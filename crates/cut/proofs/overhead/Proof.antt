@@ -6,7 +6,7 @@ use Rattle.cut.proofs.overhead.Statement.{statement}
 use Rattle.cut.proofs.overhead.Tie as tie
 use Rattle.cut.proofs.overhead.Reads as reads
 use Rattle.cut.proofs.overhead.Lts as lts
-use Rattle.cut.proofs.digits_of.Reads as digits-of-reads
+use Rattle.cut.proofs.digits_of.Reads as digits_of_reads
 
 add-result : tie.Need-overflow-add-result
 add-result c = search rules

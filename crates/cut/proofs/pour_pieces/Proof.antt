@@ -6,9 +6,9 @@ use Rattle.cut.proofs.pour_pieces.Statement.{statement}
 use Rattle.cut.proofs.pour_pieces.Tie as tie
 use Rattle.cut.proofs.pour_pieces.Reads as reads
 use Rattle.cut.proofs.pour_pieces.Lts as lts
-use Rattle.cut.proofs.overhead.Reads as overhead-reads
-use Rattle.cut.proofs.put_piece.Reads as put-piece-reads
-use Rattle.cut.proofs.run_end.Reads as run-end-reads
+use Rattle.cut.proofs.overhead.Reads as overhead_reads
+use Rattle.cut.proofs.put_piece.Reads as put_piece_reads
+use Rattle.cut.proofs.run_end.Reads as run_end_reads
 
 abbrev invariant-loop : tie.invariant-loop
 invariant-loop out₀ s c w n id o₀ k₀ i₀ out o k i = Pouring out₀ out s c w n id o k i

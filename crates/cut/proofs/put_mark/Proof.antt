@@ -4,9 +4,9 @@ use Rattle.cut.proofs.put_mark.Statement.{statement}
 use Rattle.cut.proofs.put_mark.Tie as tie
 use Rattle.cut.proofs.put_mark.Reads as reads
 use Rattle.cut.proofs.put_mark.Lts as lts
-use Rattle.buffers.proofs.put_all.Reads as put-all-reads
-use Rattle.buffers.proofs.put_byte.Reads as put-byte-reads
-use Rattle.buffers.proofs.put_number.Reads as put-number-reads
+use Rattle.buffers.proofs.put_all.Reads as put_all_reads
+use Rattle.buffers.proofs.put_byte.Reads as put_byte_reads
+use Rattle.buffers.proofs.put_number.Reads as put_number_reads
 
 slice-aggregate-put-all : tie.Need-slice-aggregate-put-all
 slice-aggregate-put-all c = search rules

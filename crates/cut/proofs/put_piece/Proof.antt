@@ -4,8 +4,8 @@ use Rattle.cut.proofs.put_piece.Statement.{statement}
 use Rattle.cut.proofs.put_piece.Tie as tie
 use Rattle.cut.proofs.put_piece.Reads as reads
 use Rattle.cut.proofs.put_piece.Lts as lts
-use Rattle.buffers.proofs.put_all.Reads as put-all-reads
-use Rattle.cut.proofs.put_mark.Reads as put-mark-reads
+use Rattle.buffers.proofs.put_all.Reads as put_all_reads
+use Rattle.cut.proofs.put_mark.Reads as put_mark_reads
 
 sub-put-all : tie.Need-overflow-sub-put-all
 sub-put-all c = search rules

@@ -4,7 +4,7 @@ use Rattle.cut.proofs.serves_width.Statement.{statement}
 use Rattle.cut.proofs.serves_width.Tie as tie
 use Rattle.cut.proofs.serves_width.Reads as reads
 use Rattle.cut.proofs.serves_width.Lts as lts
-use Rattle.cut.proofs.digits_of.Reads as digits-of-reads
+use Rattle.cut.proofs.digits_of.Reads as digits_of_reads
 
 digits-of-requires : tie.Need-digits-of-requires
 digits-of-requires c κs = search rules

@@ -7,7 +7,7 @@ use Rattle.digits.proofs.all_digits.Statement.{statement}
 use Rattle.digits.proofs.all_digits.Tie as tie
 use Rattle.digits.proofs.all_digits.Reads as reads
 use Rattle.digits.proofs.all_digits.Lts as lts
-use Rattle.digits.proofs.is_digit_lem.Reads as is-digit-reads
+use Rattle.digits.proofs.is_digit.Reads as is_digit_reads
 
 abbrev invariant-loop : tie.invariant-loop
 invariant-loop s i₀ i = AllLeft is_digit s i

@@ -4,8 +4,8 @@ use Rattle.digits.proofs.plain_number.Statement.{statement}
 use Rattle.digits.proofs.plain_number.Tie as tie
 use Rattle.digits.proofs.plain_number.Reads as reads
 use Rattle.digits.proofs.plain_number.Lts as lts
-use Rattle.digits.proofs.short_value.Reads as short-value-reads
-use Rattle.lists.proofs.byte_at.Reads as byte-at-reads
+use Rattle.digits.proofs.short_value.Reads as short_value_reads
+use Rattle.lists.proofs.byte_at.Reads as byte_at_reads
 
 byte-at-requires : tie.Need-byte-at-requires
 byte-at-requires c κs = search rules

@@ -4,7 +4,7 @@ use Rattle.digits.proofs.short_value.Statement.{statement}
 use Rattle.digits.proofs.short_value.Tie as tie
 use Rattle.digits.proofs.short_value.Reads as reads
 use Rattle.digits.proofs.short_value.Lts as lts
-use Rattle.digits.proofs.wide.Reads as wide-reads
+use Rattle.digits.proofs.wide.Reads as wide_reads
 
 returns : tie.Need-returns
 returns c = search (rules, num_laws)

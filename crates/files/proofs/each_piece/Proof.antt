@@ -6,9 +6,9 @@ use Rattle.files.proofs.each_piece.Statement.{statement}
 use Rattle.files.proofs.each_piece.Tie as tie
 use Rattle.files.proofs.each_piece.Reads as reads
 use Rattle.files.proofs.each_piece.Lts as lts
-use Rattle.files.proofs.failed.Reads as failed-reads
-use Rattle.files.proofs.pieces.piece_end.Reads as piece-end-reads
-use Rattle.files.proofs.take_step.Reads as take-step-reads
+use Rattle.files.proofs.failed.Reads as failed_reads
+use Rattle.files.proofs.pieces.piece_end.Reads as piece_end_reads
+use Rattle.files.proofs.take_step.Reads as take_step_reads
 
 abbrev invariant-loop : tie.invariant-loop
 invariant-loop step prefix pieces marks₀ letters₀ from₀ i₀ marks letters from i = (from ≤ length pieces)

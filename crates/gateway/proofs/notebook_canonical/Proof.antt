@@ -3,8 +3,8 @@ use Rattle.gateway.proofs.notebook_canonical.Statement.{statement}
 use Rattle.gateway.proofs.notebook_canonical.Tie as tie
 use Rattle.gateway.proofs.notebook_canonical.Reads as reads
 use Rattle.gateway.proofs.notebook_canonical.Lts as lts
-use Rattle.canonical.proofs.canonical_file.Reads as canonical-file-reads
-use Rattle.replies.proofs.reply_of.Reads as reply-of-reads
+use Rattle.canonical.proofs.canonical_file.Reads as canonical_file_reads
+use Rattle.replies.proofs.reply_of.Reads as reply_of_reads
 
 canonical-file-requires : tie.Need-canonical-file-requires
 canonical-file-requires c κs = search rules

@@ -3,7 +3,7 @@ use Rattle.gateway.proofs.notebook_check.Statement.{statement}
 use Rattle.gateway.proofs.notebook_check.Tie as tie
 use Rattle.gateway.proofs.notebook_check.Reads as reads
 use Rattle.gateway.proofs.notebook_check.Lts as lts
-use Rattle.replies.proofs.reply_of.Reads as reply-of-reads
+use Rattle.replies.proofs.reply_of.Reads as reply_of_reads
 use Rattle.checking.proofs.check.Reads as check_reads
 
 check-requires : tie.Need-check-requires

@@ -3,8 +3,8 @@ use Rattle.gateway.proofs.notebook_cut.Statement.{statement}
 use Rattle.gateway.proofs.notebook_cut.Tie as tie
 use Rattle.gateway.proofs.notebook_cut.Reads as reads
 use Rattle.gateway.proofs.notebook_cut.Lts as lts
-use Rattle.cut.proofs.cut.Reads as cut-reads
-use Rattle.replies.proofs.reply_of.Reads as reply-of-reads
+use Rattle.cut.proofs.cut.Reads as cut_reads
+use Rattle.replies.proofs.reply_of.Reads as reply_of_reads
 
 cut-requires : tie.Need-cut-requires
 cut-requires c κs = search rules

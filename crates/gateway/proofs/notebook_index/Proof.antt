@@ -3,8 +3,8 @@ use Rattle.gateway.proofs.notebook_index.Statement.{statement}
 use Rattle.gateway.proofs.notebook_index.Tie as tie
 use Rattle.gateway.proofs.notebook_index.Reads as reads
 use Rattle.gateway.proofs.notebook_index.Lts as lts
-use Rattle.replies.proofs.reply_of.Reads as reply-of-reads
-use Rattle.index.proofs.index.Reads as index_Reads
+use Rattle.replies.proofs.reply_of.Reads as reply_of_reads
+use Rattle.index.proofs.index.Reads as index_reads
 
 index-requires : tie.Need-index-requires
 index-requires c κs = search rules

@@ -3,8 +3,8 @@ use Rattle.gateway.proofs.notebook_join.Statement.{statement}
 use Rattle.gateway.proofs.notebook_join.Tie as tie
 use Rattle.gateway.proofs.notebook_join.Reads as reads
 use Rattle.gateway.proofs.notebook_join.Lts as lts
-use Rattle.replies.proofs.reply_of.Reads as reply-of-reads
-use Rattle.join.proofs.join.Reads as join-reads
+use Rattle.replies.proofs.reply_of.Reads as reply_of_reads
+use Rattle.join.proofs.join.Reads as join_reads
 
 join-requires : tie.Need-join-requires
 join-requires c κs = search rules

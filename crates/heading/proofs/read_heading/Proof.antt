@@ -4,8 +4,8 @@ use Rattle.heading.proofs.read_heading.Statement.{statement}
 use Rattle.heading.proofs.read_heading.Tie as tie
 use Rattle.heading.proofs.read_heading.Reads as reads
 use Rattle.heading.proofs.read_heading.Lts as lts
-use Rattle.heading.proofs.heading_row.Reads as heading-row-reads
-use Rattle.lists.proofs.same_bytes.Reads as same-bytes-reads
+use Rattle.heading.proofs.heading_row.Reads as heading_row_reads
+use Rattle.lists.proofs.same_bytes.Reads as same_bytes_reads
 
 heading-row-requires : tie.Need-heading-row-requires
 heading-row-requires c κs = search rules

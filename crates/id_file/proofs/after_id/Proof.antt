@@ -4,8 +4,8 @@ use Rattle.id_file.proofs.after_id.Statement.{statement}
 use Rattle.id_file.proofs.after_id.Tie as tie
 use Rattle.id_file.proofs.after_id.Reads as reads
 use Rattle.id_file.proofs.after_id.Lts as lts
-use Rattle.id_file.proofs.after_line_end.Reads as after-line-end-reads
-use Rattle.id_file.proofs.id_at.Reads as id-at-reads
+use Rattle.id_file.proofs.after_line_end.Reads as after_line_end_reads
+use Rattle.id_file.proofs.id_at.Reads as id_at_reads
 
 id-at-requires : tie.Need-id-at-requires
 id-at-requires c κs = search rules

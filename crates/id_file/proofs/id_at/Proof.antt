@@ -4,7 +4,7 @@ use Rattle.id_file.proofs.id_at.Statement.{statement}
 use Rattle.id_file.proofs.id_at.Tie as tie
 use Rattle.id_file.proofs.id_at.Reads as reads
 use Rattle.id_file.proofs.id_at.Lts as lts
-use Rattle.digits.proofs.all_digits.Reads as all-digits-reads
+use Rattle.digits.proofs.all_digits.Reads as all_digits_reads
 
 sub-if1 : tie.Need-overflow-sub-if1
 sub-if1 c = search rules

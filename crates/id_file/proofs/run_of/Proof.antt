@@ -9,9 +9,9 @@ use Rattle.id_file.proofs.run_of.Statement.{statement}
 use Rattle.id_file.proofs.run_of.Tie as tie
 use Rattle.id_file.proofs.run_of.Reads as reads
 use Rattle.id_file.proofs.run_of.Lts as lts
-use Rattle.id_file.proofs.after_id.Reads as after-id-reads
-use Rattle.id_file.proofs.move_id.Reads as move-id-reads
-use Rattle.lists.proofs.find_byte.Reads as find-byte-reads
+use Rattle.id_file.proofs.after_id.Reads as after_id_reads
+use Rattle.id_file.proofs.move_id.Reads as move_id_reads
+use Rattle.lists.proofs.find_byte.Reads as find_byte_reads
 
 abbrev invariant-loop : tie.invariant-loop
 invariant-loop text₀ lined from₀ to₀ text from to = Moved text₀ text from to

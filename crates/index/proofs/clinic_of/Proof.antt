@@ -4,7 +4,7 @@ use Rattle.index.proofs.clinic_of.Statement.{statement}
 use Rattle.index.proofs.clinic_of.Tie as tie
 use Rattle.index.proofs.clinic_of.Reads as reads
 use Rattle.index.proofs.clinic_of.Lts as lts
-use Rattle.order.proofs.in_group_lem.Reads as in-group-reads
+use Rattle.order.proofs.in_group.Reads as in_group_reads
 
 in-group-requires : tie.Need-in-group-requires
 in-group-requires c κs = search rules

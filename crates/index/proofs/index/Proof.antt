@@ -5,10 +5,10 @@ use Rattle.index.proofs.index.Statement.{statement}
 use Rattle.index.proofs.index.Tie as tie
 use Rattle.index.proofs.index.Reads as reads
 use Rattle.index.proofs.index.Lts as lts
-use Rattle.checking.proofs.open_file.Reads as open-file-reads
-use Rattle.codes.proofs.item_codes.Reads as item-codes-reads
-use Rattle.index.proofs.index_on.Reads as index-on-reads
-use Rattle.order.proofs.State.new.Reads as new-reads
+use Rattle.checking.proofs.open_file.Reads as open_file_reads
+use Rattle.codes.proofs.item_codes.Reads as item_codes_reads
+use Rattle.index.proofs.index_on.Reads as index_on_reads
+use Rattle.order.proofs.State.new.Reads as new_reads
 
 open-file-requires : tie.Need-open-file-requires
 open-file-requires c κs = search rules

@@ -4,10 +4,10 @@ use Rattle.index.proofs.put_entry.Statement.{statement}
 use Rattle.index.proofs.put_entry.Tie as tie
 use Rattle.index.proofs.put_entry.Reads as reads
 use Rattle.index.proofs.put_entry.Lts as lts
-use Rattle.buffers.proofs.put_seven.Reads as put-seven-reads
-use Rattle.index.proofs.clinic_of.Reads as clinic-of-reads
-use Rattle.order.proofs.State.drug.Reads as drug-reads
-use Rattle.order.proofs.State.group.Reads as group-Reads
+use Rattle.buffers.proofs.put_seven.Reads as put_seven_reads
+use Rattle.index.proofs.clinic_of.Reads as clinic_of_reads
+use Rattle.order.proofs.State.drug.Reads as drug_reads
+use Rattle.order.proofs.State.group.Reads as group_Reads
 
 cast-offset : tie.Need-overflow-cast-offset
 cast-offset c = search rules

@@ -8,10 +8,10 @@ use Rattle.index.proofs.read_batch.Statement.{statement}
 use Rattle.index.proofs.read_batch.Tie as tie
 use Rattle.index.proofs.read_batch.Reads as reads
 use Rattle.index.proofs.read_batch.Lts as lts
-use Rattle.checking.proofs.close.Reads as close-reads
-use Rattle.checking.proofs.read_record.Reads as read-record-reads
-use Rattle.index.proofs.clinic_after.Reads as clinic-after-reads
-use Rattle.index.proofs.put_entry.Reads as put-entry-reads
+use Rattle.checking.proofs.close.Reads as close_reads
+use Rattle.checking.proofs.read_record.Reads as read_record_reads
+use Rattle.index.proofs.clinic_after.Reads as clinic_after_reads
+use Rattle.index.proofs.put_entry.Reads as put_entry_reads
 
 abbrev invariant-loop : tie.invariant-loop
 invariant-loop codes stops₀ begun s from entries₀ st₀ clinic₀ at₀ next₀ stops entries st clinic at next =

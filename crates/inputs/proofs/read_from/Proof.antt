@@ -10,7 +10,7 @@ use Rattle.inputs.proofs.read_from.Statement.{statement}
 use Rattle.inputs.proofs.read_from.Tie as tie
 use Rattle.inputs.proofs.read_from.Reads as reads
 use Rattle.inputs.proofs.read_from.Lts as lts
-use Rattle.inputs.proofs.read_once.Reads as read-once-reads
+use Rattle.inputs.proofs.read_once.Reads as read_once_reads
 
 abbrev invariant-loop : tie.invariant-loop
 invariant-loop fd buf₀ at size end₀ buf end = (length buf₀ ≡ length buf) × (size ≡ length buf) × (end ≤ size)

@@ -6,9 +6,9 @@ use Rattle.inputs.proofs.read_once.Statement.{statement}
 use Rattle.inputs.proofs.read_once.Tie as tie
 use Rattle.inputs.proofs.read_once.Reads as reads
 use Rattle.inputs.proofs.read_once.Lts as lts
-use Rattle.io.proofs.count.Reads as count-reads
-use Rattle.libc.proofs.read.Reads as read-reads
-use Rattle.os.proofs.errno.Reads as errno-reads
+use Rattle.io.proofs.count.Reads as count_reads
+use Rattle.libc.proofs.read.Reads as read_reads
+use Rattle.os.proofs.errno.Reads as errno_reads
 
 abbrev invariant-loop : tie.invariant-loop
 invariant-loop fd buf₀ tries₀ buf tries = length buf₀ ≡ length buf

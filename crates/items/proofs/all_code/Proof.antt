@@ -8,8 +8,8 @@ use Rattle.items.proofs.all_code.Statement.{statement}
 use Rattle.items.proofs.all_code.Tie as tie
 use Rattle.items.proofs.all_code.Reads as reads
 use Rattle.items.proofs.all_code.Lts as lts
-use Rattle.digits.proofs.is_digit_lem.Reads as is-digit-reads
-use Rattle.items.proofs.is_code.Reads as is-code-reads
+use Rattle.digits.proofs.is_digit.Reads as is_digit_reads
+use Rattle.items.proofs.is_code.Reads as is_code_reads
 
 abbrev invariant-loop : tie.invariant-loop
 invariant-loop s i₀ i = AllLeft is_code s i

@@ -4,7 +4,7 @@ use Rattle.items.proofs.blank_end.Statement.{statement}
 use Rattle.items.proofs.blank_end.Tie as tie
 use Rattle.items.proofs.blank_end.Reads as reads
 use Rattle.items.proofs.blank_end.Lts as lts
-use Rattle.items.proofs.required.Reads as required-reads
+use Rattle.items.proofs.required.Reads as required_reads
 
 required-requires : tie.Need-required-requires
 required-requires c κs = search rules

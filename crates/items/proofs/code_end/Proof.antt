@@ -7,8 +7,8 @@ use Rattle.items.proofs.code_end.Statement.{statement}
 use Rattle.items.proofs.code_end.Tie as tie
 use Rattle.items.proofs.code_end.Reads as reads
 use Rattle.items.proofs.code_end.Lts as lts
-use Rattle.digits.proofs.is_digit_lem.Reads as is-digit-reads
-use Rattle.items.proofs.is_code.Reads as is-code-reads
+use Rattle.digits.proofs.is_digit.Reads as is_digit_reads
+use Rattle.items.proofs.is_code.Reads as is_code_reads
 
 abbrev invariant-loop : tie.invariant-loop
 invariant-loop s from i₀ i = CodeRun s from i

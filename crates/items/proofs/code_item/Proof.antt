@@ -4,8 +4,8 @@ use Rattle.items.proofs.code_item.Statement.{statement}
 use Rattle.items.proofs.code_item.Tie as tie
 use Rattle.items.proofs.code_item.Reads as reads
 use Rattle.items.proofs.code_item.Lts as lts
-use Rattle.items.proofs.blank_end.Reads as blank-end-reads
-use Rattle.items.proofs.code_end.Reads as code-end-reads
+use Rattle.items.proofs.blank_end.Reads as blank_end_reads
+use Rattle.items.proofs.code_end.Reads as code_end_reads
 
 code-end-requires : tie.Need-code-end-requires
 code-end-requires c κs = search rules

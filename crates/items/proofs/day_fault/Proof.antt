@@ -4,7 +4,7 @@ use Rattle.items.proofs.day_fault.Statement.{statement}
 use Rattle.items.proofs.day_fault.Tie as tie
 use Rattle.items.proofs.day_fault.Reads as reads
 use Rattle.items.proofs.day_fault.Lts as lts
-use Rattle.calendar.proofs.Day.read.Reads as read-reads
+use Rattle.calendar.proofs.Day.read.Reads as read_reads
 
 read-requires : tie.Need-read-requires
 read-requires c κs = search rules

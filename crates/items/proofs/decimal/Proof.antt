@@ -4,9 +4,9 @@ use Rattle.items.proofs.decimal.Statement.{statement}
 use Rattle.items.proofs.decimal.Tie as tie
 use Rattle.items.proofs.decimal.Reads as reads
 use Rattle.items.proofs.decimal.Lts as lts
-use Rattle.items.proofs.fraction.Reads as fraction-reads
-use Rattle.items.proofs.whole.Reads as whole-reads
-use Rattle.lists.proofs.find_byte.Reads as find-byte-reads
+use Rattle.items.proofs.fraction.Reads as fraction_reads
+use Rattle.items.proofs.whole.Reads as whole_reads
+use Rattle.lists.proofs.find_byte.Reads as find_byte_reads
 
 find-byte-requires : tie.Need-find-byte-requires
 find-byte-requires c κs = search rules

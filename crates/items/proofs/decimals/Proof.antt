@@ -3,9 +3,9 @@ use Rattle.items.proofs.decimals.Statement.{statement}
 use Rattle.items.proofs.decimals.Tie as tie
 use Rattle.items.proofs.decimals.Reads as reads
 use Rattle.items.proofs.decimals.Lts as lts
-use Rattle.digits.proofs.all_digits.Reads as all-digits-reads
-use Rattle.lists.proofs.before.Reads as before-reads
-use Rattle.lists.proofs.byte_at.Reads as byte-at-reads
+use Rattle.digits.proofs.all_digits.Reads as all_digits_reads
+use Rattle.lists.proofs.before.Reads as before_reads
+use Rattle.lists.proofs.byte_at.Reads as byte_at_reads
 
 before-requires : tie.Need-before-requires
 before-requires c κs = search rules

@@ -4,8 +4,8 @@ use Rattle.items.proofs.digit_at.Statement.{statement}
 use Rattle.items.proofs.digit_at.Tie as tie
 use Rattle.items.proofs.digit_at.Reads as reads
 use Rattle.items.proofs.digit_at.Lts as lts
-use Rattle.digits.proofs.is_digit_lem.Reads as is-digit-reads
-use Rattle.digits.proofs.wide.Reads as wide-reads
+use Rattle.digits.proofs.is_digit.Reads as is_digit_reads
+use Rattle.digits.proofs.wide.Reads as wide_reads
 
 add-next : tie.Need-overflow-add-next
 add-next c = search rules

@@ -4,7 +4,7 @@ use Rattle.items.proofs.digit_fits.Statement.{statement}
 use Rattle.items.proofs.digit_fits.Tie as tie
 use Rattle.items.proofs.digit_fits.Reads as reads
 use Rattle.items.proofs.digit_fits.Lts as lts
-use Rattle.items.proofs.member.Reads as member-reads
+use Rattle.items.proofs.member.Reads as member_reads
 
 member-requires : tie.Need-member-requires
 member-requires c κs = search rules

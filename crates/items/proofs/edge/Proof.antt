@@ -6,10 +6,10 @@ use Rattle.items.proofs.edge.Statement.{statement}
 use Rattle.items.proofs.edge.Tie as tie
 use Rattle.items.proofs.edge.Reads as reads
 use Rattle.items.proofs.edge.Lts as lts
-use Rattle.items.proofs.ends_wide.Reads as ends-wide-reads
-use Rattle.lists.proofs.before.Reads as before-reads
-use Rattle.lists.proofs.byte_at.Reads as byte-at-reads
-use Rattle.scanning.proofs.is_blank_pair.Reads as is-blank-pair-reads
+use Rattle.items.proofs.ends_wide.Reads as ends_wide_reads
+use Rattle.lists.proofs.before.Reads as before_reads
+use Rattle.lists.proofs.byte_at.Reads as byte_at_reads
+use Rattle.scanning.proofs.is_blank_pair.Reads as is_blank_pair_reads
 
 byte-at-requires : tie.Need-byte-at-requires
 byte-at-requires c κs = search rules

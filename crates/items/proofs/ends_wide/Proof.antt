@@ -6,10 +6,10 @@ use Rattle.items.proofs.ends_wide.Statement.{statement}
 use Rattle.items.proofs.ends_wide.Tie as tie
 use Rattle.items.proofs.ends_wide.Reads as reads
 use Rattle.items.proofs.ends_wide.Lts as lts
-use Rattle.lists.proofs.before.Reads as before-reads
-use Rattle.lists.proofs.byte_at.Reads as byte-at-reads
-use Rattle.scanning.proofs.all_chars.Reads as all-chars-reads
-use Rattle.scanning.proofs.is_blank_pair.Reads as is-blank-pair-reads
+use Rattle.lists.proofs.before.Reads as before_reads
+use Rattle.lists.proofs.byte_at.Reads as byte_at_reads
+use Rattle.scanning.proofs.all_chars.Reads as all_chars_reads
+use Rattle.scanning.proofs.is_blank_pair.Reads as is_blank_pair_reads
 
 before-requires : tie.Need-before-requires
 before-requires c κs = search rules

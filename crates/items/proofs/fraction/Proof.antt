@@ -4,7 +4,7 @@ use Rattle.items.proofs.fraction.Statement.{statement}
 use Rattle.items.proofs.fraction.Tie as tie
 use Rattle.items.proofs.fraction.Reads as reads
 use Rattle.items.proofs.fraction.Lts as lts
-use Rattle.items.proofs.decimals.Reads as decimals-reads
+use Rattle.items.proofs.decimals.Reads as decimals_reads
 
 returns : tie.Need-returns
 returns c = search (rules, fraction_none, fraction_some)

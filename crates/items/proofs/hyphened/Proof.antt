@@ -4,7 +4,7 @@ use Rattle.items.proofs.hyphened.Statement.{statement}
 use Rattle.items.proofs.hyphened.Tie as tie
 use Rattle.items.proofs.hyphened.Reads as reads
 use Rattle.items.proofs.hyphened.Lts as lts
-use Rattle.digits.proofs.all_digits.Reads as all-digits-reads
+use Rattle.digits.proofs.all_digits.Reads as all_digits_reads
 
 returns : tie.Need-returns
 returns c = search (rules, no_seven, is_seven)

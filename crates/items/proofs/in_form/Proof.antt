@@ -7,8 +7,8 @@ use Rattle.items.proofs.in_form.Statement.{statement}
 use Rattle.items.proofs.in_form.Tie as tie
 use Rattle.items.proofs.in_form.Reads as reads
 use Rattle.items.proofs.in_form.Lts as lts
-use Rattle.items.proofs.one_script.Reads as one-script-reads
-use Rattle.items.proofs.one_width.Reads as one-width-reads
+use Rattle.items.proofs.one_script.Reads as one_script_reads
+use Rattle.items.proofs.one_width.Reads as one_width_reads
 
 one-width-requires : tie.Need-one-width-requires
 one-width-requires c κs = search rules

@@ -6,13 +6,13 @@ use Rattle.items.proofs.item_end.Statement.{statement}
 use Rattle.items.proofs.item_end.Tie as tie
 use Rattle.items.proofs.item_end.Reads as reads
 use Rattle.items.proofs.item_end.Lts as lts
-use Rattle.items.proofs.code_item.Reads as code-item-reads
-use Rattle.items.proofs.digit_at.Reads as digit-at-reads
-use Rattle.items.proofs.digit_fits.Reads as digit-fits-reads
-use Rattle.items.proofs.number_item.Reads as number-item-reads
-use Rattle.items.proofs.other_item.Reads as other-item-reads
-use Rattle.items.proofs.script_item.Reads as script-item-reads
-use Rattle.items.proofs.text_item.Reads as text-item-reads
+use Rattle.items.proofs.code_item.Reads as code_item_reads
+use Rattle.items.proofs.digit_at.Reads as digit_at_reads
+use Rattle.items.proofs.digit_fits.Reads as digit_fits_reads
+use Rattle.items.proofs.number_item.Reads as number_item_reads
+use Rattle.items.proofs.other_item.Reads as other_item_reads
+use Rattle.items.proofs.script_item.Reads as script_item_reads
+use Rattle.items.proofs.text_item.Reads as text_item_reads
 
 text-item-requires : tie.Need-text-item-requires
 text-item-requires c κs = search rules

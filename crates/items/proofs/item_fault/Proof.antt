@@ -4,9 +4,9 @@ use Rattle.items.proofs.item_fault.Statement.{statement}
 use Rattle.items.proofs.item_fault.Tie as tie
 use Rattle.items.proofs.item_fault.Reads as reads
 use Rattle.items.proofs.item_fault.Lts as lts
-use Rattle.items.proofs.kind_fault.Reads as kind-fault-reads
-use Rattle.items.proofs.required.Reads as required-reads
-use Rattle.items.proofs.unless.Reads as unless-reads
+use Rattle.items.proofs.kind_fault.Reads as kind_fault_reads
+use Rattle.items.proofs.required.Reads as required_reads
+use Rattle.items.proofs.unless.Reads as unless_reads
 
 required-requires : tie.Need-required-requires
 required-requires c κs = search rules

@@ -6,18 +6,18 @@ use Rattle.items.proofs.kind_fault.Statement.{statement}
 use Rattle.items.proofs.kind_fault.Tie as tie
 use Rattle.items.proofs.kind_fault.Reads as reads
 use Rattle.items.proofs.kind_fault.Lts as lts
-use Rattle.digits.proofs.plain_number.Reads as plain-number-reads
-use Rattle.items.proofs.all_code.Reads as all-code-reads
-use Rattle.items.proofs.day_fault.Reads as day-fault-reads
-use Rattle.items.proofs.decimal.Reads as decimal-reads
-use Rattle.items.proofs.member.Reads as member-reads
-use Rattle.items.proofs.postal.Reads as postal-reads
-use Rattle.items.proofs.prefecture.Reads as prefecture-reads
-use Rattle.items.proofs.rp_fault.Reads as rp-fault-reads
-use Rattle.items.proofs.seven.Reads as seven-reads
-use Rattle.items.proofs.sized.Reads as sized_Reads
-use Rattle.items.proofs.text_form.Reads as text-form-reads
-use Rattle.items.proofs.unless.Reads as unless-reads
+use Rattle.digits.proofs.plain_number.Reads as plain_number_reads
+use Rattle.items.proofs.all_code.Reads as all_code_reads
+use Rattle.items.proofs.day_fault.Reads as day_fault_reads
+use Rattle.items.proofs.decimal.Reads as decimal_reads
+use Rattle.items.proofs.member.Reads as member_reads
+use Rattle.items.proofs.postal.Reads as postal_reads
+use Rattle.items.proofs.prefecture.Reads as prefecture_reads
+use Rattle.items.proofs.rp_fault.Reads as rp_fault_reads
+use Rattle.items.proofs.seven.Reads as seven_reads
+use Rattle.items.proofs.sized.Reads as sized_reads
+use Rattle.items.proofs.text_form.Reads as text_form_reads
+use Rattle.items.proofs.unless.Reads as unless_reads
 
 sized-requires : tie.Need-sized-requires
 sized-requires c κs = search rules

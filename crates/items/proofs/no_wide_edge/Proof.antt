@@ -4,7 +4,7 @@ use Rattle.items.proofs.no_wide_edge.Statement.{statement}
 use Rattle.items.proofs.no_wide_edge.Tie as tie
 use Rattle.items.proofs.no_wide_edge.Reads as reads
 use Rattle.items.proofs.no_wide_edge.Lts as lts
-use Rattle.lists.proofs.byte_at.Reads as byte-at-reads
+use Rattle.lists.proofs.byte_at.Reads as byte_at_reads
 
 returns : tie.Need-returns
 returns c = search (rules, wide_laws)

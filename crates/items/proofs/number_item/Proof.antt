@@ -4,8 +4,8 @@ use Rattle.items.proofs.number_item.Statement.{statement}
 use Rattle.items.proofs.number_item.Tie as tie
 use Rattle.items.proofs.number_item.Reads as reads
 use Rattle.items.proofs.number_item.Lts as lts
-use Rattle.items.proofs.other_item.Reads as other-item-reads
-use Rattle.items.proofs.spelled_at.Reads as spelled-at-reads
+use Rattle.items.proofs.other_item.Reads as other_item_reads
+use Rattle.items.proofs.spelled_at.Reads as spelled_at_reads
 
 spelled-at-requires : tie.Need-spelled-at-requires
 spelled-at-requires c κs = search rules

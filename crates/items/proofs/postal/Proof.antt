@@ -4,9 +4,9 @@ use Rattle.items.proofs.postal.Statement.{statement}
 use Rattle.items.proofs.postal.Tie as tie
 use Rattle.items.proofs.postal.Reads as reads
 use Rattle.items.proofs.postal.Lts as lts
-use Rattle.items.proofs.hyphened.Reads as hyphened-reads
-use Rattle.items.proofs.seven.Reads as seven-reads
-use Rattle.lists.proofs.byte_at.Reads as byte-at-reads
+use Rattle.items.proofs.hyphened.Reads as hyphened_reads
+use Rattle.items.proofs.seven.Reads as seven_reads
+use Rattle.lists.proofs.byte_at.Reads as byte_at_reads
 
 byte-at-requires : tie.Need-byte-at-requires
 byte-at-requires c κs = search rules

@@ -4,7 +4,7 @@ use Rattle.items.proofs.prefecture.Statement.{statement}
 use Rattle.items.proofs.prefecture.Tie as tie
 use Rattle.items.proofs.prefecture.Reads as reads
 use Rattle.items.proofs.prefecture.Lts as lts
-use Rattle.digits.proofs.short_value.Reads as short-value-reads
+use Rattle.digits.proofs.short_value.Reads as short_value_reads
 
 short-value-requires : tie.Need-short-value-requires
 short-value-requires c κs = search rules

@@ -4,8 +4,8 @@ use Rattle.items.proofs.rp_fault.Statement.{statement}
 use Rattle.items.proofs.rp_fault.Tie as tie
 use Rattle.items.proofs.rp_fault.Reads as reads
 use Rattle.items.proofs.rp_fault.Lts as lts
-use Rattle.digits.proofs.short_value.Reads as short-value-reads
-use Rattle.items.proofs.unless.Reads as unless-reads
+use Rattle.digits.proofs.short_value.Reads as short_value_reads
+use Rattle.items.proofs.unless.Reads as unless_reads
 
 short-value-requires : tie.Need-short-value-requires
 short-value-requires c κs = search rules

@@ -4,7 +4,7 @@ use Rattle.items.proofs.seven.Statement.{statement}
 use Rattle.items.proofs.seven.Tie as tie
 use Rattle.items.proofs.seven.Reads as reads
 use Rattle.items.proofs.seven.Lts as lts
-use Rattle.digits.proofs.all_digits.Reads as all-digits-reads
+use Rattle.digits.proofs.all_digits.Reads as all_digits_reads
 
 all-digits-requires : tie.Need-all-digits-requires
 all-digits-requires c κs = search rules

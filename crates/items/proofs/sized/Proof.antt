@@ -4,8 +4,8 @@ use Rattle.items.proofs.sized.Statement.{statement}
 use Rattle.items.proofs.sized.Tie as tie
 use Rattle.items.proofs.sized.Reads as reads
 use Rattle.items.proofs.sized.Lts as lts
-use Rattle.items.proofs.edge.Reads as edge-reads
-use Rattle.items.proofs.unless.Reads as unless-reads
+use Rattle.items.proofs.edge.Reads as edge_reads
+use Rattle.items.proofs.unless.Reads as unless_reads
 
 returns : tie.Need-returns
 returns c = search (rules, sized_long, sized_edge, sized_form)

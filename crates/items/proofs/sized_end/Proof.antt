@@ -6,8 +6,8 @@ use Rattle.items.proofs.sized_end.Statement.{statement}
 use Rattle.items.proofs.sized_end.Tie as tie
 use Rattle.items.proofs.sized_end.Reads as reads
 use Rattle.items.proofs.sized_end.Lts as lts
-use Rattle.items.proofs.edge.Reads as edge-reads
-use Rattle.items.proofs.no_wide_edge.Reads as no-wide-edge-reads
+use Rattle.items.proofs.edge.Reads as edge_reads
+use Rattle.items.proofs.no_wide_edge.Reads as no_wide_edge_reads
 
 sub-if1 : tie.Need-overflow-sub-if1
 sub-if1 c = search rules

@@ -6,8 +6,8 @@ use Rattle.items.proofs.text_form.Statement.{statement}
 use Rattle.items.proofs.text_form.Tie as tie
 use Rattle.items.proofs.text_form.Reads as reads
 use Rattle.items.proofs.text_form.Lts as lts
-use Rattle.items.proofs.in_form.Reads as in-form-reads
-use Rattle.scanning.proofs.scripts_of.Reads as scripts-of-reads
+use Rattle.items.proofs.in_form.Reads as in_form_reads
+use Rattle.scanning.proofs.scripts_of.Reads as scripts_of_reads
 
 scripts-of-requires : tie.Need-scripts-of-requires
 scripts-of-requires c κs = search rules

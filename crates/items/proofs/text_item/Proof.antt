@@ -6,9 +6,9 @@ use Rattle.items.proofs.text_item.Statement.{statement}
 use Rattle.items.proofs.text_item.Tie as tie
 use Rattle.items.proofs.text_item.Reads as reads
 use Rattle.items.proofs.text_item.Lts as lts
-use Rattle.items.proofs.blank_end.Reads as blank-end-reads
-use Rattle.items.proofs.sized_end.Reads as sized-end-reads
-use Rattle.scanning.proofs.run_at.Reads as run-at-reads
+use Rattle.items.proofs.blank_end.Reads as blank_end_reads
+use Rattle.items.proofs.sized_end.Reads as sized_end_reads
+use Rattle.scanning.proofs.run_at.Reads as run_at_reads
 
 run-at-requires : tie.Need-run-at-requires
 run-at-requires c κs = search rules

@@ -3,8 +3,8 @@ use Rattle.items.proofs.whole.Statement.{statement}
 use Rattle.items.proofs.whole.Tie as tie
 use Rattle.items.proofs.whole.Reads as reads
 use Rattle.items.proofs.whole.Lts as lts
-use Rattle.digits.proofs.all_digits.Reads as all-digits-reads
-use Rattle.lists.proofs.byte_at.Reads as byte-at-reads
+use Rattle.digits.proofs.all_digits.Reads as all_digits_reads
+use Rattle.lists.proofs.byte_at.Reads as byte_at_reads
 
 byte-at-requires : tie.Need-byte-at-requires
 byte-at-requires c κs = search rules

@@ -6,7 +6,7 @@ use Rattle.join.proofs.broken_line.Statement.{statement}
 use Rattle.join.proofs.broken_line.Tie as tie
 use Rattle.join.proofs.broken_line.Reads as reads
 use Rattle.join.proofs.broken_line.Lts as lts
-use Rattle.pieces.proofs.row_at.Reads as row-at-reads
+use Rattle.pieces.proofs.row_at.Reads as row_at_reads
 
 abbrev invariant-loop : tie.invariant-loop
 invariant-loop s begun₀ n₀ at₀ begun n at = Walk s begun n at

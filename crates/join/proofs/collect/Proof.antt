@@ -8,9 +8,9 @@ use Rattle.join.proofs.collect.Statement.{statement}
 use Rattle.join.proofs.collect.Tie as tie
 use Rattle.join.proofs.collect.Reads as reads
 use Rattle.join.proofs.collect.Lts as lts
-use Rattle.join.proofs.next_piece.Reads as next-piece-reads
-use Rattle.join.proofs.read_member.Reads as read-member-reads
-use Rattle.join.proofs.store.Reads as store-reads
+use Rattle.join.proofs.next_piece.Reads as next_piece_reads
+use Rattle.join.proofs.read_member.Reads as read_member_reads
+use Rattle.join.proofs.store.Reads as store_reads
 
 abbrev invariant-loop : tie.invariant-loop
 invariant-loop s d id n from ks₀ starts₀ ends₀ m₀ at₀ ks starts ends m at = Collecting s d id n ks₀ starts₀ ends₀ ks starts ends m at

@@ -6,7 +6,7 @@ use Rattle.join.proofs.find_rows.Statement.{statement}
 use Rattle.join.proofs.find_rows.Tie as tie
 use Rattle.join.proofs.find_rows.Reads as reads
 use Rattle.join.proofs.find_rows.Lts as lts
-use Rattle.search.proofs.find_piece.Reads as find-piece-reads
+use Rattle.search.proofs.find_piece.Reads as find_piece_reads
 
 cast-wanted : tie.Need-overflow-cast-wanted
 cast-wanted c = search rules

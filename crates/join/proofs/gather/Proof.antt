@@ -7,8 +7,8 @@ use Rattle.join.proofs.gather.Statement.{statement}
 use Rattle.join.proofs.gather.Tie as tie
 use Rattle.join.proofs.gather.Reads as reads
 use Rattle.join.proofs.gather.Lts as lts
-use Rattle.join.proofs.find_rows.Reads as find-rows-reads
-use Rattle.join.proofs.put_if_room.Reads as put-if-room-reads
+use Rattle.join.proofs.find_rows.Reads as find_rows_reads
+use Rattle.join.proofs.put_if_room.Reads as put_if_room_reads
 
 abbrev invariant-loop : tie.invariant-loop
 invariant-loop out₀ at s ks starts ends n o₀ k₀ out o k = Gathering out₀ out at s ks starts ends n o k

@@ -1,10 +1,10 @@
 use borrow.Author.Rules.{rules}
 use Rattle.join.proofs.WalkLaws.{goes_laws}
-use Rattle.join.proofs.goes_on_lem.Statement.{statement}
-use Rattle.join.proofs.goes_on_lem.Tie as tie
-use Rattle.join.proofs.goes_on_lem.Reads as reads
-use Rattle.join.proofs.goes_on_lem.Lts as lts
-use Rattle.pieces.proofs.row_at.Reads as row-at-reads
+use Rattle.join.proofs.goes_on.Statement.{statement}
+use Rattle.join.proofs.goes_on.Tie as tie
+use Rattle.join.proofs.goes_on.Reads as reads
+use Rattle.join.proofs.goes_on.Lts as lts
+use Rattle.pieces.proofs.row_at.Reads as row_at_reads
 
 returns : tie.Need-returns
 returns c = search (rules, goes_laws)

@@ -6,7 +6,7 @@ use Rattle.join.proofs.join.Statement.{statement}
 use Rattle.join.proofs.join.Tie as tie
 use Rattle.join.proofs.join.Reads as reads
 use Rattle.join.proofs.join.Lts as lts
-use Rattle.join.proofs.join_by.Reads as join-by-reads
+use Rattle.join.proofs.join_by.Reads as join_by_reads
 
 slice-aggregate-join-by : tie.Need-slice-aggregate-join-by
 slice-aggregate-join-by c = search (rules, holds_short, holds_any)

@@ -6,9 +6,9 @@ use Rattle.join.proofs.join_by.Statement.{statement}
 use Rattle.join.proofs.join_by.Tie as tie
 use Rattle.join.proofs.join_by.Reads as reads
 use Rattle.join.proofs.join_by.Lts as lts
-use Rattle.buffers.proofs.put_all.Reads as put-all-reads
+use Rattle.buffers.proofs.put_all.Reads as put_all_reads
 use Rattle.checking.proofs.check.Reads as check_reads
-use Rattle.join.proofs.join_into.Reads as join-into-reads
+use Rattle.join.proofs.join_into.Reads as join_into_reads
 
 join-into-requires : tie.Need-join-into-requires
 join-into-requires c κs = search (rules, join_laws)

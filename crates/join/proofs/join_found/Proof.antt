@@ -6,8 +6,8 @@ use Rattle.join.proofs.join_found.Statement.{statement}
 use Rattle.join.proofs.join_found.Tie as tie
 use Rattle.join.proofs.join_found.Reads as reads
 use Rattle.join.proofs.join_found.Lts as lts
-use Rattle.join.proofs.gather.Reads as gather-reads
-use Rattle.join.proofs.put_head.Reads as put-head-reads
+use Rattle.join.proofs.gather.Reads as gather_reads
+use Rattle.join.proofs.put_head.Reads as put_head_reads
 
 put-head-requires : tie.Need-put-head-requires
 put-head-requires c κs = search (rules, found_laws)

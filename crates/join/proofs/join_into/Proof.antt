@@ -6,9 +6,9 @@ use Rattle.join.proofs.join_into.Statement.{statement}
 use Rattle.join.proofs.join_into.Tie as tie
 use Rattle.join.proofs.join_into.Reads as reads
 use Rattle.join.proofs.join_into.Lts as lts
-use Rattle.join.proofs.broken_line.Reads as broken-line-reads
-use Rattle.join.proofs.join_pieces.Reads as join-pieces-reads
-use Rattle.join.proofs.starts_well.Reads as starts-well-reads
+use Rattle.join.proofs.broken_line.Reads as broken_line_reads
+use Rattle.join.proofs.join_pieces.Reads as join_pieces_reads
+use Rattle.join.proofs.starts_well.Reads as starts_well_reads
 
 returns : tie.Need-returns
 returns c = search (rules, into_laws)

@@ -6,9 +6,9 @@ use Rattle.join.proofs.join_listed.Statement.{statement}
 use Rattle.join.proofs.join_listed.Tie as tie
 use Rattle.join.proofs.join_listed.Reads as reads
 use Rattle.join.proofs.join_listed.Lts as lts
-use Rattle.join.proofs.collect.Reads as collect-reads
-use Rattle.join.proofs.join_found.Reads as join-found-reads
-use Rattle.join.proofs.store.Reads as store-reads
+use Rattle.join.proofs.collect.Reads as collect_reads
+use Rattle.join.proofs.join_found.Reads as join_found_reads
+use Rattle.join.proofs.store.Reads as store_reads
 
 store-requires : tie.Need-store-requires
 store-requires c κs = search rules

@@ -6,8 +6,8 @@ use Rattle.join.proofs.join_one.Statement.{statement}
 use Rattle.join.proofs.join_one.Tie as tie
 use Rattle.join.proofs.join_one.Reads as reads
 use Rattle.join.proofs.join_one.Lts as lts
-use Rattle.buffers.proofs.put_all.Reads as put-all-reads
-use Rattle.join.proofs.put_head.Reads as put-head-reads
+use Rattle.buffers.proofs.put_all.Reads as put_all_reads
+use Rattle.join.proofs.put_head.Reads as put_head_reads
 
 put-head-requires : tie.Need-put-head-requires
 put-head-requires c κs = search rules

@@ -6,11 +6,11 @@ use Rattle.join.proofs.join_pieces.Statement.{statement}
 use Rattle.join.proofs.join_pieces.Tie as tie
 use Rattle.join.proofs.join_pieces.Reads as reads
 use Rattle.join.proofs.join_pieces.Lts as lts
-use Rattle.join.proofs.first_piece.Reads as first-piece-reads
-use Rattle.join.proofs.join_one.Reads as join-one-reads
-use Rattle.join.proofs.join_set.Reads as join-set-reads
-use Rattle.join.proofs.next_piece.Reads as next-piece-reads
-use Rattle.join.proofs.read_lines.Reads as read-lines-reads
+use Rattle.join.proofs.first_piece.Reads as first_piece_reads
+use Rattle.join.proofs.join_one.Reads as join_one_reads
+use Rattle.join.proofs.join_set.Reads as join_set_reads
+use Rattle.join.proofs.next_piece.Reads as next_piece_reads
+use Rattle.join.proofs.read_lines.Reads as read_lines_reads
 
 first-piece-requires : tie.Need-first-piece-requires
 first-piece-requires c κs = search rules

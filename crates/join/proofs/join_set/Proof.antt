@@ -6,7 +6,7 @@ use Rattle.join.proofs.join_set.Statement.{statement}
 use Rattle.join.proofs.join_set.Tie as tie
 use Rattle.join.proofs.join_set.Reads as reads
 use Rattle.join.proofs.join_set.Lts as lts
-use Rattle.join.proofs.join_listed.Reads as join-listed-reads
+use Rattle.join.proofs.join_listed.Reads as join_listed_reads
 
 returns : tie.Need-returns
 returns c = search (rules, set_few, set_tables)

@@ -4,8 +4,8 @@ use Rattle.join.proofs.last_mark.Statement.{statement}
 use Rattle.join.proofs.last_mark.Tie as tie
 use Rattle.join.proofs.last_mark.Reads as reads
 use Rattle.join.proofs.last_mark.Lts as lts
-use Rattle.join.proofs.goes_on_lem.Reads as goes-on-reads
-use Rattle.pieces.proofs.read_mark.Reads as read-mark-reads
+use Rattle.join.proofs.goes_on.Reads as goes_on_reads
+use Rattle.pieces.proofs.read_mark.Reads as read_mark_reads
 
 sub-t : tie.Need-overflow-sub-t
 sub-t c = search (rules, last_laws)

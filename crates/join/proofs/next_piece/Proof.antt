@@ -4,7 +4,7 @@ use Rattle.join.proofs.next_piece.Statement.{statement}
 use Rattle.join.proofs.next_piece.Tie as tie
 use Rattle.join.proofs.next_piece.Reads as reads
 use Rattle.join.proofs.next_piece.Lts as lts
-use Rattle.pieces.proofs.row_at.Reads as row-at-reads
+use Rattle.pieces.proofs.row_at.Reads as row_at_reads
 
 returns : tie.Need-returns
 returns c = search (rules, next_laws)

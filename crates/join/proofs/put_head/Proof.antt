@@ -4,8 +4,8 @@ use Rattle.join.proofs.put_head.Statement.{statement}
 use Rattle.join.proofs.put_head.Tie as tie
 use Rattle.join.proofs.put_head.Reads as reads
 use Rattle.join.proofs.put_head.Lts as lts
-use Rattle.buffers.proofs.put_all.Reads as put-all-reads
-use Rattle.heading.proofs.heading_row.Reads as heading-row-reads
+use Rattle.buffers.proofs.put_all.Reads as put_all_reads
+use Rattle.heading.proofs.heading_row.Reads as heading_row_reads
 
 heading-row-requires : tie.Need-heading-row-requires
 heading-row-requires c κs = search rules

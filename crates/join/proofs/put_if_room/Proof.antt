@@ -6,7 +6,7 @@ use Rattle.join.proofs.put_if_room.Statement.{statement}
 use Rattle.join.proofs.put_if_room.Tie as tie
 use Rattle.join.proofs.put_if_room.Reads as reads
 use Rattle.join.proofs.put_if_room.Lts as lts
-use Rattle.buffers.proofs.put_all.Reads as put-all-reads
+use Rattle.buffers.proofs.put_all.Reads as put_all_reads
 
 add-end : tie.Need-overflow-add-end
 add-end c = search rules

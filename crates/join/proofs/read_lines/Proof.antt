@@ -6,9 +6,9 @@ use Rattle.join.proofs.read_lines.Statement.{statement}
 use Rattle.join.proofs.read_lines.Tie as tie
 use Rattle.join.proofs.read_lines.Reads as reads
 use Rattle.join.proofs.read_lines.Lts as lts
-use Rattle.join.proofs.last_mark.Reads as last-mark-reads
-use Rattle.pieces.proofs.is_mark.Reads as is-mark-reads
-use Rattle.pieces.proofs.row_at.Reads as row-at-reads
+use Rattle.join.proofs.last_mark.Reads as last_mark_reads
+use Rattle.pieces.proofs.is_mark.Reads as is_mark_reads
+use Rattle.pieces.proofs.row_at.Reads as row_at_reads
 
 abbrev invariant-loop : tie.invariant-loop
 invariant-loop s from at₀ at = Before s from at

@@ -4,8 +4,8 @@ use Rattle.join.proofs.read_member.Statement.{statement}
 use Rattle.join.proofs.read_member.Tie as tie
 use Rattle.join.proofs.read_member.Reads as reads
 use Rattle.join.proofs.read_member.Lts as lts
-use Rattle.join.proofs.read_lines.Reads as read-lines-reads
-use Rattle.lists.proofs.same_bytes.Reads as same-bytes-reads
+use Rattle.join.proofs.read_lines.Reads as read_lines_reads
+use Rattle.lists.proofs.same_bytes.Reads as same_bytes_reads
 
 read-lines-requires : tie.Need-read-lines-requires
 read-lines-requires c κs = search rules

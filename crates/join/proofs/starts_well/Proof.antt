@@ -4,7 +4,7 @@ use Rattle.join.proofs.starts_well.Statement.{statement}
 use Rattle.join.proofs.starts_well.Tie as tie
 use Rattle.join.proofs.starts_well.Reads as reads
 use Rattle.join.proofs.starts_well.Lts as lts
-use Rattle.pieces.proofs.row_at.Reads as row-at-reads
+use Rattle.pieces.proofs.row_at.Reads as row_at_reads
 
 returns : tie.Need-returns
 returns c = search (rules, starts_laws)

@@ -4,7 +4,7 @@ use Rattle.lines.proofs.code_pair.Statement.{statement}
 use Rattle.lines.proofs.code_pair.Tie as tie
 use Rattle.lines.proofs.code_pair.Reads as reads
 use Rattle.lines.proofs.code_pair.Lts as lts
-use Rattle.digits.proofs.plain_number.Reads as plain-number-reads
+use Rattle.digits.proofs.plain_number.Reads as plain_number_reads
 
 plain-number-requires : tie.Need-plain-number-requires
 plain-number-requires c κs = search rules

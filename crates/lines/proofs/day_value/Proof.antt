@@ -4,7 +4,7 @@ use Rattle.lines.proofs.day_value.Statement.{statement}
 use Rattle.lines.proofs.day_value.Tie as tie
 use Rattle.lines.proofs.day_value.Reads as reads
 use Rattle.lines.proofs.day_value.Lts as lts
-use Rattle.calendar.proofs.Day.read.Reads as read-reads
+use Rattle.calendar.proofs.Day.read.Reads as read_reads
 
 read-requires : tie.Need-read-requires
 read-requires c κs = search rules

@@ -4,9 +4,9 @@ use Rattle.lines.proofs.details_11.Statement.{statement}
 use Rattle.lines.proofs.details_11.Tie as tie
 use Rattle.lines.proofs.details_11.Reads as reads
 use Rattle.lines.proofs.details_11.Lts as lts
-use Rattle.lines.proofs.bare.Reads as bare-reads
-use Rattle.lines.proofs.item_span.Reads as item-span-reads
-use Rattle.lines.proofs.rp_value.Reads as rp-value-reads
+use Rattle.lines.proofs.bare.Reads as bare_reads
+use Rattle.lines.proofs.item_span.Reads as item_span_reads
+use Rattle.lines.proofs.rp_value.Reads as rp_value_reads
 
 item-span-requires : tie.Need-item-span-requires
 item-span-requires c κs = search rules

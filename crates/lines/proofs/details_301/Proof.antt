@@ -4,9 +4,9 @@ use Rattle.lines.proofs.details_301.Statement.{statement}
 use Rattle.lines.proofs.details_301.Tie as tie
 use Rattle.lines.proofs.details_301.Reads as reads
 use Rattle.lines.proofs.details_301.Lts as lts
-use Rattle.lines.proofs.item_span.Reads as item-span-reads
-use Rattle.lines.proofs.rp_value.Reads as rp-value-reads
-use Rattle.lines.proofs.usage_of.Reads as usage-of-reads
+use Rattle.lines.proofs.item_span.Reads as item_span_reads
+use Rattle.lines.proofs.rp_value.Reads as rp_value_reads
+use Rattle.lines.proofs.usage_of.Reads as usage_of_reads
 
 item-span-requires : tie.Need-item-span-requires
 item-span-requires c κs = search rules

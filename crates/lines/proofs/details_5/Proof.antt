@@ -4,9 +4,9 @@ use Rattle.lines.proofs.details_5.Statement.{statement}
 use Rattle.lines.proofs.details_5.Tie as tie
 use Rattle.lines.proofs.details_5.Reads as reads
 use Rattle.lines.proofs.details_5.Lts as lts
-use Rattle.lines.proofs.bare.Reads as bare-reads
-use Rattle.lines.proofs.day_value.Reads as day-value-reads
-use Rattle.lines.proofs.item_span.Reads as item-span-reads
+use Rattle.lines.proofs.bare.Reads as bare_reads
+use Rattle.lines.proofs.day_value.Reads as day_value_reads
+use Rattle.lines.proofs.item_span.Reads as item_span_reads
 
 item-span-requires : tie.Need-item-span-requires
 item-span-requires c κs = search rules

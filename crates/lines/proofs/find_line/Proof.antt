@@ -4,8 +4,8 @@ use Rattle.lines.proofs.find_line.Statement.{statement}
 use Rattle.lines.proofs.find_line.Tie as tie
 use Rattle.lines.proofs.find_line.Reads as reads
 use Rattle.lines.proofs.find_line.Lts as lts
-use Rattle.lines.proofs.quick_line.Reads as quick-line-reads
-use Rattle.lines.proofs.slow_line.Reads as slow-line-reads
+use Rattle.lines.proofs.quick_line.Reads as quick_line_reads
+use Rattle.lines.proofs.slow_line.Reads as slow_line_reads
 
 quick-line-requires : tie.Need-quick-line-requires
 quick-line-requires c κs = search rules

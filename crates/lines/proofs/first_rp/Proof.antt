@@ -4,8 +4,8 @@ use Rattle.lines.proofs.first_rp.Statement.{statement}
 use Rattle.lines.proofs.first_rp.Tie as tie
 use Rattle.lines.proofs.first_rp.Reads as reads
 use Rattle.lines.proofs.first_rp.Lts as lts
-use Rattle.lines.proofs.item_span.Reads as item-span-reads
-use Rattle.lines.proofs.rp_value.Reads as rp-value-reads
+use Rattle.lines.proofs.item_span.Reads as item_span_reads
+use Rattle.lines.proofs.rp_value.Reads as rp_value_reads
 
 item-span-requires : tie.Need-item-span-requires
 item-span-requires c κs = search rules

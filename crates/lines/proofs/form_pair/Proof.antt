@@ -4,9 +4,9 @@ use Rattle.lines.proofs.form_pair.Statement.{statement}
 use Rattle.lines.proofs.form_pair.Tie as tie
 use Rattle.lines.proofs.form_pair.Reads as reads
 use Rattle.lines.proofs.form_pair.Lts as lts
-use Rattle.digits.proofs.plain_number.Reads as plain-number-reads
-use Rattle.lines.proofs.is_unit.Reads as is-unit-reads
-use Rattle.lines.proofs.quantity_one.Reads as quantity-one-reads
+use Rattle.digits.proofs.plain_number.Reads as plain_number_reads
+use Rattle.lines.proofs.is_unit.Reads as is_unit_reads
+use Rattle.lines.proofs.quantity_one.Reads as quantity_one_reads
 
 plain-number-requires : tie.Need-plain-number-requires
 plain-number-requires c κs = search rules

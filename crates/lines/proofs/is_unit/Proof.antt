@@ -4,7 +4,7 @@ use Rattle.lines.proofs.is_unit.Statement.{statement}
 use Rattle.lines.proofs.is_unit.Tie as tie
 use Rattle.lines.proofs.is_unit.Reads as reads
 use Rattle.lines.proofs.is_unit.Lts as lts
-use Rattle.lists.proofs.byte_at.Reads as byte-at-reads
+use Rattle.lists.proofs.byte_at.Reads as byte_at_reads
 
 byte-at-requires : tie.Need-byte-at-requires
 byte-at-requires c κs = search rules

@@ -4,7 +4,7 @@ use Rattle.lines.proofs.item_in.Statement.{statement}
 use Rattle.lines.proofs.item_in.Tie as tie
 use Rattle.lines.proofs.item_in.Reads as reads
 use Rattle.lines.proofs.item_in.Lts as lts
-use Rattle.lines.proofs.span_within.Reads as span-within-reads
+use Rattle.lines.proofs.span_within.Reads as span_within_reads
 
 sub-span-within : tie.Need-overflow-sub-span-within
 sub-span-within c = search rules

@@ -4,7 +4,7 @@ use Rattle.lines.proofs.item_span.Statement.{statement}
 use Rattle.lines.proofs.item_span.Tie as tie
 use Rattle.lines.proofs.item_span.Reads as reads
 use Rattle.lines.proofs.item_span.Lts as lts
-use Rattle.lines.proofs.span_within.Reads as span-within-reads
+use Rattle.lines.proofs.span_within.Reads as span_within_reads
 
 returns : tie.Need-returns
 returns c = search (rules, span_laws)

@@ -5,8 +5,8 @@ use Rattle.lines.proofs.items_fault.Statement.{statement}
 use Rattle.lines.proofs.items_fault.Tie as tie
 use Rattle.lines.proofs.items_fault.Reads as reads
 use Rattle.lines.proofs.items_fault.Lts as lts
-use Rattle.items.proofs.item_fault.Reads as item-fault-reads
-use Rattle.lines.proofs.span_within.Reads as span-within-reads
+use Rattle.items.proofs.item_fault.Reads as item_fault_reads
+use Rattle.lines.proofs.span_within.Reads as span_within_reads
 
 abbrev invariant-loop : tie.invariant-loop
 invariant-loop codes place provider stops n s k₀ end j₀ k j = Walk codes provider place s n end k j

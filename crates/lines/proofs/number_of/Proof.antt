@@ -4,10 +4,10 @@ use Rattle.lines.proofs.number_of.Statement.{statement}
 use Rattle.lines.proofs.number_of.Tie as tie
 use Rattle.lines.proofs.number_of.Reads as reads
 use Rattle.lines.proofs.number_of.Lts as lts
-use Rattle.codes.proofs.place_of.Reads as place-of-reads
-use Rattle.digits.proofs.plain_number.Reads as plain-number-reads
-use Rattle.lines.proofs.items_fault.Reads as items-fault-reads
-use Rattle.lines.proofs.number_end.Reads as number-end-reads
+use Rattle.codes.proofs.place_of.Reads as place_of_reads
+use Rattle.digits.proofs.plain_number.Reads as plain_number_reads
+use Rattle.lines.proofs.items_fault.Reads as items_fault_reads
+use Rattle.lines.proofs.number_end.Reads as number_end_reads
 
 number-end-requires : tie.Need-number-end-requires
 number-end-requires c κs = search rules

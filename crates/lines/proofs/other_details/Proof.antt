@@ -4,8 +4,8 @@ use Rattle.lines.proofs.other_details.Statement.{statement}
 use Rattle.lines.proofs.other_details.Tie as tie
 use Rattle.lines.proofs.other_details.Reads as reads
 use Rattle.lines.proofs.other_details.Lts as lts
-use Rattle.lines.proofs.bare.Reads as bare-reads
-use Rattle.lines.proofs.first_rp.Reads as first-rp-reads
+use Rattle.lines.proofs.bare.Reads as bare_reads
+use Rattle.lines.proofs.first_rp.Reads as first_rp_reads
 
 first-rp-requires : tie.Need-first-rp-requires
 first-rp-requires c κs = search rules

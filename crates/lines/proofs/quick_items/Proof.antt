@@ -5,8 +5,8 @@ use Rattle.lines.proofs.quick_items.Statement.{statement}
 use Rattle.lines.proofs.quick_items.Tie as tie
 use Rattle.lines.proofs.quick_items.Reads as reads
 use Rattle.lines.proofs.quick_items.Lts as lts
-use Rattle.items.proofs.item_end.Reads as item-end-reads
-use Rattle.lines.proofs.ends_line.Reads as ends-line-reads
+use Rattle.items.proofs.item_end.Reads as item_end_reads
+use Rattle.lines.proofs.ends_line.Reads as ends_line_reads
 
 abbrev invariant-loop : tie.invariant-loop
 invariant-loop codes place provider stops₀ s at from k₀ end j₀ e₀ stops k j e = Passing codes provider place s at from stops₀ stops end k j e

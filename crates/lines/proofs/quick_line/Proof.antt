@@ -4,9 +4,9 @@ use Rattle.lines.proofs.quick_line.Statement.{statement}
 use Rattle.lines.proofs.quick_line.Tie as tie
 use Rattle.lines.proofs.quick_line.Reads as reads
 use Rattle.lines.proofs.quick_line.Lts as lts
-use Rattle.items.proofs.spelled_at.Reads as spelled-at-reads
-use Rattle.codes.proofs.place_of.Reads as place-of-reads
-use Rattle.lines.proofs.quick_items.Reads as quick-items-reads
+use Rattle.items.proofs.spelled_at.Reads as spelled_at_reads
+use Rattle.codes.proofs.place_of.Reads as place_of_reads
+use Rattle.lines.proofs.quick_items.Reads as quick_items_reads
 
 returns : tie.Need-returns
 returns c = search (rules, quick_laws)

@@ -4,8 +4,8 @@ use Rattle.lines.proofs.read_line.Statement.{statement}
 use Rattle.lines.proofs.read_line.Tie as tie
 use Rattle.lines.proofs.read_line.Reads as reads
 use Rattle.lines.proofs.read_line.Lts as lts
-use Rattle.lines.proofs.find_line.Reads as find-line-reads
-use Rattle.lines.proofs.record_details.Reads as record-details-reads
+use Rattle.lines.proofs.find_line.Reads as find_line_reads
+use Rattle.lines.proofs.record_details.Reads as record_details_reads
 
 find-line-requires : tie.Need-find-line-requires
 find-line-requires c κs = search rules

@@ -4,11 +4,11 @@ use Rattle.lines.proofs.record_details.Statement.{statement}
 use Rattle.lines.proofs.record_details.Tie as tie
 use Rattle.lines.proofs.record_details.Reads as reads
 use Rattle.lines.proofs.record_details.Lts as lts
-use Rattle.lines.proofs.details_11.Reads as details-11-reads
-use Rattle.lines.proofs.details_201.Reads as details-201-reads
-use Rattle.lines.proofs.details_301.Reads as details-301-reads
-use Rattle.lines.proofs.details_5.Reads as details-5-reads
-use Rattle.lines.proofs.other_details.Reads as other-details-reads
+use Rattle.lines.proofs.details_11.Reads as details_11_reads
+use Rattle.lines.proofs.details_201.Reads as details_201_reads
+use Rattle.lines.proofs.details_301.Reads as details_301_reads
+use Rattle.lines.proofs.details_5.Reads as details_5_reads
+use Rattle.lines.proofs.other_details.Reads as other_details_reads
 
 details-5-requires : tie.Need-details-5-requires
 details-5-requires c κs = search rules

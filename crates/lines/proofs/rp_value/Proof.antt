@@ -4,7 +4,7 @@ use Rattle.lines.proofs.rp_value.Statement.{statement}
 use Rattle.lines.proofs.rp_value.Tie as tie
 use Rattle.lines.proofs.rp_value.Reads as reads
 use Rattle.lines.proofs.rp_value.Lts as lts
-use Rattle.digits.proofs.short_value.Reads as short-value-reads
+use Rattle.digits.proofs.short_value.Reads as short_value_reads
 
 short-value-requires : tie.Need-short-value-requires
 short-value-requires c κs = search rules

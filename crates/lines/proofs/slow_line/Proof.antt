@@ -4,9 +4,9 @@ use Rattle.lines.proofs.slow_line.Statement.{statement}
 use Rattle.lines.proofs.slow_line.Tie as tie
 use Rattle.lines.proofs.slow_line.Reads as reads
 use Rattle.lines.proofs.slow_line.Lts as lts
-use Rattle.digits.proofs.wide.Reads as wide-reads
-use Rattle.lines.proofs.number_of.Reads as number-of-reads
-use Rattle.scanning.proofs.line_at.Reads as line-at-reads
+use Rattle.digits.proofs.wide.Reads as wide_reads
+use Rattle.lines.proofs.number_of.Reads as number_of_reads
+use Rattle.scanning.proofs.line_at.Reads as line_at_reads
 
 line-at-requires : tie.Need-line-at-requires
 line-at-requires c κs = search rules

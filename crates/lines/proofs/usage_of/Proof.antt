@@ -5,10 +5,10 @@ use Rattle.lines.proofs.usage_of.Statement.{statement}
 use Rattle.lines.proofs.usage_of.Tie as tie
 use Rattle.lines.proofs.usage_of.Reads as reads
 use Rattle.lines.proofs.usage_of.Lts as lts
-use Rattle.lines.proofs.code_pair.Reads as code-pair-reads
-use Rattle.lines.proofs.form_pair.Reads as form-pair-reads
-use Rattle.lines.proofs.item_span.Reads as item-span-reads
-use Rattle.lines.proofs.rp_value.Reads as rp-value-reads
+use Rattle.lines.proofs.code_pair.Reads as code_pair_reads
+use Rattle.lines.proofs.form_pair.Reads as form_pair_reads
+use Rattle.lines.proofs.item_span.Reads as item_span_reads
+use Rattle.lines.proofs.rp_value.Reads as rp_value_reads
 
 item-span-requires : tie.Need-item-span-requires
 item-span-requires c κs = search rules

@@ -4,10 +4,10 @@ use Rattle.notecheck.proofs.main.Statement.{statement}
 use Rattle.notecheck.proofs.main.Tie as tie
 use Rattle.notecheck.proofs.main.Reads as reads
 use Rattle.notecheck.proofs.main.Lts as lts
-use Rattle.answers.proofs.write_error.Reads as write-error-reads
-use Rattle.answers.proofs.write_reply.Reads as write-reply-reads
-use Rattle.gateway.proofs.notebook_check.Reads as notebook-check-reads
-use Rattle.inputs.proofs.read_all.Reads as read-all-reads
+use Rattle.answers.proofs.write_error.Reads as write_error_reads
+use Rattle.answers.proofs.write_reply.Reads as write_reply_reads
+use Rattle.gateway.proofs.notebook_check.Reads as notebook_check_reads
+use Rattle.inputs.proofs.read_all.Reads as read_all_reads
 
 slice-aggregate-read-all : tie.Need-slice-aggregate-read-all
 slice-aggregate-read-all c = search rules

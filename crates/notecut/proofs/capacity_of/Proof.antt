@@ -5,7 +5,7 @@ use Rattle.notecut.proofs.capacity_of.Statement.{statement}
 use Rattle.notecut.proofs.capacity_of.Tie as tie
 use Rattle.notecut.proofs.capacity_of.Reads as reads
 use Rattle.notecut.proofs.capacity_of.Lts as lts
-use Rattle.notecut.proofs.with_digit.Reads as with-digit-reads
+use Rattle.notecut.proofs.with_digit.Reads as with_digit_reads
 
 abbrev invariant-loop : tie.invariant-loop
 invariant-loop word value₀ i₀ value i = Unit {0}

@@ -4,9 +4,9 @@ use Rattle.notecut.proofs.cut_with_ids.Statement.{statement}
 use Rattle.notecut.proofs.cut_with_ids.Tie as tie
 use Rattle.notecut.proofs.cut_with_ids.Reads as reads
 use Rattle.notecut.proofs.cut_with_ids.Lts as lts
-use Rattle.answers.proofs.write_error_at.Reads as write-error-at-reads
-use Rattle.id_file.proofs.run_of.Reads as run-of-reads
-use Rattle.notecut.proofs.cut.Reads as cut-reads
+use Rattle.answers.proofs.write_error_at.Reads as write_error_at_reads
+use Rattle.id_file.proofs.run_of.Reads as run_of_reads
+use Rattle.notecut.proofs.cut.Reads as cut_reads
 
 run-of-requires : tie.Need-run-of-requires
 run-of-requires c κs = search rules

@@ -4,9 +4,9 @@ use Rattle.noteindex.proofs.main.Statement.{statement}
 use Rattle.noteindex.proofs.main.Tie as tie
 use Rattle.noteindex.proofs.main.Reads as reads
 use Rattle.noteindex.proofs.main.Lts as lts
-use Rattle.answers.proofs.write_error.Reads as write-error-reads
-use Rattle.inputs.proofs.read_all.Reads as read-all-reads
-use Rattle.noteindex.proofs.answer.Reads as answer-reads
+use Rattle.answers.proofs.write_error.Reads as write_error_reads
+use Rattle.inputs.proofs.read_all.Reads as read_all_reads
+use Rattle.noteindex.proofs.answer.Reads as answer_reads
 
 slice-aggregate-read-all : tie.Need-slice-aggregate-read-all
 slice-aggregate-read-all c = search rules

@@ -6,8 +6,8 @@ use Rattle.noteindex.proofs.write_entries.Statement.{statement}
 use Rattle.noteindex.proofs.write_entries.Tie as tie
 use Rattle.noteindex.proofs.write_entries.Reads as reads
 use Rattle.noteindex.proofs.write_entries.Lts as lts
-use Rattle.noteindex.proofs.part_end.Reads as part-end-reads
-use Rattle.noteindex.proofs.write_lines.Reads as write-lines-reads
+use Rattle.noteindex.proofs.part_end.Reads as part_end_reads
+use Rattle.noteindex.proofs.write_lines.Reads as write_lines_reads
 
 abbrev invariant-loop : tie.invariant-loop
 invariant-loop entries records first₀ first = (first ≤ records)

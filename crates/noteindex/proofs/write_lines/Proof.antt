@@ -9,8 +9,8 @@ use Rattle.noteindex.proofs.write_lines.Statement.{statement}
 use Rattle.noteindex.proofs.write_lines.Tie as tie
 use Rattle.noteindex.proofs.write_lines.Reads as reads
 use Rattle.noteindex.proofs.write_lines.Lts as lts
-use Rattle.answers.proofs.write_output.Reads as write-output-reads
-use Rattle.noteindex.proofs.put_record.Reads as put-record-reads
+use Rattle.answers.proofs.write_output.Reads as write_output_reads
+use Rattle.noteindex.proofs.put_record.Reads as put_record_reads
 
 abbrev invariant-loop : tie.invariant-loop
 invariant-loop entries first end text₀ at₀ number₀ text at number = (length text ≡ 9408) × (at + 147 * first ≤ 147 * number) × (first ≤ number) × (number ≤ end)

@@ -4,8 +4,8 @@ use Rattle.notejoin.proofs.join_files.Statement.{statement}
 use Rattle.notejoin.proofs.join_files.Tie as tie
 use Rattle.notejoin.proofs.join_files.Reads as reads
 use Rattle.notejoin.proofs.join_files.Lts as lts
-use Rattle.notejoin.proofs.join.Reads as join-reads
-use Rattle.notejoin.proofs.read_files.Reads as read-files-reads
+use Rattle.notejoin.proofs.join.Reads as join_reads
+use Rattle.notejoin.proofs.read_files.Reads as read_files_reads
 
 slice-aggregate-read-files : tie.Need-slice-aggregate-read-files
 slice-aggregate-read-files c = search rules

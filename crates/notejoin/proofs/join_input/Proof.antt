@@ -4,9 +4,9 @@ use Rattle.notejoin.proofs.join_input.Statement.{statement}
 use Rattle.notejoin.proofs.join_input.Tie as tie
 use Rattle.notejoin.proofs.join_input.Reads as reads
 use Rattle.notejoin.proofs.join_input.Lts as lts
-use Rattle.answers.proofs.write_error.Reads as write-error-reads
-use Rattle.inputs.proofs.read_all.Reads as read-all-reads
-use Rattle.notejoin.proofs.join.Reads as join-reads
+use Rattle.answers.proofs.write_error.Reads as write_error_reads
+use Rattle.inputs.proofs.read_all.Reads as read_all_reads
+use Rattle.notejoin.proofs.join.Reads as join_reads
 
 slice-aggregate-read-all : tie.Need-slice-aggregate-read-all
 slice-aggregate-read-all c = search rules

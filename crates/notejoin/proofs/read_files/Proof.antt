@@ -10,8 +10,8 @@ use Rattle.notejoin.proofs.read_files.Statement.{statement}
 use Rattle.notejoin.proofs.read_files.Tie as tie
 use Rattle.notejoin.proofs.read_files.Reads as reads
 use Rattle.notejoin.proofs.read_files.Lts as lts
-use Rattle.answers.proofs.write_error_at.Reads as write-error-at-reads
-use Rattle.inputs.proofs.read_word.Reads as read-word-reads
+use Rattle.answers.proofs.write_error_at.Reads as write_error_at_reads
+use Rattle.inputs.proofs.read_word.Reads as read_word_reads
 
 abbrev invariant-loop : tie.invariant-loop
 invariant-loop words pieces₀ at₀ word₀ t7 pieces at word = (length pieces₀ ≡ length pieces) × (at ≤ length pieces)

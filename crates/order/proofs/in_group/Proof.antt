@@ -1,7 +1,7 @@
 -- `in_group` meets its contract. Assumes nothing.
 use Rattle.rules.specs.Places.{in_group}
-use Rattle.order.proofs.in_group_lem.Statement.{statement}
-use Rattle.order.proofs.in_group_lem.Tie as tie
+use Rattle.order.proofs.in_group.Statement.{statement}
+use Rattle.order.proofs.in_group.Tie as tie
 
 in-front-requires : tie.Need-in-front-requires
 in-front-requires c κs = tt

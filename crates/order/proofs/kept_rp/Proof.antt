@@ -4,7 +4,7 @@ use Rattle.order.proofs.kept_rp.Statement.{statement}
 use Rattle.order.proofs.kept_rp.Tie as tie
 use Rattle.order.proofs.kept_rp.Reads as reads
 use Rattle.order.proofs.kept_rp.Lts as lts
-use Rattle.order.proofs.pick.Reads as pick-reads
+use Rattle.order.proofs.pick.Reads as pick_reads
 
 returns : tie.Need-returns
 returns c = search rules

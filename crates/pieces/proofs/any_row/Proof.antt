@@ -4,8 +4,8 @@ use Rattle.pieces.proofs.any_row.Statement.{statement}
 use Rattle.pieces.proofs.any_row.Tie as tie
 use Rattle.pieces.proofs.any_row.Reads as reads
 use Rattle.pieces.proofs.any_row.Lts as lts
-use Rattle.pieces.proofs.row_end.Reads as row-end-reads
-use Rattle.pieces.proofs.row_kind.Reads as row-kind-reads
+use Rattle.pieces.proofs.row_end.Reads as row_end_reads
+use Rattle.pieces.proofs.row_kind.Reads as row_kind_reads
 
 row-end-requires : tie.Need-row-end-requires
 row-end-requires c κs = search (rules, text_laws)

@@ -4,8 +4,8 @@ use Rattle.pieces.proofs.is_line.Statement.{statement}
 use Rattle.pieces.proofs.is_line.Tie as tie
 use Rattle.pieces.proofs.is_line.Reads as reads
 use Rattle.pieces.proofs.is_line.Lts as lts
-use Rattle.lists.proofs.same_bytes.Reads as same-bytes-reads
-use Rattle.pieces.proofs.text_end.Reads as text-end-reads
+use Rattle.lists.proofs.same_bytes.Reads as same_bytes_reads
+use Rattle.pieces.proofs.text_end.Reads as text_end_reads
 
 text-end-requires : tie.Need-text-end-requires
 text-end-requires c κs = search rules

@@ -4,9 +4,9 @@ use Rattle.pieces.proofs.is_mark.Statement.{statement}
 use Rattle.pieces.proofs.is_mark.Tie as tie
 use Rattle.pieces.proofs.is_mark.Reads as reads
 use Rattle.pieces.proofs.is_mark.Lts as lts
-use Rattle.lists.proofs.byte_at.Reads as byte-at-reads
-use Rattle.lists.proofs.find_byte.Reads as find-byte-reads
-use Rattle.lists.proofs.same_bytes.Reads as same-bytes-reads
+use Rattle.lists.proofs.byte_at.Reads as byte_at_reads
+use Rattle.lists.proofs.find_byte.Reads as find_byte_reads
+use Rattle.lists.proofs.same_bytes.Reads as same_bytes_reads
 
 byte-at-requires : tie.Need-byte-at-requires
 byte-at-requires c κs = search rules

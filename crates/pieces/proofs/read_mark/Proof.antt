@@ -4,10 +4,10 @@ use Rattle.pieces.proofs.read_mark.Statement.{statement}
 use Rattle.pieces.proofs.read_mark.Tie as tie
 use Rattle.pieces.proofs.read_mark.Reads as reads
 use Rattle.pieces.proofs.read_mark.Lts as lts
-use Rattle.lists.proofs.find_byte.Reads as find-byte-reads
-use Rattle.lists.proofs.same_bytes.Reads as same-bytes-reads
-use Rattle.pieces.proofs.read_numbers.Reads as read-numbers-reads
-use Rattle.pieces.proofs.valid_id.Reads as valid-id-reads
+use Rattle.lists.proofs.find_byte.Reads as find_byte_reads
+use Rattle.lists.proofs.same_bytes.Reads as same_bytes_reads
+use Rattle.pieces.proofs.read_numbers.Reads as read_numbers_reads
+use Rattle.pieces.proofs.valid_id.Reads as valid_id_reads
 
 find-byte-requires : tie.Need-find-byte-requires
 find-byte-requires c κs = search rules

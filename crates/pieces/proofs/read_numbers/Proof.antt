@@ -4,8 +4,8 @@ use Rattle.pieces.proofs.read_numbers.Statement.{statement}
 use Rattle.pieces.proofs.read_numbers.Tie as tie
 use Rattle.pieces.proofs.read_numbers.Reads as reads
 use Rattle.pieces.proofs.read_numbers.Lts as lts
-use Rattle.digits.proofs.short_value.Reads as short-value-reads
-use Rattle.lists.proofs.find_byte.Reads as find-byte-reads
+use Rattle.digits.proofs.short_value.Reads as short_value_reads
+use Rattle.lists.proofs.find_byte.Reads as find_byte_reads
 
 find-byte-requires : tie.Need-find-byte-requires
 find-byte-requires c κs = search rules

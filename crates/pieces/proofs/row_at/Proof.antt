@@ -4,9 +4,9 @@ use Rattle.pieces.proofs.row_at.Statement.{statement}
 use Rattle.pieces.proofs.row_at.Tie as tie
 use Rattle.pieces.proofs.row_at.Reads as reads
 use Rattle.pieces.proofs.row_at.Lts as lts
-use Rattle.pieces.proofs.any_row.Reads as any-row-reads
-use Rattle.pieces.proofs.row_kind.Reads as row-kind-reads
-use Rattle.pieces.proofs.text_end.Reads as text-end-reads
+use Rattle.pieces.proofs.any_row.Reads as any_row_reads
+use Rattle.pieces.proofs.row_kind.Reads as row_kind_reads
+use Rattle.pieces.proofs.text_end.Reads as text_end_reads
 
 text-end-requires : tie.Need-text-end-requires
 text-end-requires c κs = search rules

@@ -4,8 +4,8 @@ use Rattle.pieces.proofs.row_end.Statement.{statement}
 use Rattle.pieces.proofs.row_end.Tie as tie
 use Rattle.pieces.proofs.row_end.Reads as reads
 use Rattle.pieces.proofs.row_end.Lts as lts
-use Rattle.lists.proofs.find_byte.Reads as find-byte-reads
-use Rattle.pieces.proofs.skip_plain.Reads as skip-plain-reads
+use Rattle.lists.proofs.find_byte.Reads as find_byte_reads
+use Rattle.pieces.proofs.skip_plain.Reads as skip_plain_reads
 
 skip-plain-requires : tie.Need-skip-plain-requires
 skip-plain-requires c κs = search rules

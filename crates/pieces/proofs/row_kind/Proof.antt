@@ -4,8 +4,8 @@ use Rattle.pieces.proofs.row_kind.Statement.{statement}
 use Rattle.pieces.proofs.row_kind.Tie as tie
 use Rattle.pieces.proofs.row_kind.Reads as reads
 use Rattle.pieces.proofs.row_kind.Lts as lts
-use Rattle.heading.proofs.read_heading.Reads as read-heading-reads
-use Rattle.pieces.proofs.is_line.Reads as is-line-reads
+use Rattle.heading.proofs.read_heading.Reads as read_heading_reads
+use Rattle.pieces.proofs.is_line.Reads as is_line_reads
 
 read-heading-requires : tie.Need-read-heading-requires
 read-heading-requires c κs = search rules

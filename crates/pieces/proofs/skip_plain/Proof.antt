@@ -7,7 +7,7 @@ use Rattle.pieces.proofs.skip_plain.Statement.{statement}
 use Rattle.pieces.proofs.skip_plain.Tie as tie
 use Rattle.pieces.proofs.skip_plain.Reads as reads
 use Rattle.pieces.proofs.skip_plain.Lts as lts
-use Rattle.pieces.proofs.eight_plain.Reads as eight-plain-reads
+use Rattle.pieces.proofs.eight_plain.Reads as eight_plain_reads
 
 abbrev invariant-loop : tie.invariant-loop
 invariant-loop s at i₀ i = Skipped s at i

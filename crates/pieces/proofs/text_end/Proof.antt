@@ -6,7 +6,7 @@ use Rattle.pieces.proofs.text_end.Statement.{statement}
 use Rattle.pieces.proofs.text_end.Tie as tie
 use Rattle.pieces.proofs.text_end.Reads as reads
 use Rattle.pieces.proofs.text_end.Lts as lts
-use Rattle.pieces.proofs.skip_plain.Reads as skip-plain-reads
+use Rattle.pieces.proofs.skip_plain.Reads as skip_plain_reads
 
 abbrev invariant-loop : tie.invariant-loop
 invariant-loop s at i₀ i = Scanned s at i

@@ -4,7 +4,7 @@ use Rattle.pieces.proofs.valid_id.Statement.{statement}
 use Rattle.pieces.proofs.valid_id.Tie as tie
 use Rattle.pieces.proofs.valid_id.Reads as reads
 use Rattle.pieces.proofs.valid_id.Lts as lts
-use Rattle.digits.proofs.all_digits.Reads as all-digits-reads
+use Rattle.digits.proofs.all_digits.Reads as all_digits_reads
 
 returns : tie.Need-returns
 returns c = search (rules, id_laws)

@@ -6,8 +6,8 @@ use Rattle.scanning.proofs.char_of.Statement.{statement}
 use Rattle.scanning.proofs.char_of.Tie as tie
 use Rattle.scanning.proofs.char_of.Reads as reads
 use Rattle.scanning.proofs.char_of.Lts as lts
-use Rattle.scanning.proofs.in_rows.Reads as in-rows-reads
-use Rattle.scanning.proofs.other_char.Reads as other-char-reads
+use Rattle.scanning.proofs.in_rows.Reads as in_rows_reads
+use Rattle.scanning.proofs.other_char.Reads as other_char_reads
 
 mul-in-rows : tie.Need-overflow-mul-in-rows
 mul-in-rows c = search rules

@@ -5,7 +5,7 @@ use Rattle.scanning.proofs.first_pair.Statement.{statement}
 use Rattle.scanning.proofs.first_pair.Tie as tie
 use Rattle.scanning.proofs.first_pair.Reads as reads
 use Rattle.scanning.proofs.first_pair.Lts as lts
-use Rattle.scanning.proofs.first_rows.Reads as first-rows-reads
+use Rattle.scanning.proofs.first_rows.Reads as first_rows_reads
 
 add-first-rows : tie.Need-overflow-add-first-rows
 add-first-rows c = search rules

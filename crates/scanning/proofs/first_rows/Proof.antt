@@ -9,10 +9,10 @@ use Rattle.scanning.proofs.first_rows.Statement.{statement}
 use Rattle.scanning.proofs.first_rows.Tie as tie
 use Rattle.scanning.proofs.first_rows.Reads as reads
 use Rattle.scanning.proofs.first_rows.Lts as lts
-use Rattle.scanning.proofs.other.Reads as other-reads
-use Rattle.scanning.proofs.row1_cell.Reads as row1-cell-reads
-use Rattle.scanning.proofs.row2_cell.Reads as row2-cell-reads
-use Rattle.scanning.proofs.row3_cell.Reads as row3-cell-reads
+use Rattle.scanning.proofs.other.Reads as other_reads
+use Rattle.scanning.proofs.row1_cell.Reads as row1_cell_reads
+use Rattle.scanning.proofs.row2_cell.Reads as row2_cell_reads
+use Rattle.scanning.proofs.row3_cell.Reads as row3_cell_reads
 
 row1-cell-requires : tie.Need-row1-cell-requires
 row1-cell-requires c κs = search rules

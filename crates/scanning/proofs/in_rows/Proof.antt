@@ -4,10 +4,10 @@ use Rattle.scanning.proofs.in_rows.Statement.{statement}
 use Rattle.scanning.proofs.in_rows.Tie as tie
 use Rattle.scanning.proofs.in_rows.Reads as reads
 use Rattle.scanning.proofs.in_rows.Lts as lts
-use Rattle.scanning.proofs.first_pair.Reads as first-pair-reads
-use Rattle.scanning.proofs.kanji_pair.Reads as kanji-pair-reads
-use Rattle.scanning.proofs.next_pair.Reads as next-pair-reads
-use Rattle.scanning.proofs.other.Reads as other-reads
+use Rattle.scanning.proofs.first_pair.Reads as first_pair_reads
+use Rattle.scanning.proofs.kanji_pair.Reads as kanji_pair_reads
+use Rattle.scanning.proofs.next_pair.Reads as next_pair_reads
+use Rattle.scanning.proofs.other.Reads as other_reads
 
 first-pair-requires : tie.Need-first-pair-requires
 first-pair-requires c κs = search rules

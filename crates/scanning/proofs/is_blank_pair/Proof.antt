@@ -6,7 +6,7 @@ use Rattle.scanning.proofs.is_blank_pair.Statement.{statement}
 use Rattle.scanning.proofs.is_blank_pair.Tie as tie
 use Rattle.scanning.proofs.is_blank_pair.Reads as reads
 use Rattle.scanning.proofs.is_blank_pair.Lts as lts
-use Rattle.scanning.proofs.scripts_of.Reads as scripts-of-reads
+use Rattle.scanning.proofs.scripts_of.Reads as scripts_of_reads
 
 returns : tie.Need-returns
 returns c = blank_other c.before.args.a c.before.args.b c.if1.true

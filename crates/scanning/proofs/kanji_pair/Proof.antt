@@ -4,8 +4,8 @@ use Rattle.scanning.proofs.kanji_pair.Statement.{statement}
 use Rattle.scanning.proofs.kanji_pair.Tie as tie
 use Rattle.scanning.proofs.kanji_pair.Reads as reads
 use Rattle.scanning.proofs.kanji_pair.Lts as lts
-use Rattle.scanning.proofs.is_trail.Reads as is-trail-reads
-use Rattle.scanning.proofs.kanji_trail.Reads as kanji-trail-reads
+use Rattle.scanning.proofs.is_trail.Reads as is_trail_reads
+use Rattle.scanning.proofs.kanji_trail.Reads as kanji_trail_reads
 
 is-trail-requires : tie.Need-is-trail-requires
 is-trail-requires c κs = search rules

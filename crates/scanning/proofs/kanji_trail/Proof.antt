@@ -5,7 +5,7 @@ use Rattle.scanning.proofs.kanji_trail.Statement.{statement}
 use Rattle.scanning.proofs.kanji_trail.Tie as tie
 use Rattle.scanning.proofs.kanji_trail.Reads as reads
 use Rattle.scanning.proofs.kanji_trail.Lts as lts
-use Rattle.scanning.proofs.kanji_cell.Reads as kanji-cell-reads
+use Rattle.scanning.proofs.kanji_cell.Reads as kanji_cell_reads
 
 add-kanji-cell : tie.Need-overflow-add-kanji-cell
 add-kanji-cell c = search rules

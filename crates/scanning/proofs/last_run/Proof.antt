@@ -8,7 +8,7 @@ use Rattle.scanning.proofs.last_run.Statement.{statement}
 use Rattle.scanning.proofs.last_run.Tie as tie
 use Rattle.scanning.proofs.last_run.Reads as reads
 use Rattle.scanning.proofs.last_run.Lts as lts
-use Rattle.scanning.proofs.char_of.Reads as char-of-reads
+use Rattle.scanning.proofs.char_of.Reads as char_of_reads
 
 returns : tie.Need-returns
 returns c = search (rules, last_laws)

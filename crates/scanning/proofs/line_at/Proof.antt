@@ -4,7 +4,7 @@ use Rattle.scanning.proofs.line_at.Statement.{statement}
 use Rattle.scanning.proofs.line_at.Tie as tie
 use Rattle.scanning.proofs.line_at.Reads as reads
 use Rattle.scanning.proofs.line_at.Lts as lts
-use Rattle.scanning.proofs.scan_text.Reads as scan-text-reads
+use Rattle.scanning.proofs.scan_text.Reads as scan_text_reads
 
 returns : tie.Need-returns
 returns c = search (rules, line_laws)

@@ -5,7 +5,7 @@ use Rattle.scanning.proofs.next_pair.Statement.{statement}
 use Rattle.scanning.proofs.next_pair.Tie as tie
 use Rattle.scanning.proofs.next_pair.Reads as reads
 use Rattle.scanning.proofs.next_pair.Lts as lts
-use Rattle.scanning.proofs.next_rows.Reads as next-rows-reads
+use Rattle.scanning.proofs.next_rows.Reads as next_rows_reads
 
 add-next-rows : tie.Need-overflow-add-next-rows
 add-next-rows c = search rules

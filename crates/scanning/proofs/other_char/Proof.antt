@@ -7,8 +7,8 @@ use Rattle.scanning.proofs.other_char.Statement.{statement}
 use Rattle.scanning.proofs.other_char.Tie as tie
 use Rattle.scanning.proofs.other_char.Reads as reads
 use Rattle.scanning.proofs.other_char.Lts as lts
-use Rattle.scanning.proofs.kanji_pair.Reads as kanji-pair-reads
-use Rattle.scanning.proofs.other.Reads as other-reads
+use Rattle.scanning.proofs.kanji_pair.Reads as kanji_pair_reads
+use Rattle.scanning.proofs.other.Reads as other_reads
 
 sub-kanji-pair : tie.Need-overflow-sub-kanji-pair
 sub-kanji-pair c = search rules

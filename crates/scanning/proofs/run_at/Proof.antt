@@ -8,8 +8,8 @@ use Rattle.scanning.proofs.run_at.Statement.{statement}
 use Rattle.scanning.proofs.run_at.Tie as tie
 use Rattle.scanning.proofs.run_at.Reads as reads
 use Rattle.scanning.proofs.run_at.Lts as lts
-use Rattle.scanning.proofs.char_of.Reads as char-of-reads
-use Rattle.scanning.proofs.last_run.Reads as last-run-reads
+use Rattle.scanning.proofs.char_of.Reads as char_of_reads
+use Rattle.scanning.proofs.last_run.Reads as last_run_reads
 
 abbrev invariant-loop : tie.invariant-loop
 invariant-loop s from len last i₀ one₀ hiragana₀ katakana₀ either₀ i one hiragana katakana either = Running s from last i one hiragana katakana either

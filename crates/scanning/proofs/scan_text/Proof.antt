@@ -7,8 +7,8 @@ use Rattle.scanning.proofs.scan_text.Statement.{statement}
 use Rattle.scanning.proofs.scan_text.Tie as tie
 use Rattle.scanning.proofs.scan_text.Reads as reads
 use Rattle.scanning.proofs.scan_text.Lts as lts
-use Rattle.scanning.proofs.is_stop.Reads as is-stop-reads
-use Rattle.scanning.proofs.run_end.Reads as run-end-reads
+use Rattle.scanning.proofs.is_stop.Reads as is_stop_reads
+use Rattle.scanning.proofs.run_end.Reads as run_end_reads
 
 abbrev invariant-loop : tie.invariant-loop
 invariant-loop stops₀ s at i₀ good₀ commas₀ stops i good commas = Scanned s at stops₀ stops i good commas

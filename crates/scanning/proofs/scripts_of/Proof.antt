@@ -8,7 +8,7 @@ use Rattle.scanning.proofs.scripts_of.Statement.{statement}
 use Rattle.scanning.proofs.scripts_of.Tie as tie
 use Rattle.scanning.proofs.scripts_of.Reads as reads
 use Rattle.scanning.proofs.scripts_of.Lts as lts
-use Rattle.scanning.proofs.run_at.Reads as run-at-reads
+use Rattle.scanning.proofs.run_at.Reads as run_at_reads
 
 abbrev invariant-loop : tie.invariant-loop
 invariant-loop s i₀ one₀ hiragana₀ katakana₀ either₀ i one hiragana katakana either = Telling s i one hiragana katakana either

@@ -9,7 +9,7 @@ use Rattle.used.proofs.is_unused.Statement.{statement}
 use Rattle.used.proofs.is_unused.Tie as tie
 use Rattle.used.proofs.is_unused.Reads as reads
 use Rattle.used.proofs.is_unused.Lts as lts
-use Rattle.used.proofs.stands_at.Reads as stands-at-reads
+use Rattle.used.proofs.stands_at.Reads as stands_at_reads
 
 abbrev invariant-loop : tie.invariant-loop
 invariant-loop id used i₀ i = Left id used i

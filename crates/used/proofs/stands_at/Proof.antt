@@ -4,7 +4,7 @@ use Rattle.used.proofs.stands_at.Statement.{statement}
 use Rattle.used.proofs.stands_at.Tie as tie
 use Rattle.used.proofs.stands_at.Reads as reads
 use Rattle.used.proofs.stands_at.Lts as lts
-use Rattle.used.proofs.same_eight.Reads as same-eight-reads
+use Rattle.used.proofs.same_eight.Reads as same_eight_reads
 
 add-last : tie.Need-overflow-add-last
 add-last c = search rules

@@ -6,9 +6,9 @@ use Rattle.calendar.proofs.Day.is_written_form.Statement.{statement}
 use Rattle.calendar.proofs.Day.is_written_form.Tie as tie
 use Rattle.calendar.proofs.Day.is_written_form.Reads as reads
 use Rattle.calendar.proofs.Day.is_written_form.Lts as lts
-use Rattle.calendar.proofs.digits_value.Reads as digits-value-reads
-use Rattle.calendar.proofs.era_by_letter.Reads as era-by-letter-reads
-use Rattle.calendar.proofs.era_of_day.Reads as era-of-day-reads
+use Rattle.calendar.proofs.digits_value.Reads as digits_value_reads
+use Rattle.calendar.proofs.era_by_letter.Reads as era_by_letter_reads
+use Rattle.calendar.proofs.era_of_day.Reads as era_of_day_reads
 
 shared-slice-read-letter : tie.Need-shared-slice-read-letter
 shared-slice-read-letter c = search rules

@@ -7,10 +7,10 @@ use Rattle.calendar.proofs.Day.read.Tie as tie
 returns : tie.Need-returns
 returns c =
     let d4 = c.before.before.before.before in let d5 = d4.before in
-    read_8 _ d5.if1.true d4.digits_value.ensures c.before.before.n.given.1 c.from-gregorian.ensures
+    read_8 _ d5.if1.true d4.digits_value_lem.ensures c.before.before.n.given.1 c.from-gregorian.ensures
 
 returns-2 : tie.Need-returns-2
-returns-2 c = none_8 _ c.before.before.before.if1.true c.before.before.digits_value.ensures c.enum_told.given.1
+returns-2 c = none_8 _ c.before.before.before.if1.true c.before.before.digits_value_lem.ensures c.enum_told.given.1
 
 returns-3 : tie.Need-returns-3
 returns-3 c =

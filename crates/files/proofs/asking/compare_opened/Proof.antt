@@ -4,10 +4,10 @@ use Rattle.files.proofs.asking.compare_opened.Statement.{statement}
 use Rattle.files.proofs.asking.compare_opened.Tie as tie
 use Rattle.files.proofs.asking.compare_opened.Reads as reads
 use Rattle.files.proofs.asking.compare_opened.Lts as lts
-use Rattle.files.proofs.asking.compared.Reads as compared-reads
-use Rattle.inputs.proofs.read_all.Reads as read-all-reads
-use Rattle.libc.proofs.lseek.Reads as lseek-reads
-use Rattle.lists.proofs.same_bytes.Reads as same-bytes-reads
+use Rattle.files.proofs.asking.compared.Reads as compared_reads
+use Rattle.inputs.proofs.read_all.Reads as read_all_reads
+use Rattle.libc.proofs.lseek.Reads as lseek_reads
+use Rattle.lists.proofs.same_bytes.Reads as same_bytes_reads
 
 lseek-requires : tie.Need-lseek-requires
 lseek-requires c κs = search rules

@@ -6,8 +6,8 @@ use Rattle.files.proofs.asking.ended.Statement.{statement}
 use Rattle.files.proofs.asking.ended.Tie as tie
 use Rattle.files.proofs.asking.ended.Reads as reads
 use Rattle.files.proofs.asking.ended.Lts as lts
-use Rattle.io.proofs.buffer.Reads as buffer-reads
-use Rattle.lists.proofs.byte_at.Reads as byte-at-reads
+use Rattle.io.proofs.buffer.Reads as buffer_reads
+use Rattle.lists.proofs.byte_at.Reads as byte_at_reads
 
 abbrev invariant-loop : tie.invariant-loop
 invariant-loop name path₀ i₀ path i = length path ≡ 4096

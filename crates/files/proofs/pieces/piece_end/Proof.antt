@@ -6,7 +6,7 @@ use Rattle.files.proofs.pieces.piece_end.Statement.{statement}
 use Rattle.files.proofs.pieces.piece_end.Tie as tie
 use Rattle.files.proofs.pieces.piece_end.Reads as reads
 use Rattle.files.proofs.pieces.piece_end.Lts as lts
-use Rattle.files.proofs.pieces.begins_piece.Reads as begins-piece-reads
+use Rattle.files.proofs.pieces.begins_piece.Reads as begins_piece_reads
 
 abbrev invariant-loop : tie.invariant-loop
 invariant-loop pieces from at₀ at = (from < at) × (at ≤ length pieces)

@@ -5,11 +5,11 @@ use Rattle.order.proofs.State.doctor_refusal.Statement.{statement}
 use Rattle.order.proofs.State.doctor_refusal.Tie as tie
 use Rattle.order.proofs.State.doctor_refusal.Reads as reads
 use Rattle.order.proofs.State.doctor_refusal.Lts as lts
-use Rattle.order.proofs.State.barred.Reads as barred-reads
-use Rattle.order.proofs.State.rp_closed.Reads as rp-closed-reads
-use Rattle.order.proofs.in_front.Reads as in-front-reads
-use Rattle.order.proofs.in_rp.Reads as in-rp-reads
-use Rattle.order.proofs.pick.Reads as pick-reads
+use Rattle.order.proofs.State.barred.Reads as barred_reads
+use Rattle.order.proofs.State.rp_closed.Reads as rp_closed_reads
+use Rattle.order.proofs.in_front.Reads as in_front_reads
+use Rattle.order.proofs.in_rp.Reads as in_rp_reads
+use Rattle.order.proofs.pick.Reads as pick_reads
 
 barred-requires : tie.Need-barred-requires
 barred-requires c κs = tt

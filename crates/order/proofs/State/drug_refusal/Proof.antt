@@ -8,8 +8,8 @@ use Rattle.order.proofs.State.drug_refusal.Statement.{statement}
 use Rattle.order.proofs.State.drug_refusal.Tie as tie
 use Rattle.order.proofs.State.drug_refusal.Reads as reads
 use Rattle.order.proofs.State.drug_refusal.Lts as lts
-use Rattle.order.proofs.State.new_rp.Reads as new-rp-reads
-use Rattle.order.proofs.in_drugs.Reads as in-drugs-reads
+use Rattle.order.proofs.State.new_rp.Reads as new_rp_reads
+use Rattle.order.proofs.in_drugs.Reads as in_drugs_reads
 
 in-drugs-requires : tie.Need-in-drugs-requires
 in-drugs-requires c κs = tt

@@ -9,12 +9,12 @@ use Rattle.order.proofs.State.end_refusal.Statement.{statement}
 use Rattle.order.proofs.State.end_refusal.Tie as tie
 use Rattle.order.proofs.State.end_refusal.Reads as reads
 use Rattle.order.proofs.State.end_refusal.Lts as lts
-use Rattle.order.proofs.State.lacking.Reads as lacking-reads
-use Rattle.order.proofs.in_front.Reads as in-front-reads
-use Rattle.order.proofs.in_head.Reads as in-head-reads
-use Rattle.order.proofs.in_rest.Reads as in-rest-reads
-use Rattle.order.proofs.in_rp.Reads as in-rp-reads
-use Rattle.order.proofs.pick.Reads as pick-reads
+use Rattle.order.proofs.State.lacking.Reads as lacking_reads
+use Rattle.order.proofs.in_front.Reads as in_front_reads
+use Rattle.order.proofs.in_head.Reads as in_head_reads
+use Rattle.order.proofs.in_rest.Reads as in_rest_reads
+use Rattle.order.proofs.in_rp.Reads as in_rp_reads
+use Rattle.order.proofs.pick.Reads as pick_reads
 
 abbrev outside : State → Bool
 outside s = in_head s.place || eqb s.place 701

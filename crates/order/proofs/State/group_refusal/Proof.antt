@@ -6,12 +6,12 @@ use Rattle.order.proofs.State.group_refusal.Statement.{statement}
 use Rattle.order.proofs.State.group_refusal.Tie as tie
 use Rattle.order.proofs.State.group_refusal.Reads as reads
 use Rattle.order.proofs.State.group_refusal.Lts as lts
-use Rattle.order.proofs.State.lacking.Reads as lacking-reads
-use Rattle.order.proofs.in_front.Reads as in-front-reads
-use Rattle.order.proofs.in_head.Reads as in-head-reads
-use Rattle.order.proofs.in_rest.Reads as in-rest-reads
-use Rattle.order.proofs.in_rp.Reads as in-rp-reads
-use Rattle.order.proofs.pick.Reads as pick-reads
+use Rattle.order.proofs.State.lacking.Reads as lacking_reads
+use Rattle.order.proofs.in_front.Reads as in_front_reads
+use Rattle.order.proofs.in_head.Reads as in_head_reads
+use Rattle.order.proofs.in_rest.Reads as in_rest_reads
+use Rattle.order.proofs.in_rp.Reads as in_rp_reads
+use Rattle.order.proofs.pick.Reads as pick_reads
 
 pick-requires : tie.Need-pick-requires
 pick-requires c κs = tt

@@ -3,7 +3,7 @@ use Rattle.order.proofs.State.head_refusal.Statement.{statement}
 use Rattle.order.proofs.State.head_refusal.Tie as tie
 use Rattle.order.proofs.State.head_refusal.Reads as reads
 use Rattle.order.proofs.State.head_refusal.Lts as lts
-use Rattle.order.proofs.pick.Reads as pick-reads
+use Rattle.order.proofs.pick.Reads as pick_reads
 
 pick-requires : tie.Need-pick-requires
 pick-requires c κs = tt

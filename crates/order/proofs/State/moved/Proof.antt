@@ -8,7 +8,7 @@ use Rattle.order.proofs.State.moved.Statement.{statement}
 use Rattle.order.proofs.State.moved.Tie as tie
 use Rattle.order.proofs.State.moved.Reads as reads
 use Rattle.order.proofs.State.moved.Lts as lts
-use Rattle.order.proofs.Had.after.Reads as after-reads
+use Rattle.order.proofs.Had.after.Reads as after_reads
 
 add-line : tie.Need-overflow-add-line
 add-line c = search rules

@@ -6,9 +6,9 @@ use Rattle.order.proofs.State.new_rp.Statement.{statement}
 use Rattle.order.proofs.State.new_rp.Tie as tie
 use Rattle.order.proofs.State.new_rp.Reads as reads
 use Rattle.order.proofs.State.new_rp.Lts as lts
-use Rattle.order.proofs.in_front.Reads as in-front-reads
-use Rattle.order.proofs.in_rp.Reads as in-rp-reads
-use Rattle.order.proofs.pick.Reads as pick-reads
+use Rattle.order.proofs.in_front.Reads as in_front_reads
+use Rattle.order.proofs.in_rp.Reads as in_rp_reads
+use Rattle.order.proofs.pick.Reads as pick_reads
 
 cast-next : tie.Need-overflow-cast-next
 cast-next c = search rules

@@ -9,20 +9,20 @@ use Rattle.order.proofs.State.refusal.Statement.{statement}
 use Rattle.order.proofs.State.refusal.Tie as tie
 use Rattle.order.proofs.State.refusal.Reads as reads
 use Rattle.order.proofs.State.refusal.Lts as lts
-use Rattle.order.proofs.State.barred.Reads as barred-reads
-use Rattle.order.proofs.State.doctor_refusal.Reads as doctor-refusal-reads
-use Rattle.order.proofs.State.drug_refusal.Reads as drug-refusal-reads
-use Rattle.order.proofs.State.end_refusal.Reads as end-refusal-reads
-use Rattle.order.proofs.State.group_refusal.Reads as group-refusal-reads
-use Rattle.order.proofs.State.head_refusal.Reads as head-refusal-reads
-use Rattle.order.proofs.State.rest_refusal.Reads as rest-refusal-reads
-use Rattle.order.proofs.State.usage_refusal.Reads as usage-refusal-reads
-use Rattle.order.proofs.in_drugs.Reads as in-drugs-reads
-use Rattle.order.proofs.in_head.Reads as in-head-reads
-use Rattle.order.proofs.in_rest.Reads as in-rest-reads
-use Rattle.order.proofs.in_rp.Reads as in-rp-reads
-use Rattle.order.proofs.kept_rp.Reads as kept-rp-reads
-use Rattle.order.proofs.pick.Reads as pick-reads
+use Rattle.order.proofs.State.barred.Reads as barred_reads
+use Rattle.order.proofs.State.doctor_refusal.Reads as doctor_refusal_reads
+use Rattle.order.proofs.State.drug_refusal.Reads as drug_refusal_reads
+use Rattle.order.proofs.State.end_refusal.Reads as end_refusal_reads
+use Rattle.order.proofs.State.group_refusal.Reads as group_refusal_reads
+use Rattle.order.proofs.State.head_refusal.Reads as head_refusal_reads
+use Rattle.order.proofs.State.rest_refusal.Reads as rest_refusal_reads
+use Rattle.order.proofs.State.usage_refusal.Reads as usage_refusal_reads
+use Rattle.order.proofs.in_drugs.Reads as in_drugs_reads
+use Rattle.order.proofs.in_head.Reads as in_head_reads
+use Rattle.order.proofs.in_rest.Reads as in_rest_reads
+use Rattle.order.proofs.in_rp.Reads as in_rp_reads
+use Rattle.order.proofs.kept_rp.Reads as kept_rp_reads
+use Rattle.order.proofs.pick.Reads as pick_reads
 
 pick-requires : tie.Need-pick-requires
 pick-requires c κs = tt

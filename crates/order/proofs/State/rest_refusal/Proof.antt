@@ -4,10 +4,10 @@ use Rattle.order.proofs.State.rest_refusal.Statement.{statement}
 use Rattle.order.proofs.State.rest_refusal.Tie as tie
 use Rattle.order.proofs.State.rest_refusal.Reads as reads
 use Rattle.order.proofs.State.rest_refusal.Lts as lts
-use Rattle.order.proofs.State.rp_closed.Reads as rp-closed-reads
-use Rattle.order.proofs.in_front.Reads as in-front-reads
-use Rattle.order.proofs.in_rp.Reads as in-rp-reads
-use Rattle.order.proofs.pick.Reads as pick-reads
+use Rattle.order.proofs.State.rp_closed.Reads as rp_closed_reads
+use Rattle.order.proofs.in_front.Reads as in_front_reads
+use Rattle.order.proofs.in_rp.Reads as in_rp_reads
+use Rattle.order.proofs.pick.Reads as pick_reads
 
 in-rp-requires : tie.Need-in-rp-requires
 in-rp-requires c κs = tt

@@ -7,8 +7,8 @@ use Rattle.order.proofs.State.step.Statement.{statement}
 use Rattle.order.proofs.State.step.Tie as tie
 use Rattle.order.proofs.State.step.Reads as reads
 use Rattle.order.proofs.State.step.Lts as lts
-use Rattle.order.proofs.State.moved.Reads as moved-reads
-use Rattle.order.proofs.State.refusal.Reads as refusal-reads
+use Rattle.order.proofs.State.moved.Reads as moved_reads
+use Rattle.order.proofs.State.refusal.Reads as refusal_reads
 
 refusal-requires : tie.Need-refusal-requires
 refusal-requires c κs = tt

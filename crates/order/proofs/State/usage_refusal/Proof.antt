@@ -5,9 +5,9 @@ use Rattle.order.proofs.State.usage_refusal.Statement.{statement}
 use Rattle.order.proofs.State.usage_refusal.Tie as tie
 use Rattle.order.proofs.State.usage_refusal.Reads as reads
 use Rattle.order.proofs.State.usage_refusal.Lts as lts
-use Rattle.order.proofs.in_drugs.Reads as in-drugs-reads
-use Rattle.order.proofs.in_group_lem.Reads as in-group-reads
-use Rattle.order.proofs.kept_rp.Reads as kept-rp-reads
+use Rattle.order.proofs.in_drugs.Reads as in_drugs_reads
+use Rattle.order.proofs.in_group.Reads as in_group_reads
+use Rattle.order.proofs.kept_rp.Reads as kept_rp_reads
 
 in-drugs-requires : tie.Need-in-drugs-requires
 in-drugs-requires c κs = tt
