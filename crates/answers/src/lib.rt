@@ -1,5 +1,7 @@
 // How programs print a reply. `print` makes its line (printing, specs/Printed.antt), and everything that a program prints of a reply is written
 // from there, by one call of io::write_all. That `write` writes the bytes it is given is assumed, as the kit assumes it.
+#![tactic(auto)]
+
 ghost use Rattle.std.specs.Prelude.{[], ◌∷◌, ◌++◌, ◌+◌, ◌≤◌, length, take};
 ghost use Rattle.io.specs.Counts.{IsPrefixLen};
 ghost use Rattle.lists.specs.Lists.{bytes};

@@ -1,6 +1,8 @@
 // Writing into a buffer that the caller lends. Every writer has the contract `Wrote` (specs/Buffers.antt): the list that stands from
 // an index on, all else as it was, and the index after it handed back. proofs/Runs.antt joins one writing to the next (`then`), takes
 // a loop's turn (`carry`), and reads a written front back (`front`).
+#![tactic(auto)]
+
 ghost use Rattle.std.specs.Prelude.{[], ◌∷◌, ◌<◌};
 ghost use Rattle.digits.specs.Digits.{spell};
 ghost use Rattle.buffers.specs.Buffers.{Room, Wrote};

@@ -1,5 +1,7 @@
 // The days of the medication notebook: read from every spelling, written in the era form. Definitions: specs/Day.antt and
 // specs/Era.antt, and crate eras. A new era moves `eras` there and ERAS here, by one row each.
+#![tactic(auto)]
+
 ghost use Rattle.std.specs.Prelude.{◌≡◌, ◌≤◌, ltb, length};
 ghost use Rattle.calendar.specs.Digits.{number_from};
 ghost use Rattle.eras.specs.Day.{leap, month_length};

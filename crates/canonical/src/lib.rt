@@ -1,6 +1,8 @@
 // The canonical file: one pass that checks and writes, into an array of the call's own; then a copy, where the output can hold it.
 // All bytes but a few are kept, so the pass copies runs of them: an item that has another spelling ends a run, and so does the file's end.
 // Definitions: notebook, specs/Canonical.antt; the same as the code writes it: specs/Writing.antt.
+#![tactic(auto)]
+
 ghost use Rattle.std.specs.Prelude.{◌≡◌, [], ◌∷◌, ◌+◌, ◌≤◌, length, drop};
 ghost use Rattle.std.proofs.lemmas.List.Edits.{sets};
 ghost use Rattle.lists.specs.Searching.{part};

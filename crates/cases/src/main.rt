@@ -14,6 +14,8 @@
 //   should have left alone shows.
 // - All pairs of bytes: `256 lines`, then a line for each first byte with a sign for each second one. The pair stands inside an item of
 //   line 3; the sign is `.` where check accepts the file, the refusal's digit where it refuses line 3, and `?` where it refuses another.
+#![tactic(auto)]
+
 ghost use Rattle.std.specs.Prelude.{◌≤◌};
 
 use libc::{STDIN_FILENO, STDOUT_FILENO};

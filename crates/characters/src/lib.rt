@@ -1,5 +1,6 @@
 // Characters of a file, its text and its rows (document 01, "Lines and characters"): definitions (specs/) and laws (proofs/), no code. The code
 // is in `scanning`.
+#![tactic(auto)]
 
 // What the reading of one character answers: one of one byte, one of two bytes by its script, or none. `Either` are the two that both kana scripts
 // share. A new kind of answer about characters goes here.

@@ -2,6 +2,8 @@
 // the next one is looked at, so the first faulty line is the one that answers.
 // Definitions: notebook, specs/Notebook.antt (what a file is read to) and specs/Check.antt; the beginning in
 // specs/Opening.antt, the walk in specs/Walking.antt and specs/Turns.antt.
+#![tactic(auto)]
+
 ghost use Rattle.std.specs.Prelude.{◌≡◌, drop, []};
 ghost use Rattle.characters.specs.Rows.{rows};
 ghost use Rattle.scanning.specs.Scans.{Sixteen};

@@ -1,6 +1,8 @@
 // The table of records as numbers: the codes of its items, handed out with the law that they are the table's, and where each record's row stands.
 // Definitions: specs/Codes.antt. A changed row of the table moves CODES and `place_of` here and `codes` and `places` there; proofs/TableLaws.antt
 // compares both with the table.
+#![tactic(auto)]
+
 ghost use Rattle.std.specs.Prelude.{◌≡◌};
 ghost use Rattle.codes.specs.Codes.{Lent, InCodes, place_of};
 

@@ -1,5 +1,7 @@
 // Digits and short numbers: record numbers, RP values, brace values, the numbers of a record 911.
 // Definitions: specs/Digits.antt; specs/Short.antt says how "no number" is handed on.
+#![tactic(auto)]
+
 ghost use Rattle.std.specs.Prelude.{◌≡◌, ◌<◌};
 ghost use Rattle.lists.specs.Lists.{all};
 ghost use Rattle.digits.specs.Digits.{is_digit};

@@ -1,6 +1,8 @@
 // Pieces written to files of their own, PREFIX.1, PREFIX.2 .., all of them or none. Names are asked before anything is made. Each piece is
 // written to a temporary file of the same folder and synced there; once all are there, each takes its name, and the folder is synced. After any
 // failure everything that was made is removed. Nothing is told here: where standard error is closed, a file that is open may have its number.
+#![tactic(auto)]
+
 mod asking;
 mod folder;
 mod names;

@@ -1,5 +1,7 @@
 // The exported calls, for C and Rust. Every call takes any input, asks nothing of it, and returns one struct by value, so that a
 // refusal touches no lent memory. What a call replies and leaves in its output: replies, specs/Results.antt.
+#![tactic(auto)]
+
 ghost use Rattle.std.specs.Prelude.{◌≡◌, []};
 ghost use Rattle.replies.specs.Results.{reply_to, output_of};
 ghost use Rattle.notebook.specs.Check.{check_result};

@@ -1,5 +1,7 @@
 // A file of used IDs, brought to the run that the call takes. With a 0Ah in it, it is lines of 14 digits, each ended by 0Ah or 0Dh 0Ah, the last
 // perhaps by nothing; without one it is a run as it stands. Anything else is bad, so that no ID is passed over.
+#![tactic(auto)]
+
 ghost use Rattle.std.specs.Prelude.{◌≤◌, length};
 ghost use Rattle.id_file.specs.Positions.{Inside, Onward, Passed, MoveRoom, AtFront};
 

@@ -2,6 +2,8 @@
 // records a call, and the next call reads on. When the last one has found the file good and the output long enough, each writes its
 // entries there; so a refusal leaves the output as it was lent, and a short file costs no array for a long one.
 // Definitions: notebook, specs/Index.antt. A further number of an entry: CONTRIBUTING.md, "What moves together".
+#![tactic(auto)]
+
 ghost use Rattle.std.specs.Prelude.{◌-◌, length, ◌≡◌};
 ghost use Rattle.order.specs.State.{group_of, drug_of};
 ghost use Rattle.scanning.specs.Scans.{Sixteen};

@@ -1,5 +1,7 @@
 // Reading a descriptor, or a file that the command line names, into a lent buffer. io::read_full answers a short count both where the input ends
 // and where a read fails; here a failure is an answer of its own, so that no program takes a part of a file for the file.
+#![tactic(auto)]
+
 ghost use Rattle.std.specs.Prelude.{◌≤◌, length};
 ghost use Rattle.inputs.specs.AtFront.{AtFront};
 

@@ -2,6 +2,8 @@
 // Definitions: `fault` in records, specs/Items.antt; the numbers of kinds: specs/Codes.antt. A new kind is a function here, an arm
 // of `kind_fault` and a clause of `kind_of`. What a kind asks of characters (their width, their script, a blank at an end) it asks of the scripts
 // that the reading of the characters tells.
+#![tactic(auto)]
+
 ghost use Rattle.std.specs.Prelude.{◌≡◌, true, cond, not, ◌&&◌, ◌||◌, ◌+◌, ◌≤◌, ◌<◌, ◌/◌, ◌%◌, leb, eqb, length, get_or};
 ghost use Rattle.lists.specs.Lists.{all, member as member_of, unless as unless_of};
 ghost use Rattle.digits.specs.Digits.{number};

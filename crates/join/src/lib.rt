@@ -2,6 +2,8 @@
 // positions (specs/Spans.antt): its rows are the bytes from after its line 1 to its record 911. One pass over the bytes fills three tables of the
 // pieces as they lie: `ks` has the k of each, `starts` and `ends` its rows. Then pieces 1 to n are looked for among the k's, one after another (document
 // 02 (iv); crate search). Only where the pieces cannot be joined is the input read again for a broken line, whose number 2 goes before 19.
+#![tactic(auto)]
+
 ghost use Rattle.std.specs.Prelude.{◌≡◌, ◌++◌, ◌+◌, ◌≤◌, ◌<◌, length, drop};
 ghost use Rattle.lists.specs.Lists.{ok};
 ghost use Rattle.lists.specs.Searching.{part};

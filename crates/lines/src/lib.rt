@@ -1,6 +1,8 @@
 // One record line: its items at positions, its fault, and the facts of a record that the order of records looks at.
 // Definitions: records, specs/Records.antt (the fault); notebook, specs/Facts.antt (the facts); codes, specs/Codes.antt (the table as numbers);
 // specs/Codes.antt (a line by its items at positions); specs/Found.antt (what stands at a position, which is the answer of `read_line`).
+#![tactic(auto)]
+
 ghost use Rattle.std.specs.Prelude.{◌≡◌, [], ◌∷◌, ◌≤◌, ◌%◌, length, get_or, drop};
 ghost use Rattle.lists.specs.Lists.{same};
 ghost use Rattle.lists.specs.Searching.{find_from};

@@ -1,5 +1,7 @@
 // The base of every other crate: tests and cuts of byte lists (specs/Lists.antt) with their laws (proofs/), and a byte read at an
 // index that may lie past the end. A crate above this one names these and makes no second definition of its own.
+#![tactic(auto)]
+
 ghost use Rattle.std.specs.Prelude.{◌≡◌, ◌-◌, get_or};
 ghost use Rattle.lists.specs.Lists.{same};
 ghost use Rattle.lists.specs.Searching.{find_from};

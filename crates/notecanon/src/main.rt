@@ -1,6 +1,8 @@
 // Reads a file from standard input and writes its canonical file to standard output. A refusal goes to standard error, as `no` and its
 // number and line, and nothing to standard output. One byte more than the limit is read, which is enough to refuse a longer input. Where
 // reading or writing fails, a line `error` with the word that says which goes to standard error.
+#![tactic(auto)]
+
 use inputs::Input;
 use libc::{STDERR_FILENO, STDIN_FILENO};
 

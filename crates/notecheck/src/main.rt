@@ -1,6 +1,8 @@
 // Reads a file from standard input and writes `ok` and the counts of records, groups and drugs, or `no` and the refusal's number and
 // line. One byte more than the limit is read, which is enough to refuse a longer input. Where reading or writing fails, a line `error` with
 // the word that says which goes to standard error.
+#![tactic(auto)]
+
 use inputs::Input;
 use libc::{STDIN_FILENO, STDOUT_FILENO};
 

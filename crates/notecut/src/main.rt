@@ -5,6 +5,8 @@
 // which goes to standard error in place of `ok`, with the number of the piece where it is about one, and of the line or ID of a bad file of used IDs.
 // One byte more than the limit is read, which is enough to refuse a longer file. 999 pieces have at most 106,482 bytes, so the output is never too
 // short.
+#![tactic(auto)]
+
 ghost use Rattle.std.specs.Prelude.{◌≤◌};
 
 use files::Outcome;

@@ -2,6 +2,8 @@
 // and the refusal's number and line. One byte more than the limit is read, which is enough to refuse a longer input. A record's line
 // has at least 8 bytes (as 601,x, and its end), so there are at most 8,192 records. Where reading or writing fails, a line `error` with the
 // word that says which goes to standard error.
+#![tactic(auto)]
+
 ghost use Rattle.std.specs.Prelude.{◌+◌, ◌≤◌, ◌<◌, length};
 
 use inputs::Input;

@@ -2,6 +2,8 @@
 // file to standard output. A refusal goes to standard error, as `no` and its number and line, and nothing to standard output. One byte more
 // than the limit is read, which is enough to refuse longer pieces. Where reading or writing fails, a line `error` with the word that says
 // which goes to standard error, and `error read K` of the Kth file named.
+#![tactic(auto)]
+
 ghost use Rattle.inputs.specs.AtFront.{AtFront};
 
 use inputs::Input;

@@ -4,6 +4,8 @@
 // State (what a record changes). A new record number moves together: a row in `pattern` there, an arm in `refusal` with its
 // law in proofs/ByNumber.antt, an arm in `Had::after` where it changes what the group has had, and the part of the
 // pattern that it belongs to (`in_front`, `in_rp`, `in_rest`).
+#![tactic(auto)]
+
 ghost use Rattle.std.specs.Prelude.{◌≡◌, false, not, cond, ◌&&◌, [], ◌∷◌, eqb};
 ghost use Rattle.lists.specs.Lists.{member};
 ghost use Rattle.order.specs.declared.Moved.TheVariants.{On};

@@ -1,2 +1,3 @@
 // Packing into pieces of a capacity, as a theory of lists and lengths: definitions (specs/) and laws (proofs/). The code that follows them
 // stands in `cut`.
+#![tactic(auto)]

@@ -1,6 +1,8 @@
 // The pieces of a cut notebook: the record 911, and the rows of bytes that are pieces. A row is cut after each 0Ah, so that a 1Ah
 // between two pieces stands at the front of the next piece's line 1. Definitions: division, specs/Marks.antt and
 // specs/Pieces.antt; what the code answers, in their words: specs/Answers.antt.
+#![tactic(auto)]
+
 ghost use Rattle.std.specs.Prelude.{◌≡◌, ◌+◌, ◌≤◌, ◌<◌, length, drop};
 ghost use Rattle.characters.specs.Text.{text};
 ghost use Rattle.characters.specs.Rows.{is_line};

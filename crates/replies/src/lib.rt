@@ -1,6 +1,8 @@
 // What every call answers, and the one struct that it replies with. The exported struct is plain numbers, since an enum cannot be exported and a
 // result in lent memory would spoil "a refusal leaves all lent memory as lent". What a call has to give is a definition of its own, as
 // specs/Results.antt asks it. A call that replies with other fields: CONTRIBUTING.md.
+#![tactic(auto)]
+
 ghost use Rattle.std.specs.Prelude.{◌≡◌};
 ghost use Rattle.replies.specs.Replies.{reply_of};
 

@@ -3,6 +3,8 @@
 // lines, items, widths, scripts and edges take its answer. What one loop calls is compiled into it, however long it is, which is why the decision over
 // rows is cut as it is, and why there is one loop over characters; the last byte alone is read apart (`last_run`). A new kind of answer about
 // characters moves characters::Char and cell_script there, and `char_of` and `run_at` here.
+#![tactic(auto)]
+
 ghost use Rattle.std.specs.Prelude.{◌≡◌, true, false, cond, ◌&&◌, [], ◌∷◌, ◌+◌, ◌≤◌, ◌<◌, ◌%◌, eqb, length};
 ghost use Rattle.lists.specs.Lists.{within};
 ghost use Rattle.characters.specs.declared.Char.TheVariants.{Other, Bad};

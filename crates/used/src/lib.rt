@@ -1,5 +1,7 @@
 // Looks for an ID among those that have been used. Definitions: ids, specs/Used.antt; specs/Searching.antt has what the functions here ask and answer.
 // An ID of the run costs one comparison of eight bytes, its bytes 6 to 13, and a second where these are the same: 0 to 7.
+#![tactic(auto)]
+
 ghost use Rattle.std.specs.Prelude.{◌≡◌, ◌+◌, length, drop, take};
 ghost use Rattle.lists.specs.Lists.{same};
 ghost use Rattle.lists.specs.Searching.{part};
