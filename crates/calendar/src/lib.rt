@@ -13,20 +13,20 @@ ghost use Rattle.calendar.specs.Form.{TellsForm};
 use eras::Era;
 
 // What a run of digits reads to.
-#[derive(Drop)]
+#[derive(Clone, Copy)]
 pub enum Number {
     Is(u32),
     NoNumber,
 }
 
 // A day, as the number YYYYMMDD of the Gregorian calendar: the order of the numbers is the order of the days.
-#[derive(Drop)]
+#[derive(Clone, Copy)]
 pub struct Day {
     pub ymd: u32,
 }
 
 // What reading a day finds.
-#[derive(Drop)]
+#[derive(Clone, Copy)]
 pub enum DateRead {
     Date(Day),
     NotADate,

@@ -104,7 +104,7 @@ fn respelled(c: usize, s: &[u8]) -> bool
 
 // What is written of a file: all bytes before `from`, in their one spelling, before `at` of the output. The bytes from `from` on wait: they
 // are copied where a run ends.
-#[derive(Drop)]
+#[derive(Clone, Copy)]
 pub struct Run {
     pub from: usize,
     pub at: usize,

@@ -4,7 +4,7 @@
 
 // What the reading of one character answers: one of one byte, one of two bytes by its script, or none. `Either` are the two that both kana scripts
 // share. A new kind of answer about characters goes here.
-#[derive(Drop)]
+#[derive(Clone, Copy)]
 pub enum Char {
     One,
     Hiragana,

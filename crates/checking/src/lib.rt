@@ -20,7 +20,7 @@ ghost use Rattle.checking.specs.Opening.{Behind, OpeningOf};
 use replies::Answer;
 
 // How a file begins: the direction that line 1 tells (true: 1) and where the records begin; or a refusal with its line.
-#[derive(Drop)]
+#[derive(Clone, Copy)]
 pub enum Opening {
     Records(bool, usize),
     Refused(u32, u32),
@@ -63,7 +63,7 @@ pub fn close(st: order::State) -> Answer
 
 // What the record at a position does to a state: the next state, RP and doctor, where its text ends and how many commas it has; or a refusal;
 // or there is none.
-#[derive(Drop)]
+#[derive(Clone, Copy)]
 pub enum Turn {
     On(order::State, u32, u32, usize, usize),
     Refused(u32),

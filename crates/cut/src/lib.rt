@@ -18,7 +18,7 @@ ghost use Rattle.cut.specs.Loops.{OverOf, RunAt, Small, chosen, MarkRoom, piece_
 use replies::Answer;
 
 // The width of the count, the count, and the bytes that the pieces hold besides their records; or no width serves.
-#[derive(Drop)]
+#[derive(Clone, Copy)]
 pub enum Chosen {
     Count(usize, u32, usize),
     NoWidth,

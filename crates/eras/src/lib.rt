@@ -3,7 +3,7 @@
 #![tactic(auto)]
 
 // An era: its letter, the year before its year 1 times 10,000, and the first and the last day that are read under the letter.
-#[derive(Drop)]
+#[derive(Clone, Copy)]
 pub struct Era {
     pub letter: u8,
     pub before: u32,

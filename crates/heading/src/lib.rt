@@ -20,7 +20,7 @@ pub fn heading_row(provider: bool) -> [u8; 13]
 }
 
 // What a row is: line 1 of a direction (true: 1), or another.
-#[derive(Drop)]
+#[derive(Clone, Copy)]
 pub enum Heading {
     Line1(bool),
     Other,

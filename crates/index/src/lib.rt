@@ -63,7 +63,7 @@ fn put_entry(
 
 // What a call reads: 64 records, seven numbers each, and then it is in this state, with this clinic kept, at this position; or the last
 // records, with what check answers and how many numbers their entries have.
-#[derive(Drop)]
+#[derive(Clone, Copy)]
 enum Batch {
     Full(order::State, u32, usize),
     Last(Answer, usize),

@@ -433,7 +433,7 @@ fn digit_fits(k: usize, m: usize, d: u32) -> bool
 }
 
 // One to three digits from a position on: where they end, and their value.
-#[derive(Drop)]
+#[derive(Clone, Copy)]
 pub struct Spelled {
     pub end: usize,
     pub value: u32,

@@ -83,7 +83,7 @@ fn starts_well(s: &[u8]) -> bool
 }
 
 // Where the next piece's line 1 ends, and whether its direction is 1.
-#[derive(Drop)]
+#[derive(Clone, Copy)]
 pub enum Next {
     Opens(usize, bool),
     Over,
@@ -150,7 +150,7 @@ fn goes_on(s: &[u8], at: usize) -> bool
 }
 
 // The rows of a piece.
-#[derive(Drop)]
+#[derive(Clone, Copy)]
 pub enum Lines {
     // No record 911: where they end.
     Plain(usize),
@@ -213,7 +213,7 @@ fn read_lines(s: &[u8], from: usize) -> Lines
 }
 
 // A piece of a set: where its record 911 begins, where it ends, and its k.
-#[derive(Drop)]
+#[derive(Clone, Copy)]
 pub enum Member {
     Of(usize, usize, usize),
     Foreign,
@@ -307,7 +307,7 @@ fn collect(
 }
 
 // Where the rows of a piece lie.
-#[derive(Drop)]
+#[derive(Clone, Copy)]
 pub enum Spot {
     Rows(usize, usize),
     Nowhere,
@@ -328,7 +328,7 @@ fn find_rows(ks: &[u16], starts: &[usize], ends: &[usize], n: usize, k: usize) -
 }
 
 // The rows of pieces 1 to n in a buffer: the index after them.
-#[derive(Drop)]
+#[derive(Clone, Copy)]
 pub enum Filled {
     Full(usize),
     // The buffer cannot hold these rows.
@@ -384,7 +384,7 @@ fn gather(
 }
 
 // The joined file in a buffer: how many bytes; that the buffer cannot hold it; or a refusal's number and line.
-#[derive(Drop)]
+#[derive(Clone, Copy)]
 pub enum Made {
     Bytes(usize),
     Large,
@@ -435,7 +435,7 @@ fn join_found(
 }
 
 // The first piece of a set: its n and k, and where its rows begin, its record 911 begins, and it ends.
-#[derive(Drop)]
+#[derive(Clone, Copy)]
 pub struct FirstOfSet {
     pub n: usize,
     pub k: usize,

@@ -15,7 +15,7 @@ ghost use Rattle.lines.specs.Codes.{Commas, Spanned, SpanAt, Between, LineIn, It
 
 // ---- items at positions
 
-#[derive(Drop)]
+#[derive(Clone, Copy)]
 pub struct Span {
     pub from: usize,
     pub to: usize,
@@ -185,7 +185,7 @@ fn day_value(s: &[u8]) -> u32
 }
 
 // Whether the pairs of one line's values hold, and what the order looks at.
-#[derive(Drop)]
+#[derive(Clone, Copy)]
 pub struct Details {
     pub paired: bool,
     pub facts: order::Facts,
@@ -219,7 +219,7 @@ fn details_201(stops: &[usize; 16], n: usize, s: &[u8]) -> Details
 }
 
 // A 301: whether its pairs hold, and its form.
-#[derive(Drop)]
+#[derive(Clone, Copy)]
 pub struct Usage {
     pub paired: bool,
     pub form: u32,
@@ -350,7 +350,7 @@ fn record_details(number: u32, stops: &[usize; 16], n: usize, s: &[u8]) -> Detai
 // ---- a line of items
 
 // A line's first fault in its number and its items, 0 where it has none; and then its record's number.
-#[derive(Drop)]
+#[derive(Clone, Copy)]
 pub struct Numbered {
     pub fault: u8,
     pub number: u32,
@@ -462,7 +462,7 @@ fn quick_items(
 }
 
 // A line without a fault in characters, number and items: where its text ends, its commas, its record's number. An end of 0 says nothing.
-#[derive(Drop)]
+#[derive(Clone, Copy)]
 pub struct Quick {
     pub end: usize,
     pub commas: usize,
@@ -518,7 +518,7 @@ fn quick_line(
 
 // What stands at a position where a row begins, without its pairs: a line without a fault in characters, number and items, as where its text
 // ends, how many commas it has and its record's number; the number of its fault, 2 where the rule of line ends is broken; or nothing more.
-#[derive(Drop)]
+#[derive(Clone, Copy)]
 pub enum Found {
     Line(usize, usize, u32),
     Fault(u32),
@@ -579,7 +579,7 @@ fn find_line(
 
 // What stands at a position where a row begins: a record line without a fault, as its record's facts, where its text ends and how many commas
 // it has; the number of its fault, 2 where the rule of line ends is broken; or nothing more.
-#[derive(Drop)]
+#[derive(Clone, Copy)]
 pub enum LineRead {
     Record(order::Facts, usize, usize),
     Fault(u32),

@@ -18,7 +18,7 @@ ghost use Rattle.order.specs.Room.{Room};
 // All that the rules look at in a record; an empty item is 0, or false. `rp` is the first item of 201 to 391, `day` a
 // 5's day as YYYYMMDD, `schedule` an 11's fee schedule (third item), `form` a 301's form (fifth item), `named` whether
 // a 301 has a usage name.
-#[derive(Drop)]
+#[derive(Clone, Copy)]
 pub struct Facts {
     pub number: u32,
     pub rp: u32,
@@ -31,7 +31,7 @@ pub struct Facts {
 // What the open group has had; the Booleans stand together, so that they are copied as one word. `rp` is the open RP's
 // value, which is also the count of RPs; `had301` speaks of that RP. `doctor` and `drug` are the lines of the last 55 and
 // 201, 0 where there is none.
-#[derive(Drop)]
+#[derive(Clone, Copy)]
 pub struct Had {
     pub had11: bool,
     pub had51: bool,
@@ -45,7 +45,7 @@ pub struct Had {
 
 // Where the reader is. `provider`: the file is direction 1, from provider to patient. `place` is the number of the last
 // record and `line` its line; `groups` and `drugs` count the 5s and 201s so far; `day` is the last group's.
-#[derive(Drop)]
+#[derive(Clone, Copy)]
 pub struct State {
     pub provider: bool,
     pub place: u32,
@@ -57,7 +57,7 @@ pub struct State {
 }
 
 // A refusal's number, or the next state with the RP and the doctor's line of the record.
-#[derive(Drop)]
+#[derive(Clone, Copy)]
 pub enum Moved {
     Fault(u32),
     On(State, u32, u32),

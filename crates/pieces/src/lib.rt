@@ -33,7 +33,7 @@ pub fn is_mark(line: &[u8]) -> bool
 }
 
 // n and k of a record 911.
-#[derive(Drop)]
+#[derive(Clone, Copy)]
 pub enum Numbers {
     Read(usize, usize),
     Unread,
@@ -164,7 +164,7 @@ fn is_line(r: &[u8]) -> bool
 }
 
 // The kinds of rows; true: the direction is 1.
-#[derive(Drop)]
+#[derive(Clone, Copy)]
 pub enum Row {
     Head(bool),
     EndHead(bool),
@@ -198,7 +198,7 @@ fn row_kind(r: &[u8]) -> Row
 }
 
 // A row: where it ends, and its kind.
-#[derive(Drop)]
+#[derive(Clone, Copy)]
 pub struct RowRead {
     pub end: usize,
     pub kind: Row,

@@ -7,7 +7,7 @@ ghost use Rattle.std.specs.Prelude.{◌≡◌};
 ghost use Rattle.replies.specs.Replies.{reply_of};
 
 // The values of a call's result; or a refusal's number and line.
-#[derive(Drop)]
+#[derive(Clone, Copy)]
 pub enum Answer {
     Done(u32, u32, u32),
     Refused(u32, u32),
@@ -15,7 +15,7 @@ pub enum Answer {
 
 // refusal: document 01's number, 0 for accepted. line: the refusal's line. a, b, c: the values of the call's result.
 #[repr(C)]
-#[derive(Drop)]
+#[derive(Clone, Copy)]
 pub struct Reply {
     pub refusal: u64,
     pub line: u64,

@@ -226,7 +226,7 @@ fn char_of(a: u8, b: u8) -> Char
 // ---- characters one after another
 
 // How many bytes the characters of each script take. Those of no script of their own are what is left.
-#[derive(Drop)]
+#[derive(Clone, Copy)]
 pub struct Scripts {
     pub one: usize,
     pub hiragana: usize,
@@ -235,7 +235,7 @@ pub struct Scripts {
 }
 
 // Characters from a position on: where they end, and their scripts.
-#[derive(Drop)]
+#[derive(Clone, Copy)]
 pub struct Run {
     pub end: usize,
     pub scripts: Scripts,
@@ -385,7 +385,7 @@ pub fn run_end(s: &[u8], from: usize) -> usize
 }
 
 // A whole list: whether all of it is characters, and their scripts if so.
-#[derive(Drop)]
+#[derive(Clone, Copy)]
 pub struct Told {
     pub good: bool,
     pub scripts: Scripts,
@@ -465,7 +465,7 @@ fn is_stop(a: u8) -> bool
     (a == 0x0d) | (a == 0x0a) | (a == 0x1a)
 }
 
-#[derive(Drop)]
+#[derive(Clone, Copy)]
 pub struct Scan {
     pub end: usize,
     pub good: bool,
@@ -518,7 +518,7 @@ pub fn scan_text(stops: &mut [usize; 16], s: &[u8], at: usize) -> Scan
 }
 
 // What stands at a position where a row begins.
-#[derive(Drop)]
+#[derive(Clone, Copy)]
 pub enum Line {
     // A line that 0Dh 0Ah ends: where its text ends, whether it is characters, and its commas.
     Whole(usize, bool, usize),
