@@ -17,15 +17,18 @@ MODULES = [("replies", "Contracts", "CallContracts")]
 
 # names whose new spelling something else has already, or that the rule would spell badly
 OTHERWISE = {
-    # the library has these two under the same spelling
+    # the library has these under the same spelling
+    "le-leb": "le-leb",
+    "drop-drop": "drop-drop",
+    "get_or-drop": "get_or-drop",
     "length-append": "length-append",
     "eq-eqb": "eq-eqb",
 }
 
 TOKEN = re.compile(r"[^\s(){}\[\].,;:\"«»⟦⟧|λ¬∙→×⊎↔≡≢]+")
 TOP = re.compile(r"^(?:unfoldable |abbrev |unfolding )?(?:pub )?(data |record )?([^\s:(){}.,;]+)(?=\s*[:({])")
-MEMBER = re.compile(r"^  (?:pub )?([^\s:(){}.,;]+)\s*(?:\{[^}]*\}|\([^)]*\))*\s*:(?=\s)")
-CONSTRUCTORS = re.compile(r"^  ([a-zA-Z][^:]*?)\s*:(?=\s)")
+MEMBER = re.compile(r"^ {2,8}(?:pub )?([^\s:(){}.,;]+)\s*(?:\{[^}]*\}|\([^)]*\))*\s*:(?=\s)")
+CONSTRUCTORS = re.compile(r"^ {2,8}([a-zA-Z][^:]*?)\s*:(?=\s)")
 
 
 def files(root, ends):

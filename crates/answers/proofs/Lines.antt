@@ -63,26 +63,26 @@ module _ (a b c : ℕ) where
   none_wrote (suc count) h g = absurd (omega arith)
 
   module _ {d d₁ : List ℕ} {at i : ℕ} (x : Wrote d d₁ at i (0x20 ∷ decimal a)) where
-    pub one-wrote : (count : ℕ) → 1 ≤ count → count < 2 → Wrote d d₁ at i (spaced (take count (a ∷ b ∷ c ∷ [])))
-    one-wrote zero h g = absurd (omega arith)
-    one-wrote (suc zero) h g = number_more a [] x (no_number (omega (arith, x.high, x.size)))
-    one-wrote (suc (suc count)) h g = absurd (omega arith)
+    pub one_wrote : (count : ℕ) → 1 ≤ count → count < 2 → Wrote d d₁ at i (spaced (take count (a ∷ b ∷ c ∷ [])))
+    one_wrote zero h g = absurd (omega arith)
+    one_wrote (suc zero) h g = number_more a [] x (no_number (omega (arith, x.high, x.size)))
+    one_wrote (suc (suc count)) h g = absurd (omega arith)
 
     module _ {d₂ : List ℕ} {j : ℕ} (y : Wrote d₁ d₂ i j (0x20 ∷ decimal b)) where
-      pub two-wrote : (count : ℕ) → 2 ≤ count → count < 3 → Wrote d d₂ at j (spaced (take count (a ∷ b ∷ c ∷ [])))
-      two-wrote zero h g = absurd (omega arith)
-      two-wrote (suc zero) h g = absurd (omega arith)
-      two-wrote (suc (suc zero)) h g = number_more a (b ∷ []) x (number_more b [] y (no_number (omega (arith, y.high, y.size))))
-      two-wrote (suc (suc (suc count))) h g = absurd (omega arith)
+      pub two_wrote : (count : ℕ) → 2 ≤ count → count < 3 → Wrote d d₂ at j (spaced (take count (a ∷ b ∷ c ∷ [])))
+      two_wrote zero h g = absurd (omega arith)
+      two_wrote (suc zero) h g = absurd (omega arith)
+      two_wrote (suc (suc zero)) h g = number_more a (b ∷ []) x (number_more b [] y (no_number (omega (arith, y.high, y.size))))
+      two_wrote (suc (suc (suc count))) h g = absurd (omega arith)
 
-      pub three-wrote : (count : ℕ) {d₃ : List ℕ} {k : ℕ} → 3 ≤ count → Wrote d₂ d₃ j k (0x20 ∷ decimal c)
+      pub three_wrote : (count : ℕ) {d₃ : List ℕ} {k : ℕ} → 3 ≤ count → Wrote d₂ d₃ j k (0x20 ∷ decimal c)
           → Wrote d d₃ at k (spaced (take count (a ∷ b ∷ c ∷ [])))
-      three-wrote zero h z = absurd (omega arith)
-      three-wrote (suc zero) h z = absurd (omega arith)
-      three-wrote (suc (suc zero)) h z = absurd (omega arith)
-      three-wrote (suc (suc (suc zero))) h z =
+      three_wrote zero h z = absurd (omega arith)
+      three_wrote (suc zero) h z = absurd (omega arith)
+      three_wrote (suc (suc zero)) h z = absurd (omega arith)
+      three_wrote (suc (suc (suc zero))) h z =
           number_more a (b ∷ c ∷ []) x (number_more b (c ∷ []) y (number_more c [] z (no_number (omega (arith, z.high, z.size)))))
-      three-wrote (suc (suc (suc (suc count)))) h z =
+      three_wrote (suc (suc (suc (suc count)))) h z =
           number_more a (b ∷ c ∷ []) x (number_more b (c ∷ []) y (number_more c [] z (no_number (omega (arith, z.high, z.size)))))
 
 -- ---- a line

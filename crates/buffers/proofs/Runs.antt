@@ -77,8 +77,8 @@ module _ (d : List ℕ) (at : ℕ) (w : List ℕ) where
   copying_start h = record { left = refl; next = omega arith; within = omega arith; size = refl; room = h }
 
   module _ (d' : List ℕ) (i o : ℕ) (v : Copying d at w d' i o) where
-    pub copying-more : i < length w → Copying d at w (set d' o (get_or w i 0)) (i + 1) (o + 1)
-    copying-more h = record {
+    pub copying_more : i < length w → Copying d at w (set d' o (get_or w i 0)) (i + 1) (o + 1)
+    copying_more h = record {
       left = rw (add-one o) (rw (drop_step w i 0 h) at v.left);
       next = omega (arith, v.next);
       within = omega arith;
@@ -86,15 +86,15 @@ module _ (d : List ℕ) (at : ℕ) (w : List ℕ) where
       room = v.room;
     }
 
-    pub copying-done : length w ≤ i → Wrote d d' at o w
-    copying-done h = record {
+    pub copying_done : length w ≤ i → Wrote d d' at o w
+    copying_done h = record {
       next = omega (arith, v.next, v.within);
       list = rw (drop_of_length-le w h) at v.left;
       size = v.size;
       high = omega (arith, v.next, v.within, v.room);
     }
 
-pub ruleset copying_laws = (copying_start, copying-more, copying-done)
+pub ruleset copying_laws = (copying_start, copying_more, copying_done)
 
 -- ---- a number by its width
 
@@ -118,37 +118,37 @@ module _ (d : List ℕ) (at v : ℕ) (r : Room d at (spell v)) where
   wrote_1 h = rw (spell_1 v h) (record { next = refl; list = refl; size = simp length-set; high = omega (arith, room_1 h) })
 
   module _ (g : 9 < v) (h : v ≤ 99) where
-    room-2 : at + 1 < length d
-    room-2 = omega (arith, ap length (spell_2 v g h))
+    room_2 : at + 1 < length d
+    room_2 = omega (arith, ap length (spell_2 v g h))
 
-    pub room-2-first : at < length d
-    room-2-first = omega (arith, room-2)
+    pub room_2_first : at < length d
+    room_2_first = omega (arith, room_2)
 
-    pub room-2-last : (x : ℕ) → at + 1 < length (set d at x)
-    room-2-last x = simp length-set room-2
+    pub room_2_last : (x : ℕ) → at + 1 < length (set d at x)
+    room_2_last x = simp length-set room_2
 
-    pub wrote-2 : Wrote d (set (set d at (48 + v / 10)) (at + 1) (48 + v % 10)) at (at + 2) (spell v)
-    wrote-2 = rw (spell_2 v g h) (record { next = refl; list = rw add-one; size = simp length-set; high = omega (arith, room-2) })
+    pub wrote_2 : Wrote d (set (set d at (48 + v / 10)) (at + 1) (48 + v % 10)) at (at + 2) (spell v)
+    wrote_2 = rw (spell_2 v g h) (record { next = refl; list = rw add-one; size = simp length-set; high = omega (arith, room_2) })
 
   module _ (h : 99 < v) where
-    room-3 : at + 2 < length d
-    room-3 = omega (arith, ap length (spell_3 v h))
+    room_3 : at + 2 < length d
+    room_3 = omega (arith, ap length (spell_3 v h))
 
-    pub room-3-first : at < length d
-    room-3-first = omega (arith, room-3)
+    pub room_3_first : at < length d
+    room_3_first = omega (arith, room_3)
 
-    pub room-3-second : (x : ℕ) → at + 1 < length (set d at x)
-    room-3-second x = simp length-set (omega (arith, room-3))
+    pub room_3_second : (x : ℕ) → at + 1 < length (set d at x)
+    room_3_second x = simp length-set (omega (arith, room_3))
 
-    pub room-3-last : (x y : ℕ) → at + 2 < length (set (set d at x) (at + 1) y)
-    room-3-last x y = simp length-set room-3
+    pub room_3_last : (x y : ℕ) → at + 2 < length (set (set d at x) (at + 1) y)
+    room_3_last x y = simp length-set room_3
 
-    pub wrote-3 : Wrote d (set (set (set d at (48 + v / 100)) (at + 1) (48 + v / 10 % 10)) (at + 2) (48 + v % 10)) at (at + 3) (spell v)
-    wrote-3 =
+    pub wrote_3 : Wrote d (set (set (set d at (48 + v / 100)) (at + 1) (48 + v / 10 % 10)) (at + 2) (48 + v % 10)) at (at + 3) (spell v)
+    wrote_3 =
         let e : at + 2 ≡ suc (suc at) = omega arith in
-        rw (spell_3 v h) (record { next = refl; list = rw (e, add-one); size = simp length-set; high = omega (arith, room-3) })
+        rw (spell_3 v h) (record { next = refl; list = rw (e, add-one); size = simp length-set; high = omega (arith, room_3) })
 
-pub ruleset number_laws = (room_1, wrote_1, room-2-first, room-2-last, wrote-2, room-3-first, room-3-second, room-3-last, wrote-3)
+pub ruleset number_laws = (room_1, wrote_1, room_2_first, room_2_last, wrote_2, room_3_first, room_3_second, room_3_last, wrote_3)
 
 pub seven_length : (a b c d e f g : ℕ) → length (seven_numbers a b c d e f g) ≡ 7
 unfolding seven_numbers

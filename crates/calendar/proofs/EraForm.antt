@@ -107,9 +107,9 @@ module _ (s : List ℕ) (n : ℕ) (e : read_day s ≡ Date (record { ymd = n }))
   unfolding read_day
   era_spelled o = go (eqb (length s) 8) refl (all is_digit s) refl (eqb (length s) 7) refl (all is_digit (drop 1 s)) refl e
     where
-      first-digit : (s : List ℕ) → length s ≡ 8 → all is_digit s ≡ true → get_or s 0 0 ≤ 57
-      first-digit [] z h = absurd (omega arith)
-      first-digit (b ∷ l) z h = (digit_is b (both (is_digit b) _ h).0).1
+      first_digit : (s : List ℕ) → length s ≡ 8 → all is_digit s ≡ true → get_or s 0 0 ≤ 57
+      first_digit [] z h = absurd (omega arith)
+      first_digit (b ∷ l) z h = (digit_is b (both (is_digit b) _ h).0).1
 
       by : (s : List ℕ) → length s ≡ 7 → all is_digit (drop 1 s) ≡ true → from_era (get_or s 0 0) (value 0 (drop 1 s)) ≡ Date (record { ymd = n }) → EraSpelled s n
       by [] z h f = absurd (omega arith)
@@ -123,7 +123,7 @@ module _ (s : List ℕ) (n : ℕ) (e : read_day s ≡ Date (record { ymd = n }))
 
       go : (v : Bool) → eqb (length s) 8 ≡ v → (w : Bool) → all is_digit s ≡ w → (x : Bool) → eqb (length s) 7 ≡ x → (y : Bool) → all is_digit (drop 1 s) ≡ y
           → cond (v && w) (gregorian (value 0 s)) (cond (x && y) (from_era (get_or s 0 0) (value 0 (drop 1 s))) NotADate) ≡ Date (record { ymd = n }) → EraSpelled s n
-      go true p true h x q y r f = absurd (omega (arith, first-digit s (eqb-true (length s) 8 p) h, o (eqb-true (length s) 8 p)))
+      go true p true h x q y r f = absurd (omega (arith, first_digit s (eqb-true (length s) 8 p) h, o (eqb-true (length s) 8 p)))
       go true p false h x q y r f = seven x q y r f
       go false p w h x q y r f = seven x q y r f
 
@@ -202,25 +202,25 @@ module _ (s : List ℕ) (z : length s ≡ 7) {b : ℕ} (i : b ≡ get_or s 0 0) 
     rest : k ≡ number_from 0 (drop 1 s)
     rest = p ∙ ap (number_from 0) (rest_all 1 s)
 
-    value-is : {m n : ℕ} → k ≡ Is m → (w : EraSpelled s n) → value 0 w.rest ≡ m
-    value-is q w = ap (λ (t : List ℕ). value 0 (drop 1 t)) (sym w.is) ∙ (some_digits (drop 1 s) rest q).1
+    value_is : {m n : ℕ} → k ≡ Is m → (w : EraSpelled s n) → value 0 w.rest ≡ m
+    value_is q w = ap (λ (t : List ℕ). value 0 (drop 1 t)) (sym w.is) ∙ (some_digits (drop 1 s) rest q).1
 
-    pub form-long : {m : ℕ} → k ≡ Is m → 999999 < m → TellsForm false s
-    form-long {m} q l = record { is = λ n h. absurd (too_long (spelled h)) }
+    pub form_long : {m : ℕ} → k ≡ Is m → 999999 < m → TellsForm false s
+    form_long {m} q l = record { is = λ n h. absurd (too_long (spelled h)) }
       where
         too_long : {n : ℕ} → EraSpelled s n → ⊥
-        too_long w = omega (arith, w.within.short, value-is q w)
+        too_long w = omega (arith, w.within.short, value_is q w)
 
-    pub form-on : {m : ℕ} {x : Era} → k ≡ Is m → x ≡ era_on (e.before + m) → TellsForm (eqb x.letter b) s
-    form-on {m} {x} q r = record { is = λ n h. ap (λ (y : Era). eqb y.letter b) (r ∙ ap era_on (day n (spelled h))) ∙ is_under h }
+    pub form_on : {m : ℕ} {x : Era} → k ≡ Is m → x ≡ era_on (e.before + m) → TellsForm (eqb x.letter b) s
+    form_on {m} {x} q r = record { is = λ n h. ap (λ (y : Era). eqb y.letter b) (r ∙ ap era_on (day n (spelled h))) ∙ is_under h }
       where
         day : (n : ℕ) → EraSpelled s n → e.before + m ≡ n
-        day n w = omega (arith, w.within.is, ap (λ (y : Era). y.before) (era_is w), value-is q w)
+        day n w = omega (arith, w.within.is, ap (λ (y : Era). y.before) (era_is w), value_is q w)
 
     pub form_none : k ≡ NoNumber → TellsForm false s
-    form_none q = record { is = λ n h. absurd (digits-there (spelled h)) }
+    form_none q = record { is = λ n h. absurd (digits_there (spelled h)) }
       where
-        digits-there : {n : ℕ} → EraSpelled s n → ⊥
-        digits-there w = false≢true (sym (no_digits (drop 1 s) rest q) ∙ ap (λ (t : List ℕ). all is_digit (drop 1 t)) w.is ∙ w.numeric)
+        digits_there : {n : ℕ} → EraSpelled s n → ⊥
+        digits_there w = false≢true (sym (no_digits (drop 1 s) rest q) ∙ ap (λ (t : List ℕ). all is_digit (drop 1 t)) w.is ∙ w.numeric)
 
-pub ruleset form_laws = (form_always, form-long, form-on, form_none)
+pub ruleset form_laws = (form_always, form_long, form_on, form_none)

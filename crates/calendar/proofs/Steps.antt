@@ -98,13 +98,13 @@ module _ (s : List ℕ) {x : Number} where
     rest : x ≡ number_from 0 (drop 1 s)
     rest = p ∙ ap (number_from 0) (rest_all 1 s)
 
-    pub read-7 : {n : ℕ} {r : DateRead} → x ≡ Is n → r ≡ from_era (get_or s 0 0) n → r ≡ read_day s
+    pub read_7 : {n : ℕ} {r : DateRead} → x ≡ Is n → r ≡ from_era (get_or s 0 0) n → r ≡ read_day s
     unfolding read_day
-    read-7 q e = let d = some_digits (drop 1 s) rest q in e ∙ simp (h, d.0, d.1)
+    read_7 q e = let d = some_digits (drop 1 s) rest q in e ∙ simp (h, d.0, d.1)
 
-    pub none-7 : x ≡ NoNumber → NotADate ≡ read_day s
+    pub none_7 : x ≡ NoNumber → NotADate ≡ read_day s
     unfolding read_day
-    none-7 q = simp (h, no_digits (drop 1 s) rest q)
+    none_7 q = simp (h, no_digits (drop 1 s) rest q)
 
 pub none_else : (s : List ℕ) → (length s ≡ 8 → ⊥) → (length s ≡ 7 → ⊥) → NotADate ≡ read_day s
 unfolding read_day

@@ -38,8 +38,8 @@ use Rattle.notebook.proofs.Placing.{Placed, placed, place_number}
 use Rattle.checking.specs.declared.Turn.{Turn}
 use Rattle.checking.specs.declared.Turn.TheVariants.{Over, Refused as TurnRefused, On as TurnOn}
 use Rattle.checking.specs.Turns.{StepAt, RefusedAt, broken, faulty, TurnOf}
-use Rattle.checking.proofs.TurnLaws.{turn_facts, turn_over, turn_refused, turn_step, turn-fits}
-use Rattle.checking.proofs.LineFacts.{whole-line, whole_length, records_end, records_mark, records_broken, records-on}
+use Rattle.checking.proofs.TurnLaws.{turn_facts, turn_over, turn_refused, turn_step, turn_fits}
+use Rattle.checking.proofs.LineFacts.{whole_line, whole_length, records_end, records_mark, records_broken, records_on}
 use Rattle.replies.specs.declared.Answer.{Answer}
 use Rattle.replies.specs.declared.Answer.TheVariants.{Done, Refused}
 use Rattle.notebook.specs.Canonical.{record_row, record_rows}
@@ -153,46 +153,46 @@ module _ {provider : Bool} {s : List ℕ} {from : ℕ} {d : List ℕ} {st : Stat
     ends : {r : Answer} → records_from st (rows (drop at s)) ≡ closed st → r ≡ closing st next → Poured (length d) (poured d from (records_from (start provider) (rows (drop from s)))) d' r
     ends {r} q e = answer (subst (λ (x : Res (List Record)). PouredMeans (poured d' next x) d' r) (sym q) (pour_end d' st next pouring_end pouring_inside e))
 
-    poured-end : {r : Answer} → k ≡ End → r ≡ closing st next → Poured (length d) (poured d from (records_from (start provider) (rows (drop from s)))) d' r
-    poured-end e q = ends (records_end w st e) q
+    poured_end : {r : Answer} → k ≡ End → r ≡ closing st next → Poured (length d) (poured d from (records_from (start provider) (rows (drop from s)))) d' r
+    poured_end e q = ends (records_end w st e) q
 
-    poured-mark : {r : Answer} → k ≡ Mark → r ≡ closing st next → Poured (length d) (poured d from (records_from (start provider) (rows (drop from s)))) d' r
-    poured-mark e q = ends (records_mark w st e) q
+    poured_mark : {r : Answer} → k ≡ Mark → r ≡ closing st next → Poured (length d) (poured d from (records_from (start provider) (rows (drop from s)))) d' r
+    poured_mark e q = ends (records_mark w st e) q
 
     refusal : {n : ℕ} → records_from st (rows (drop at s)) ≡ refused n (st.line + 1) → Poured (length d) (poured d from (records_from (start provider) (rows (drop from s)))) d' (Refused n (st.line + 1))
     unfolding poured
     refusal {n} q = answer {r = Refused n (st.line + 1)} (ap (poured d' next) q)
 
-    poured-broken : k ≡ Broken → Poured (length d) (poured d from (records_from (start provider) (rows (drop from s)))) d' (Refused 2 (st.line + 1))
-    poured-broken e = refusal (records_broken w st e)
+    poured_broken : k ≡ Broken → Poured (length d) (poured d from (records_from (start provider) (rows (drop from s)))) d' (Refused 2 (st.line + 1))
+    poured_broken e = refusal (records_broken w st e)
 
     module _ {e : ℕ} {good : Bool} {commas : ℕ} (q : k ≡ Whole e good commas) where
       onwards : Moved → Res (List Record)
       onwards = onward (st.line + 1) (record_of (part s at e)) (λ t. records_from t (rows (drop (e + 2) s)))
 
-      poured-refused : {j : ℕ} → step_line st (part s at e) ≡ StepRefused j → Poured (length d) (poured d from (records_from (start provider) (rows (drop from s)))) d' (Refused j (st.line + 1))
+      poured_refused : {j : ℕ} → step_line st (part s at e) ≡ StepRefused j → Poured (length d) (poured d from (records_from (start provider) (rows (drop from s)))) d' (Refused j (st.line + 1))
       unfolding onward onwards
-      poured-refused u = refusal (records-on w q st ∙ ap onwards u)
+      poured_refused u = refusal (records_on w q st ∙ ap onwards u)
 
-      pouring-on : {d'' : List ℕ} {after : State} {rp doctor behind : ℕ} → step_line st (part s at e) ≡ On after rp doctor → Wrote d' d'' next behind (record_row (record_of (part s at e)))
+      pouring_on : {d'' : List ℕ} {after : State} {rp doctor behind : ℕ} → step_line st (part s at e) ≡ On after rp doctor → Wrote d' d'' next behind (record_row (record_of (part s at e)))
           → Pouring provider s from d after (e + 2) d'' behind
       unfolding onward onwards
-      pouring-on {d''} {after} {rp} {doctor} {behind} u x =
+      pouring_on {d''} {after} {rp} {doctor} {behind} u x =
           let p : Placed st (part s at e) after rp doctor = placed st (part s at e) after rp doctor u in
           let l : after.line ≡ st.line + 1 = next_line st (facts_of (record_of (part s at e))) after rp doctor p.step in
           let short : length (record_row (record_of (part s at e))) ≤ length (part s at e) + 2 = row_length st (part s at e) p.sound in
           record {
-            left = v.left ∙ ap (poured d' next) (records-on w q st ∙ ap onwards u)
+            left = v.left ∙ ap (poured d' next) (records_on w q st ∙ ap onwards u)
                 ∙ pour_record d' next (record_of (part s at e)) (records_from after (rows (drop (e + 2) s)))
                 ∙ ap (λ (y : List ℕ). poured y (next + length (record_row (record_of (part s at e)))) (records_from after (rows (drop (e + 2) s)))) (sym x.list)
                 ∙ ap (λ (y : ℕ). poured d'' y (records_from after (rows (drop (e + 2) s)))) (sym x.next);
             size = x.size ∙ v.size;
             full = v.full;
-            behind = omega (arith, x.next, short, whole_length w q, v.behind, (whole-line w q).low);
+            behind = omega (arith, x.next, short, whole_length w q, v.behind, (whole_line w q).low);
             room = room st (facts_of (record_of (part s at e))) after rp doctor p.step v.room (omega (arith, l, v.line, v.high, v.small));
             low = omega (arith, l);
-            line = omega (arith, l, v.line, (whole-line w q).low);
-            high = (whole-line w q).high;
+            line = omega (arith, l, v.line, (whole_line w q).low);
+            high = (whole_line w q).high;
             small = v.small;
           }
 
@@ -257,34 +257,34 @@ module _ {provider : Bool} {s : List ℕ} {from : ℕ} {d : List ℕ} {st : Stat
   kept p = record { means = p.means; size = v.same }
 
   module _ {stops : List ℕ} {k : Turn} (w : TurnOf st s at stops k) where
-    pub running-over : {d'' : List ℕ} {r : Answer} → k ≡ Over → Finished st s at d' d'' run r → Poured (length d) (poured (sets d 0 (part s 0 from)) from (records_from (start provider) (rows (drop from s)))) d'' r
-    running-over q f = finished f (⊎_elim (λ l. poured-end v.pouring l refl f.answer) (λ l. poured-mark v.pouring l refl f.answer) (turn_over w q))
+    pub running_over : {d'' : List ℕ} {r : Answer} → k ≡ Over → Finished st s at d' d'' run r → Poured (length d) (poured (sets d 0 (part s 0 from)) from (records_from (start provider) (rows (drop from s)))) d'' r
+    running_over q f = finished f (⊎_elim (λ l. poured_end v.pouring l refl f.answer) (λ l. poured_mark v.pouring l refl f.answer) (turn_over w q))
 
-    pub running-stopped : {n : ℕ} → k ≡ TurnRefused n → Poured (length d) (poured (sets d 0 (part s 0 from)) from (records_from (start provider) (rows (drop from s)))) d' (Refused n (st.line + 1))
-    running-stopped {n} q = kept (go (turn_refused w q))
+    pub running_stopped : {n : ℕ} → k ≡ TurnRefused n → Poured (length d) (poured (sets d 0 (part s 0 from)) from (records_from (start provider) (rows (drop from s)))) d' (Refused n (st.line + 1))
+    running_stopped {n} q = kept (go (turn_refused w q))
       where
         go : RefusedAt st s at stops n → Ahead (Refused n (st.line + 1))
-        go (broken l e) = subst (λ (j : ℕ). Ahead (Refused j (st.line + 1))) (sym e) (poured-broken v.pouring l refl)
-        go (faulty e m x) = poured-refused v.pouring x.line refl (sym x.step)
+        go (broken l e) = subst (λ (j : ℕ). Ahead (Refused j (st.line + 1))) (sym e) (poured_broken v.pouring l refl)
+        go (faulty e m x) = poured_refused v.pouring x.line refl (sym x.step)
 
     module _ {after : State} {rp doctor e commas : ℕ} (q : k ≡ TurnOn after rp doctor e commas) where
       here : StepAt st s at stops e commas (On after rp doctor)
       here = turn_step w q
 
       whole : WholeLine s at e here.good
-      whole = whole-line here.line refl
+      whole = whole_line here.line refl
 
-      pub running-ended : Ended s at e
-      running-ended = line_ended whole
+      pub running_ended : Ended s at e
+      running_ended = line_ended whole
 
-      pub running-within : Fits w64 (e + 2)
-      running-within = turn-fits w q running_small
+      pub running_within : Fits w64 (e + 2)
+      running_within = turn_fits w q running_small
 
-      pub running-sound : Sound after.place (take (e - at) (drop at s))
-      running-sound = line_sound st (part s at e) here.step refl
+      pub running_sound : Sound after.place (take (e - at) (drop at s))
+      running_sound = line_sound st (part s at e) here.step refl
 
-      pub running-room : Ready d' run at (record_row (record_of (take (e - at) (drop at s))))
-      running-room =
+      pub running_room : Ready d' run at (record_row (record_of (take (e - at) (drop at s))))
+      running_room =
           let p : Placed st (part s at e) after rp doctor = placed st (part s at e) after rp doctor (sym here.step) in
           let n : length (record_row (record_of (part s at e))) ≤ length (part s at e) + 2 = row_length st (part s at e) p.sound in
           record {
@@ -292,8 +292,8 @@ module _ {provider : Bool} {s : List ℕ} {from : ℕ} {d : List ℕ} {st : Stat
             room = omega (arith, v.pouring.behind, v.hold, whole.high, whole.low, whole_length here.line refl, n);
           }
 
-      pub running-on : {d'' : List ℕ} {r : Run} → Passed s d' d'' run r at (e + 2) (record_row (record_of (take (e - at) (drop at s)))) → Running provider s from d after (e + 2) d'' r
-      running-on x = record { pouring = pouring-on v.pouring here.line refl (sym here.step) x.wrote; low = x.low; hold = omega (arith, x.size, v.hold); same = x.size ∙ v.same }
+      pub running_on : {d'' : List ℕ} {r : Run} → Passed s d' d'' run r at (e + 2) (record_row (record_of (take (e - at) (drop at s)))) → Running provider s from d after (e + 2) d'' r
+      running_on x = record { pouring = pouring_on v.pouring here.line refl (sym here.step) x.wrote; low = x.low; hold = omega (arith, x.size, v.hold); same = x.size ∙ v.same }
 
 pub ruleset running_laws = (
   turn_facts,
@@ -305,13 +305,13 @@ pub ruleset running_laws = (
   running_small,
   running_ready,
   running_reach,
-  running-over,
-  running-stopped,
-  running-ended,
-  running-within,
-  running-sound,
-  running-room,
-  running-on,
+  running_over,
+  running_stopped,
+  running_ended,
+  running_within,
+  running_sound,
+  running_room,
+  running_on,
 )
 
 -- ---- the last run
@@ -324,14 +324,14 @@ module _ (st : State) (s : List ℕ) (at : ℕ) (d : List ℕ) (run : Run) (i : 
   finish_room = omega (arith, r.room, r.low, part_length s run.from at r.low i)
 
   module _ {d₁ : List ℕ} {n : ℕ} (x : Wrote d d₁ run.at n (take (at - run.from) (drop run.from s))) where
-    pub finish-small : reach run at ≤ 65536 → n ≤ 65536
-    finish-small z = omega (arith, x.next, z, part_length s run.from at r.low i)
+    pub finish_small : reach run at ≤ 65536 → n ≤ 65536
+    finish_small z = omega (arith, x.next, z, part_length s run.from at r.low i)
 
-    pub finish-done : {c : Answer} → c ≡ closing st n → Finished st s at d d₁ run c
-    finish-done e = record {
+    pub finish_done : {c : Answer} → c ≡ closing st n → Finished st s at d d₁ run c
+    finish_done e = record {
       answer = e ∙ ap (closing st) (x.next ∙ ap (λ (k : ℕ). run.at + k) (part_length s run.from at r.low i));
       buffer = x.list;
       size = x.size;
     }
 
-pub ruleset finish_laws = (finish_from, finish_room, finish-small, finish-done)
+pub ruleset finish_laws = (finish_from, finish_room, finish_small, finish_done)

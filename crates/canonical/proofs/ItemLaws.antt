@@ -229,13 +229,13 @@ module _ (c : ℕ) (s : List ℕ) where
   day_item e w = rw (item_day e) w
 
   module _ (p : c / 4 % 16 ≡ 6 → ⊥) (r : c / 4 % 16 ≡ 7 → ⊥) (d : c / 4 % 16 ≡ 10 → ⊥) where
-    pub kept-item-room : (out : List ℕ) (at : ℕ) → Room out at (item_bytes c s) → Room out at s
-    kept-item-room out at w = rw (item_kept p r d) at w
+    pub kept_item_room : (out : List ℕ) (at : ℕ) → Room out at (item_bytes c s) → Room out at s
+    kept_item_room out at w = rw (item_kept p r d) at w
 
-    pub kept-item : {out out₁ : List ℕ} {at next : ℕ} → Wrote out out₁ at next s → Wrote out out₁ at next (item_bytes c s)
-    kept-item w = rw (item_kept p r d) w
+    pub kept_item : {out out₁ : List ℕ} {at next : ℕ} → Wrote out out₁ at next s → Wrote out out₁ at next (item_bytes c s)
+    kept_item w = rw (item_kept p r d) w
 
-pub ruleset item_laws = (postal_item_room, postal_item, number_item_room, number_item, day_item_room, day_item, kept-item-room, kept-item)
+pub ruleset item_laws = (postal_item_room, postal_item, number_item_room, number_item, day_item_room, day_item, kept_item_room, kept_item)
 
 -- ---- an item that is its own spelling
 
@@ -285,15 +285,15 @@ module _ (c : ℕ) (s : List ℕ) (g : Spellable c s) where
   own_eight = record { own = λ f. absurd (false≢true (sym f)) }
 
   module _ (e : c / 4 % 16 ≡ 10) where
-    date-own : ((n : ℕ) → read_day s ≡ Date (record { ymd = n }) → write_day n ≡ s) → item_bytes c s ≡ s
-    date-own o = item_day c s e ∙ day_own s (λ h. (rw (kind_day (c / 4 % 16) (c / 64) e) at (g.good h))) o
+    date_own : ((n : ℕ) → read_day s ≡ Date (record { ymd = n }) → write_day n ≡ s) → item_bytes c s ≡ s
+    date_own o = item_day c s e ∙ day_own s (λ h. (rw (kind_day (c / 4 % 16) (c / 64) e) at (g.good h))) o
 
-    pub own-date : {b : Bool} → TellsForm b s → OwnUnless (not b) c s
-    own-date {b} o = record { own = λ f. date-own (λ n q. form_is s n q (sym (o.is n q) ∙ not_false' b f)) }
+    pub own_date : {b : Bool} → TellsForm b s → OwnUnless (not b) c s
+    own_date {b} o = record { own = λ f. date_own (λ n q. form_is s n q (sym (o.is n q) ∙ not_false' b f)) }
 
     -- a date of another length is none
-    pub own-blank : (length s ≡ 8 → ⊥) → (length s ≡ 7 → ⊥) → OwnUnless false c s
-    own-blank p q = record { own = λ f. date-own (λ n d. absurd (not_date (none_else s p q ∙ d))) }
+    pub own_blank : (length s ≡ 8 → ⊥) → (length s ≡ 7 → ⊥) → OwnUnless false c s
+    own_blank p q = record { own = λ f. date_own (λ n d. absurd (not_date (none_else s p q ∙ d))) }
 
   pub own_other : (c / 4 % 16 ≡ 7 → ⊥) → (length s ≡ 8 → ⊥) → (c / 4 % 16 ≡ 10 → ⊥) → OwnUnless false c s
   own_other n h d = record { own = λ f. go (eqb (c / 4 % 16) 6) refl }
@@ -302,7 +302,7 @@ module _ (c : ℕ) (s : List ℕ) (g : Spellable c s) where
       go true p = item_postal c s g (eqb-true _ _ p) ∙ without_hyphen s h
       go false p = item_kept c s (eqb-false _ _ p) n d
 
-pub ruleset own_laws = (own_number, own_eight, own-date, own-blank, own_other)
+pub ruleset own_laws = (own_number, own_eight, own_date, own_blank, own_other)
 
 -- a number that begins with no zero
 pub own_plain : (c : ℕ) (s : List ℕ) → Spellable c s → c / 4 % 16 ≡ 7 → (get_or s 0 0 ≡ 48 → ⊥) → item_bytes c s ≡ s

@@ -90,43 +90,43 @@ module _ {cs : List ℕ} {place n : ℕ} {s : List ℕ} {end k j : ℕ} {d : Lis
     item : List ℕ
     item = get_or (items_of s) j []
 
-    split-items : drop j (items_of s) ≡ item ∷ drop (j + 1) (items_of s)
+    split_items : drop j (items_of s) ≡ item ∷ drop (j + 1) (items_of s)
     unfolding item
-    split-items = drop_step (items_of s) j [] (omega (arith, items_count s, m, w.few))
+    split_items = drop_step (items_of s) j [] (omega (arith, items_count s, m, w.few))
 
-    first-item : left cs k end ≡ item_of (get_or cs k 0) ∷ left cs (k + 1) end
-    first-item = left_first cs k end w.lent w.high h
+    first_item : left cs k end ≡ item_of (get_or cs k 0) ∷ left cs (k + 1) end
+    first_item = left_first cs k end w.lent w.high h
 
     own : List ℕ
     own = 0x2c ∷ item_bytes (get_or cs k 0) item
 
     turn : rest cs s end k j ≡ own ++ rest cs s end (k + 1) (j + 1)
     unfolding tail_of own item_bytes
-    turn = rw (first-item, split-items)
+    turn = rw (first_item, split_items)
 
     goods : AllSpellable (item_of (get_or cs k 0) ∷ left cs (k + 1) end) (item ∷ drop (j + 1) (items_of s))
-    goods = rw (first-item, split-items) at w.good
+    goods = rw (first_item, split_items) at w.good
 
-    turn-length : length (rest cs s end k j) ≡ length own + length (rest cs s end (k + 1) (j + 1))
-    turn-length = ap length turn ∙ length-append own (rest cs s end (k + 1) (j + 1))
+    turn_length : length (rest cs s end k j) ≡ length own + length (rest cs s end (k + 1) (j + 1))
+    turn_length = ap length turn ∙ length-append own (rest cs s end (k + 1) (j + 1))
 
-    writing-item : ItemOf j n
-    writing-item = record { low = w.some; high = omega (arith, w.few) }
+    writing_item : ItemOf j n
+    writing_item = record { low = w.some; high = omega (arith, w.few) }
 
-    writing-spellable : Spellable (get_or cs k 0) (get_or (items_of s) j [])
+    writing_spellable : Spellable (get_or cs k 0) (get_or (items_of s) j [])
     unfolding item
-    writing-spellable = record { good = goods.0 }
+    writing_spellable = record { good = goods.0 }
 
-    writing-room : Room d' next (0x2c ∷ item_bytes (get_or cs k 0) (get_or (items_of s) j []))
+    writing_room : Room d' next (0x2c ∷ item_bytes (get_or cs k 0) (get_or (items_of s) j []))
     unfolding own item
-    writing-room = omega (arith, w.count, w.hold, w.size, turn-length)
+    writing_room = omega (arith, w.count, w.hold, w.size, turn_length)
 
-    writing-next : {d'' : List ℕ} {behind : ℕ} → Wrote d' d'' next behind (0x2c ∷ item_bytes (get_or cs k 0) (get_or (items_of s) j []))
+    writing_next : {d'' : List ℕ} {behind : ℕ} → Wrote d' d'' next behind (0x2c ∷ item_bytes (get_or cs k 0) (get_or (items_of s) j []))
         → Writing cs place n s end (k + 1) (j + 1) d at d'' behind
     unfolding own item
-    writing-next x = record {
+    writing_next x = record {
       due = carry (rest cs s end (k + 1) (j + 1)) x (rw turn at w.due);
-      count = omega (arith, x.next, w.count, turn-length);
+      count = omega (arith, x.next, w.count, turn_length);
       hold = w.hold;
       size = x.size ∙ w.size;
       good = goods.1;
@@ -159,15 +159,15 @@ module _ {cs : List ℕ} {place n : ℕ} {s : List ℕ} {at e end k j : ℕ} {st
   counted = sym v.spans.commas.is
 
   turning_item : k < end → ItemOf j n
-  turning_item h = writing-item t.writing counted h
+  turning_item h = writing_item t.writing counted h
 
   turning_spellable : k < end → Spellable (get_or cs k 0) (get_or (items_of (take (e - at) (drop at s))) j [])
-  turning_spellable h = writing-spellable t.writing counted h
+  turning_spellable h = writing_spellable t.writing counted h
 
   turning_ready : k < end → Ready d' run (at + comma_at (take (e - at) (drop at s)) (j - 1)) (0x2c ∷ item_bytes (get_or cs k 0) (get_or (items_of (take (e - at) (drop at s))) j []))
   turning_ready h = record {
     low = t.low;
-    room = omega (arith, writing-room t.writing counted h, length-sets d' run.at (part s run.from (begins s at e j)));
+    room = omega (arith, writing_room t.writing counted h, length-sets d' run.at (part s run.from (begins s at e j)));
   }
 
   turning_next : k < end → {d'' : List ℕ} {r : Run}
@@ -177,7 +177,7 @@ module _ {cs : List ℕ} {place n : ℕ} {s : List ℕ} {at e end k j : ℕ} {st
       let z : j ≡ j + 1 - 1 = omega arith in
       let y : Passed s d' d'' run r (begins s at e j) (begins s at e (j + 1)) (0x2c ∷ item_bytes (get_or cs k 0) (item_at s at e j)) =
       subst (λ (i : ℕ). Passed s d' d'' run r (begins s at e j) (at + comma_at (part s at e) i) (0x2c ∷ item_bytes (get_or cs k 0) (item_at s at e j))) z x in
-      record { writing = writing-next t.writing counted h y.wrote; low = y.low; size = y.size ∙ t.size }
+      record { writing = writing_next t.writing counted h y.wrote; low = y.low; size = y.size ∙ t.size }
 
   turning_done : end ≤ k → Passed s d d' start run (at + comma_at (take (e - at) (drop at s)) 0) e (tail_of (slice_of place) (drop 1 (items_of (take (e - at) (drop at s)))))
   turning_done h =
@@ -319,41 +319,41 @@ module _ {place n : ℕ} {s : List ℕ} {at e : ℕ} {start : Run} {d d' : List 
     here : Found place n s at e start d d' run w
     here = found v w (place / 16 + place % 16 - t.k) t.k t.j t.turning refl t.spots h
 
-    its-item : ItemOf here.j n
-    its-item = turning_item here.turning v here.more
+    its_item : ItemOf here.j n
+    its_item = turning_item here.turning v here.more
 
     code_is : w % 1024 / 16 ≡ get_or codes here.k 0
-    code_is = omega (arith, here.code, here.small, its-item.high, v.spans.few)
+    code_is = omega (arith, here.code, here.small, its_item.high, v.spans.few)
 
     number_is : w % 1024 % 16 ≡ here.j
-    number_is = omega (arith, here.code, here.small, its-item.high, v.spans.few)
+    number_is = omega (arith, here.code, here.small, its_item.high, v.spans.few)
 
     others : w / 1024 ≡ spots_from (here.j + 1) (codes_from (here.k + 1) (place / 16 + place % 16))
-    others = omega (arith, here.code, here.small, its-item.high, v.spans.few)
+    others = omega (arith, here.code, here.small, its_item.high, v.spans.few)
 
-    pub spotting-item : ItemOf (w % 1024 % 16) n
-    spotting-item = subst (λ (j : ℕ). ItemOf j n) (sym number_is) its-item
+    pub spotting_item : ItemOf (w % 1024 % 16) n
+    spotting_item = subst (λ (j : ℕ). ItemOf j n) (sym number_is) its_item
 
-    pub spotting-spellable : Spellable (w % 1024 / 16) (get_or (items_of (take (e - at) (drop at s))) (w % 1024 % 16) [])
-    spotting-spellable =
+    pub spotting_spellable : Spellable (w % 1024 / 16) (get_or (items_of (take (e - at) (drop at s))) (w % 1024 % 16) [])
+    spotting_spellable =
         subst (λ (c : ℕ). Spellable c (item_at s at e (w % 1024 % 16))) (sym code_is)
         (subst (λ (j : ℕ). Spellable (get_or codes here.k 0) (item_at s at e j)) (sym number_is) (turning_spellable here.turning v here.more))
 
-    pub spotting-ready : Ready d' run (at + comma_at (take (e - at) (drop at s)) (w % 1024 % 16 - 1)) (0x2c ∷ item_bytes (w % 1024 / 16) (get_or (items_of (take (e - at) (drop at s))) (w % 1024 % 16) []))
-    spotting-ready =
+    pub spotting_ready : Ready d' run (at + comma_at (take (e - at) (drop at s)) (w % 1024 % 16 - 1)) (0x2c ∷ item_bytes (w % 1024 / 16) (get_or (items_of (take (e - at) (drop at s))) (w % 1024 % 16) []))
+    spotting_ready =
         subst (λ (c : ℕ). Ready d' run (begins s at e (w % 1024 % 16)) (0x2c ∷ item_bytes c (item_at s at e (w % 1024 % 16)))) (sym code_is)
         (subst (λ (j : ℕ). Ready d' run (begins s at e j) (0x2c ∷ item_bytes (get_or codes here.k 0) (item_at s at e j))) (sym number_is) (turning_ready here.turning v here.more))
 
-    pub spotting-next : {d'' : List ℕ} {r : Run}
+    pub spotting_next : {d'' : List ℕ} {r : Run}
         → Passed s d' d'' run r (at + comma_at (take (e - at) (drop at s)) (w % 1024 % 16 - 1)) (at + comma_at (take (e - at) (drop at s)) (w % 1024 % 16)) (0x2c ∷ item_bytes (w % 1024 / 16) (get_or (items_of (take (e - at) (drop at s))) (w % 1024 % 16) []))
         → Spotting place n s at e start d d'' r (w / 1024)
-    spotting-next {d''} {r} x =
+    spotting_next {d''} {r} x =
         let y : Passed s d' d'' run r (begins s at e here.j) (ends s at e here.j) (0x2c ∷ item_bytes (get_or codes here.k 0) (item_at s at e here.j)) =
         subst (λ (j : ℕ). Passed s d' d'' run r (begins s at e j) (ends s at e j) (0x2c ∷ item_bytes (get_or codes here.k 0) (item_at s at e j))) number_is
         (subst (λ (c : ℕ). Passed s d' d'' run r (begins s at e (w % 1024 % 16)) (ends s at e (w % 1024 % 16)) (0x2c ∷ item_bytes c (item_at s at e (w % 1024 % 16)))) code_is x) in
         record { k = here.k + 1; j = here.j + 1; turning = turning_next here.turning v here.more y; spots = others }
 
-pub ruleset spotting_laws = (spotting_start, spotting_done, spotting-next)
+pub ruleset spotting_laws = (spotting_start, spotting_done, spotting_next)
 
 -- ---- a line
 
@@ -431,16 +431,16 @@ module _ (s : List ℕ) (at e : ℕ) {number : ℕ} (v : Sound number (take (e -
   sizes = ap length written ∙ length-append front (items ++ line_end) ∙ ap (λ (x : ℕ). length front + x) (length-append items line_end)
 
   module _ {n : ℕ} (k : Commas (take (e - at) (drop at s)) n) where
-    commas-are : n ≡ place % 16
+    commas_are : n ≡ place % 16
     unfolding line
-    commas-are = omega (arith, k.is, items_count line, ap length own_parts.cut, own_parts.count)
+    commas_are = omega (arith, k.is, items_count line, ap length own_parts.cut, own_parts.count)
 
-    pub record-items : Items (place_of number) n (take (e - at) (drop at s))
+    pub record_items : Items (place_of number) n (take (e - at) (drop at s))
     unfolding line place
-    record-items = record { good = rw own_parts.cut own_parts.items; count = commas-are }
+    record_items = record { good = rw own_parts.cut own_parts.items; count = commas_are }
 
-    pub record-line : {stops : List ℕ} → Stops (take (e - at) (drop at s)) stops → Sixteen stops → Ended s at e → LineIn s at e stops n
-    record-line t z i = record { spans = record { places = t; commas = k; few = omega (arith, commas-are); size = z }; low = i.low; high = omega (arith, i.high) }
+    pub record_line : {stops : List ℕ} → Stops (take (e - at) (drop at s)) stops → Sixteen stops → Ended s at e → LineIn s at e stops n
+    record_line t z i = record { spans = record { places = t; commas = k; few = omega (arith, commas_are); size = z }; low = i.low; high = omega (arith, i.high) }
 
   module _ {d : List ℕ} {run : Run} (i : Ended s at e) (r : Ready d run at (record_row (record_of (take (e - at) (drop at s))))) where
     first_is_lem : part s at (at + comma_at line 0) ≡ front
@@ -451,26 +451,26 @@ module _ (s : List ℕ) (at e : ℕ) {number : ℕ} (v : Sound number (take (e -
         ∙ sym (part_part s at e 0 (comma_at line 0) (omega arith) (omega (arith, comma_le line 0, part_length s at e i.low (omega (arith, i.high)), i.low)))
         ∙ sym (number_part line) ∙ ap (λ (x : List (List ℕ)). get_or x 0 []) own_parts.cut
 
-    first-high : at + comma_at line 0 ≤ e
+    first_high : at + comma_at line 0 ≤ e
     unfolding line
-    first-high = omega (arith, comma_le line 0, part_length s at e i.low (omega (arith, i.high)), i.low)
+    first_high = omega (arith, comma_le line 0, part_length s at e i.low (omega (arith, i.high)), i.low)
 
-    first-length : length front ≡ comma_at line 0
-    first-length = sym (ap length first_is_lem) ∙ part_length s at (at + comma_at line 0) (omega arith) (omega (arith, first-high, i.high)) ∙ omega arith
+    first_length_lem : length front ≡ comma_at line 0
+    first_length_lem = sym (ap length first_is_lem) ∙ part_length s at (at + comma_at line 0) (omega arith) (omega (arith, first_high, i.high)) ∙ omega arith
 
-    first-passed : Passed s d d run run at (at + comma_at line 0) front
+    first_passed : Passed s d d run run at (at + comma_at line 0) front
     unfolding line
-    first-passed = waits s d run at (at + comma_at line 0) front (omega arith) (omega (arith, first-high, i.high)) first_is_lem (record { low = r.low; room = omega (arith, r.room, sizes) })
+    first_passed = waits s d run at (at + comma_at line 0) front (omega arith) (omega (arith, first_high, i.high)) first_is_lem (record { low = r.low; room = omega (arith, r.room, sizes) })
 
-    pub record-ready : Ready d run (at + comma_at (take (e - at) (drop at s)) 0) (tail_of (slice_of (place_of number)) (drop 1 (items_of (take (e - at) (drop at s)))))
+    pub record_ready : Ready d run (at + comma_at (take (e - at) (drop at s)) 0) (tail_of (slice_of (place_of number)) (drop 1 (items_of (take (e - at) (drop at s)))))
     unfolding line items place
-    record-ready = record { low = omega (arith, r.low); room = omega (arith, r.low, r.room, sizes, first-length) }
+    record_ready = record { low = omega (arith, r.low); room = omega (arith, r.low, r.room, sizes, first_length_lem) }
 
-    pub record-passed : {d₁ : List ℕ} {q : Run} → Passed s d d₁ run q (at + comma_at (take (e - at) (drop at s)) 0) e (tail_of (slice_of (place_of number)) (drop 1 (items_of (take (e - at) (drop at s)))))
+    pub record_passed : {d₁ : List ℕ} {q : Run} → Passed s d d₁ run q (at + comma_at (take (e - at) (drop at s)) 0) e (tail_of (slice_of (place_of number)) (drop 1 (items_of (take (e - at) (drop at s)))))
         → Passed s d d₁ run q at (e + 2) (record_row (record_of (take (e - at) (drop at s))))
     unfolding line items place
-    record-passed {d₁} {q} x =
-        rw written (passes first-passed (passes x
-        (waits s d₁ q e (e + 2) line_end (omega arith) i.high i.end (record { low = x.low; room = omega (arith, x.wrote.next, x.size, r.low, r.room, sizes, first-length) }))))
+    record_passed {d₁} {q} x =
+        rw written (passes first_passed (passes x
+        (waits s d₁ q e (e + 2) line_end (omega arith) i.high i.end (record { low = x.low; room = omega (arith, x.wrote.next, x.size, r.low, r.room, sizes, first_length_lem) }))))
 
-pub ruleset record_laws = (record-items, record-line, record-ready, record-passed)
+pub ruleset record_laws = (record_items, record_line, record_ready, record_passed)

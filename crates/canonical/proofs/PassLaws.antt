@@ -12,7 +12,7 @@ use Rattle.characters.specs.Scanning.{comma_count}
 use Rattle.records.specs.Split.{items_of}
 use Rattle.lines.specs.Codes.{comma_at, LineIn, ItemOf, ItemIn}
 use Rattle.lines.specs.declared.Span.{Span}
-use Rattle.lines.proofs.SplitLaws.{comma_le, comma-next, item-part, comma_in}
+use Rattle.lines.proofs.SplitLaws.{comma_le, comma_next, item_part, comma_in}
 use Rattle.canonical.specs.declared.Run.{Run}
 use Rattle.canonical.specs.Writing.{item_bytes, Spellable, Ready, Passed, Lies, begins, ends, item_at, Stays}
 use Rattle.canonical.proofs.ItemLaws.{own_plain}
@@ -28,7 +28,7 @@ module _ {s stops : List ℕ} {at e n j : ℕ} (v : LineIn s at e stops n) (k : 
   inside = omega (arith, v.spans.commas.is, k.high)
 
   item_low : begins s at e j < ends s at e j
-  item_low = omega (arith, comma-next (part s at e) j k.low inside)
+  item_low = omega (arith, comma_next (part s at e) j k.low inside)
 
   item_high : ends s at e j ≤ e
   item_high = omega (arith, line_length, comma_le (part s at e) j, v.low)
@@ -43,7 +43,7 @@ module _ {s stops : List ℕ} {at e n j : ℕ} (v : LineIn s at e stops n) (k : 
       let p : ℕ = comma_at (part s at e) (j - 1) in
       let z : at + (p + 1) ≡ at + p + 1 = omega arith in
       ap (λ (x : ℕ). part s x (ends s at e j)) (sym z)
-      ∙ sym (part_part s at e (p + 1) (comma_at (part s at e) j) (omega (arith, item_low)) item_high) ∙ sym (item-part (part s at e) j k.low inside)
+      ∙ sym (part_part s at e (p + 1) (comma_at (part s at e) j) (omega (arith, item_low)) item_high) ∙ sym (item_part (part s at e) j k.low inside)
 
   item_whole : part s (begins s at e j) (ends s at e j) ≡ 0x2c ∷ item_at s at e j
   item_whole = sym (part_join s (begins s at e j) (begins s at e j + 1) (ends s at e j) (omega arith) (omega (arith, item_low))) ∙ ap₂ ◌++◌ comma_is item_is
@@ -73,26 +73,26 @@ module _ (s : List ℕ) (at e j : ℕ) {stops : List ℕ} {n : ℕ} (v : LineIn 
     first = omega (arith, i.begins)
 
     -- a number that begins with no zero waits
-    pub pass-stays : (c : ℕ) {d : List ℕ} {run : Run} {t : Bool} → Stays t c s r.from → t ≡ true → Spellable c (item_at s at e j)
+    pub pass_stays : (c : ℕ) {d : List ℕ} {run : Run} {t : Bool} → Stays t c s r.from → t ≡ true → Spellable c (item_at s at e j)
         → Ready d run (begins s at e j) (0x2c ∷ item_bytes c (item_at s at e j)) → Passed s d d run run (begins s at e j) (ends s at e j) (0x2c ∷ item_bytes c (item_at s at e j))
-    pass-stays c {d} {run} m f g y =
+    pass_stays c {d} {run} m f g y =
         pass_own d run c (own_plain c (item_at s at e j) g (m.kind f) (λ z. first_other s r.from r.to (m.first f) (ap (λ (x : List ℕ). get_or x 0 0) i.says ∙ z))) y
 
-    pub pass-lies : Lies s r.from r.to
-    pass-lies = record { low = i.low; high = omega (arith, i.high, v.high) }
+    pub pass_lies : Lies s r.from r.to
+    pass_lies = record { low = i.low; high = omega (arith, i.high, v.high) }
 
-    pub pass-spellable : (c : ℕ) → Spellable c (get_or (items_of (take (e - at) (drop at s))) j []) → Spellable c (take (r.to - r.from) (drop r.from s))
-    pass-spellable c g = subst (Spellable c) (sym i.says) g
+    pub pass_spellable : (c : ℕ) → Spellable c (get_or (items_of (take (e - at) (drop at s))) j []) → Spellable c (take (r.to - r.from) (drop r.from s))
+    pass_spellable c g = subst (Spellable c) (sym i.says) g
 
     module _ (c : ℕ) {d : List ℕ} {run : Run} (y : Ready d run (at + comma_at (take (e - at) (drop at s)) (j - 1)) (0x2c ∷ item_bytes c (get_or (items_of (take (e - at) (drop at s))) j []))) where
-      pub pass-ready : Ready d run r.from (item_bytes c (take (r.to - r.from) (drop r.from s)))
-      pass-ready =
+      pub pass_ready : Ready d run r.from (item_bytes c (take (r.to - r.from) (drop r.from s)))
+      pass_ready =
           subst (λ (x : List ℕ). Ready d run r.from (item_bytes c x)) (sym i.says)
           (record { low = omega (arith, y.low, first); room = omega (arith, y.low, y.room, first) })
 
-      pub pass-done : {d' : List ℕ} {t : Run} → Passed s d d' run t r.from r.to (item_bytes c (take (r.to - r.from) (drop r.from s)))
+      pub pass_done : {d' : List ℕ} {t : Run} → Passed s d d' run t r.from r.to (item_bytes c (take (r.to - r.from) (drop r.from s)))
           → Passed s d d' run t (at + comma_at (take (e - at) (drop at s)) (j - 1)) (at + comma_at (take (e - at) (drop at s)) j) (0x2c ∷ item_bytes c (get_or (items_of (take (e - at) (drop at s))) j []))
-      pass-done {d'} {t} x =
+      pass_done {d'} {t} x =
           passes
           (waits s d run (begins s at e j) (begins s at e j + 1) (0x2c ∷ []) (omega arith) (omega (arith, item_low v k, item_high v k, v.high)) (comma_is v k)
           (record { low = y.low; room = omega (arith, y.room) }))
@@ -100,4 +100,4 @@ module _ (s : List ℕ) (at e j : ℕ) {stops : List ℕ} {n : ℕ} (v : LineIn 
           (subst (λ (p : ℕ). Passed s d d' run t p (ends s at e j) (item_bytes c (part s r.from r.to))) first
           (subst (λ (q : ℕ). Passed s d d' run t r.from q (item_bytes c (part s r.from r.to))) i.ends x)))
 
-pub ruleset pass_laws = (pass-stays, pass-lies, pass-spellable, pass-ready, pass-done)
+pub ruleset pass_laws = (pass_stays, pass_lies, pass_spellable, pass_ready, pass_done)

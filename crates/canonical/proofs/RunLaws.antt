@@ -69,10 +69,10 @@ module _ (s d : List ℕ) (run : Run) (a e c : ℕ) (t : Lies s a e) (r : Ready 
   respell_room = omega (arith, r.room, run_length)
 
   module _ {d₁ : List ℕ} {n : ℕ} (x : Wrote d d₁ run.at n (take (a - run.from) (drop run.from s))) where
-    pub respell-item-room : Room d₁ n (item_bytes c (take (e - a) (drop a s)))
-    respell-item-room = omega (arith, r.room, x.next, x.size, run_length)
+    pub respell_item_room : Room d₁ n (item_bytes c (take (e - a) (drop a s)))
+    respell_item_room = omega (arith, r.room, x.next, x.size, run_length)
 
-    pub respell-done : {d₂ : List ℕ} {b : ℕ} → Wrote d₁ d₂ n b (item_bytes c (take (e - a) (drop a s))) → Passed s d d₂ run (record { from = e; at = b }) a e (item_bytes c (take (e - a) (drop a s)))
-    respell-done y = copied s run a e r.low (omega (arith, t.low, t.high)) x y
+    pub respell_done : {d₂ : List ℕ} {b : ℕ} → Wrote d₁ d₂ n b (item_bytes c (take (e - a) (drop a s))) → Passed s d d₂ run (record { from = e; at = b }) a e (item_bytes c (take (e - a) (drop a s)))
+    respell_done y = copied s run a e r.low (omega (arith, t.low, t.high)) x y
 
-pub ruleset respell_laws = (respell_from, respell_own, respell_room, respell-item-room, respell-done)
+pub ruleset respell_laws = (respell_from, respell_own, respell_room, respell_item_room, respell_done)

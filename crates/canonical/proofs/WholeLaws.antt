@@ -17,7 +17,7 @@ use Rattle.notebook.specs.Notebook.{records_from, notebook_of, read_file}
 use Rattle.checking.specs.declared.Opening.{Opening}
 use Rattle.checking.specs.declared.Opening.TheVariants.{Records, Refused as OpenRefused}
 use Rattle.checking.specs.Opening.{OpensAt, OpeningOf}
-use Rattle.checking.proofs.OpenLaws.{zeros_size, opening_refused, opening-records, opening-behind}
+use Rattle.checking.proofs.OpenLaws.{zeros_size, opening_refused, opening_records, opening_behind}
 use Rattle.replies.specs.declared.Answer.{Answer}
 use Rattle.replies.specs.declared.Answer.TheVariants.{Done, Refused}
 use Rattle.notebook.specs.Canonical.{head_row, record_rows, write_file, canonical_bytes, canonical_file, canonical_result}
@@ -51,10 +51,10 @@ made s d d₁ d₂ from provider (ok rs) (Done t b c) w q v = record { means = (
     rest = flat (record_rows rs)
 
     is : ◌≡◌ {A = Output} (record { buffer = sets d₁ from rest; end = from + length rest }) (record { buffer = d₂; end = t })
-    is = ok-is v.means.0
+    is = ok_is v.means.0
       where
-        ok-is : {a b : Output} → ◌≡◌ {A = Res Output} (ok a) (ok b) → a ≡ b
-        ok-is f = cc
+        ok_is : {a b : Output} → ◌≡◌ {A = Res Output} (ok a) (ok b) → a ≡ b
+        ok_is f = cc
 
     behind : Wrote d₁ d₂ from t rest
     behind = record {
@@ -74,25 +74,25 @@ module _ {s d : List ℕ} (z : Holds s d) {k : Opening} (w : OpeningOf s k) wher
 
   module _ {provider : Bool} {from : ℕ} (q : k ≡ Records provider from) where
     opens : OpensAt s provider from
-    opens = opening-records w q
+    opens = opening_records w q
 
-    pub into-room : length s ≤ length d
-    into-room = z.room opens.behind.small
+    pub into_room : length s ≤ length d
+    into_room = z.room opens.behind.small
 
-    first-length : length (part s 0 from) ≡ from
-    first-length = length-take-le (from - 0) s (omega (arith, opens.behind.high)) ∙ omega arith
+    first_length_lem : length (part s 0 from) ≡ from
+    first_length_lem = length-take-le (from - 0) s (omega (arith, opens.behind.high)) ∙ omega arith
 
     -- the array with line 1
-    first-wrote : Wrote d (sets d 0 (part s 0 from)) 0 from (part s 0 from)
-    first-wrote = record { next = omega (arith, first-length); list = refl; size = length-sets d 0 (part s 0 from); high = omega (arith, opens.behind.high, into-room) }
+    first_wrote : Wrote d (sets d 0 (part s 0 from)) 0 from (part s 0 from)
+    first_wrote = record { next = omega (arith, first_length_lem); list = refl; size = length-sets d 0 (part s 0 from); high = omega (arith, opens.behind.high, into_room) }
 
-    pub into-records : {d₂ : List ℕ} {c : Answer} → Poured (length d) (poured (sets d 0 (part s 0 from)) from (records_from (start provider) (rows (drop from s)))) d₂ c
+    pub into_records : {d₂ : List ℕ} {c : Answer} → Poured (length d) (poured (sets d 0 (part s 0 from)) from (records_from (start provider) (rows (drop from s)))) d₂ c
         → MadeOf (length d) (canonical_file s) d₂ c
-    into-records {d₂} {c} v =
+    into_records {d₂} {c} v =
         made s d (sets d 0 (part s 0 from)) d₂ from provider (records_from (start provider) (rows (drop from s))) c
-        (subst (λ (x : List ℕ). Wrote d (sets d 0 (part s 0 from)) 0 from x) opens.first first-wrote) opens.read v
+        (subst (λ (x : List ℕ). Wrote d (sets d 0 (part s 0 from)) 0 from x) opens.first first_wrote) opens.read v
 
-pub ruleset into_laws = (zeros_size, opening-behind, into-room, into_refused, into-records)
+pub ruleset into_laws = (zeros_size, opening_behind, into_room, into_refused, into_records)
 
 -- ---- the output
 
@@ -105,20 +105,20 @@ module _ (s d a : List ℕ) {l : ℕ} {c : Answer} (m : MadeOf l (canonical_file
   canonical_refused e = gives_refusal d (ap (map_res writes) (means e))
 
   module _ {t b b' : ℕ} (e : c ≡ Done t b b') where
-    pub canonical-inside : t ≤ length a
-    canonical-inside = (means e).1
+    pub canonical_inside : t ≤ length a
+    canonical_inside = (means e).1
 
     given : canonical_result s ≡ ok (writes (take (t - 0) (drop 0 a)))
     unfolding canonical_result
     given = let z : t ≡ t - 0 = omega arith in ap (map_res writes) (means e).0 ∙ ap (λ (n : ℕ). ok (writes (take n a))) z
 
     pub canonical_short : length d < t → Gives (canonical_result s) d d (Refused 20 0)
-    canonical_short h = front_20 a d canonical-inside given h
+    canonical_short h = front_20 a d canonical_inside given h
 
-    pub canonical-room : t ≤ length d → Room d 0 (take (t - 0) (drop 0 a))
-    canonical-room h = front_room a d canonical-inside given h
+    pub canonical_room : t ≤ length d → Room d 0 (take (t - 0) (drop 0 a))
+    canonical_room h = front_room a d canonical_inside given h
 
-    pub canonical-written : {d' : List ℕ} {r : ℕ} → Wrote d d' 0 r (take (t - 0) (drop 0 a)) → Gives (canonical_result s) d d' (Done t 0 0)
-    canonical-written w = front_written a d canonical-inside given w
+    pub canonical_written : {d' : List ℕ} {r : ℕ} → Wrote d d' 0 r (take (t - 0) (drop 0 a)) → Gives (canonical_result s) d d' (Done t 0 0)
+    canonical_written w = front_written a d canonical_inside given w
 
-pub ruleset canonical_laws = (canonical_refused, canonical-inside, canonical_short, canonical-room, canonical-written)
+pub ruleset canonical_laws = (canonical_refused, canonical_inside, canonical_short, canonical_room, canonical_written)

@@ -33,16 +33,16 @@ use Rattle.notebook.specs.Notebook.{step_line, prepend, closed, onward, records_
 use Rattle.notebook.specs.Check.{count, check_result}
 use Rattle.notebook.proofs.Answered.{answered}
 use Rattle.checking.specs.Walking.{tally, Midway, Closing}
-use Rattle.checking.proofs.LineFacts.{whole-line, records_end, records_mark, records_broken, records-on}
+use Rattle.checking.proofs.LineFacts.{whole_line, records_end, records_mark, records_broken, records_on}
 use Rattle.checking.specs.declared.Turn.{Turn}
 use Rattle.checking.specs.declared.Turn.TheVariants.{Over, Refused as TurnRefused, On as TurnOn}
 use Rattle.checking.specs.Turns.{RefusedAt, broken, faulty, TurnOf}
-use Rattle.checking.proofs.TurnLaws.{turn_facts, turn_over, turn_refused, turn_step, turn-fits}
+use Rattle.checking.proofs.TurnLaws.{turn_facts, turn_over, turn_refused, turn_step, turn_fits}
 use Rattle.notebook.proofs.Placing.{Placed, placed}
 use Rattle.checking.specs.declared.Opening.{Opening}
 use Rattle.checking.specs.declared.Opening.TheVariants.{Records, Refused as OpenRefused}
 use Rattle.checking.specs.Opening.{Behind, OpeningOf}
-use Rattle.checking.proofs.OpenLaws.{zeros_size, opening_refused, opening-records, opening-behind}
+use Rattle.checking.proofs.OpenLaws.{zeros_size, opening_refused, opening_records, opening_behind}
 
 three : {a b c a' b' c' : ℕ} → a ≡ a' → b ≡ b' → c ≡ c' → Done a b c ≡ Done a' b' c'
 three p q r = cc
@@ -111,62 +111,62 @@ module _ {st₀ : State} {s : List ℕ} {from : ℕ} {st : State} {at : ℕ} (v 
   answer e = e ∙ sym v.left
 
   module _ {stops : List ℕ} {k : Line} (w : LineOf s at stops k) where
-    reading-end : {r : Answer} → k ≡ End → r ≡ tally st (closed st) → r ≡ tally st₀ (records_from st₀ (rows (drop from s)))
-    reading-end e q = answer (q ∙ sym (ap (tally st) (records_end w st e)))
+    reading_end : {r : Answer} → k ≡ End → r ≡ tally st (closed st) → r ≡ tally st₀ (records_from st₀ (rows (drop from s)))
+    reading_end e q = answer (q ∙ sym (ap (tally st) (records_end w st e)))
 
-    reading-mark : {r : Answer} → k ≡ Mark → r ≡ tally st (closed st) → r ≡ tally st₀ (records_from st₀ (rows (drop from s)))
-    reading-mark e q = answer (q ∙ sym (ap (tally st) (records_mark w st e)))
+    reading_mark : {r : Answer} → k ≡ Mark → r ≡ tally st (closed st) → r ≡ tally st₀ (records_from st₀ (rows (drop from s)))
+    reading_mark e q = answer (q ∙ sym (ap (tally st) (records_mark w st e)))
 
-    reading-broken : k ≡ Broken → Refused 2 (st.line + 1) ≡ tally st₀ (records_from st₀ (rows (drop from s)))
-    reading-broken e = answer (sym (ap (tally st) (records_broken w st e)))
+    reading_broken : k ≡ Broken → Refused 2 (st.line + 1) ≡ tally st₀ (records_from st₀ (rows (drop from s)))
+    reading_broken e = answer (sym (ap (tally st) (records_broken w st e)))
 
     module _ {e : ℕ} {good : Bool} {n : ℕ} (q : k ≡ Whole e good n) where
       next : Moved → Res (List Record)
       next = onward (st.line + 1) (record_of (part s at e)) (λ t. records_from t (rows (drop (e + 2) s)))
 
       module _ {m : Moved} (o : m ≡ step_line st (take (e - at) (drop at s))) where
-        reading-refused : {j : ℕ} → m ≡ StepRefused j → Refused j (st.line + 1) ≡ tally st₀ (records_from st₀ (rows (drop from s)))
+        reading_refused : {j : ℕ} → m ≡ StepRefused j → Refused j (st.line + 1) ≡ tally st₀ (records_from st₀ (rows (drop from s)))
         unfolding onward next
-        reading-refused u = sym (v.left ∙ ap (tally st) (records-on w q st ∙ ap next (sym o ∙ u)))
+        reading_refused u = sym (v.left ∙ ap (tally st) (records_on w q st ∙ ap next (sym o ∙ u)))
 
-        reading-on : {t : State} {rp d : ℕ} → m ≡ On t rp d → Reading st₀ s from t (e + 2)
+        reading_on : {t : State} {rp d : ℕ} → m ≡ On t rp d → Reading st₀ s from t (e + 2)
         unfolding onward next
-        reading-on {t} {rp} {d} u =
+        reading_on {t} {rp} {d} u =
             let p : Placed st (part s at e) t rp d = placed st (part s at e) t rp d (sym o ∙ u) in
             let l : t.line ≡ st.line + 1 = next_line st (facts_of (record_of (part s at e))) t rp d p.step in
             record {
-              left = v.left ∙ ap (tally st) (records-on w q st ∙ ap next (sym o ∙ u))
+              left = v.left ∙ ap (tally st) (records_on w q st ∙ ap next (sym o ∙ u))
                   ∙ tally_on st (record_of (part s at e)) (records_from t (rows (drop (e + 2) s))) here.low
                   ∙ ap (λ (x : State). tally x (records_from t (rows (drop (e + 2) s)))) (sym p.state);
               midway = record {
                 room = room st (facts_of (record_of (part s at e))) t rp d p.step here.room (omega (arith, l, here.line, here.high, here.small));
                 low = omega (arith, l);
-                line = omega (arith, l, here.line, (whole-line w q).low);
-                high = (whole-line w q).high;
+                line = omega (arith, l, here.line, (whole_line w q).low);
+                high = (whole_line w q).high;
                 small = here.small;
               };
             }
 
   -- by a turn
   module _ {stops : List ℕ} {k : Turn} (w : TurnOf st s at stops k) where
-    pub reading-over : {r : Answer} → k ≡ Over → r ≡ tally st (closed st) → r ≡ tally st₀ (records_from st₀ (rows (drop from s)))
-    reading-over q p = ⊎_elim (λ l. reading-end l refl p) (λ l. reading-mark l refl p) (turn_over w q)
+    pub reading_over : {r : Answer} → k ≡ Over → r ≡ tally st (closed st) → r ≡ tally st₀ (records_from st₀ (rows (drop from s)))
+    reading_over q p = ⊎_elim (λ l. reading_end l refl p) (λ l. reading_mark l refl p) (turn_over w q)
 
-    pub reading-stopped : {n : ℕ} → k ≡ TurnRefused n → Refused n (st.line + 1) ≡ tally st₀ (records_from st₀ (rows (drop from s)))
-    reading-stopped {n} q = go (turn_refused w q)
+    pub reading_stopped : {n : ℕ} → k ≡ TurnRefused n → Refused n (st.line + 1) ≡ tally st₀ (records_from st₀ (rows (drop from s)))
+    reading_stopped {n} q = go (turn_refused w q)
       where
         go : RefusedAt st s at stops n → Refused n (st.line + 1) ≡ tally st₀ (records_from st₀ (rows (drop from s)))
-        go (broken l e) = ap (λ (j : ℕ). Refused j (st.line + 1)) e ∙ reading-broken l refl
-        go (faulty e m x) = reading-refused x.line refl x.step refl
+        go (broken l e) = ap (λ (j : ℕ). Refused j (st.line + 1)) e ∙ reading_broken l refl
+        go (faulty e m x) = reading_refused x.line refl x.step refl
 
     module _ {t : State} {rp d e n : ℕ} (q : k ≡ TurnOn t rp d e n) where
-      pub reading-next : Reading st₀ s from t (e + 2)
-      reading-next = let x = turn_step w q in reading-on x.line refl x.step refl
+      pub reading_next : Reading st₀ s from t (e + 2)
+      reading_next = let x = turn_step w q in reading_on x.line refl x.step refl
 
-      pub reading-within : Fits w64 (e + 2)
-      reading-within = turn-fits w q here.small
+      pub reading_within : Fits w64 (e + 2)
+      reading_within = turn_fits w q here.small
 
-pub ruleset reading_laws = (turn_facts, reading_start, reading_closing, reading_fits, reading_room, reading-over, reading-stopped, reading-next, reading-within)
+pub ruleset reading_laws = (turn_facts, reading_start, reading_closing, reading_fits, reading_room, reading_over, reading_stopped, reading_next, reading_within)
 
 -- ---- the file
 
@@ -182,6 +182,6 @@ module _ {s : List ℕ} {k : Opening} (w : OpeningOf s k) where
 
   pub check_records : {provider : Bool} {from : ℕ} → k ≡ Records provider from → {r : Answer} → r ≡ tally (start provider) (records_from (start provider) (rows (drop from s))) → r ≡ answer_in (check_result s) []
   unfolding answer_in check_result
-  check_records {provider} {from} q t = t ∙ tally_start provider (records_from (start provider) (rows (drop from s))) ∙ sym (ap answered (opening-records w q).read)
+  check_records {provider} {from} q t = t ∙ tally_start provider (records_from (start provider) (rows (drop from s))) ∙ sym (ap answered (opening_records w q).read)
 
-pub ruleset check_laws = (zeros_size, opening-behind, check_refused, check_records)
+pub ruleset check_laws = (zeros_size, opening_behind, check_refused, check_records)

@@ -54,33 +54,33 @@ module _ {s : List ℕ} {at : ℕ} {stops : List ℕ} {k : Line} (w : LineOf s a
     scanned : ScannedLine s at stops e good n
     scanned = line_means q
 
-    pub whole-line : WholeLine s at e good
-    whole-line = scanned.line
+    pub whole_line : WholeLine s at e good
+    whole_line = scanned.line
 
-    pub whole-low : at ≤ e
-    whole-low = whole-line.low
+    pub whole_low : at ≤ e
+    whole_low = whole_line.low
 
-    pub whole-high : e ≤ length s
-    whole-high = omega (arith, whole-line.high)
+    pub whole_high : e ≤ length s
+    whole_high = omega (arith, whole_line.high)
 
-    pub whole-fits : length s ≤ 65536 → Fits w64 (e + 2)
-    whole-fits h = omega (arith, whole-line.high)
+    pub whole_fits : length s ≤ 65536 → Fits w64 (e + 2)
+    whole_fits h = omega (arith, whole_line.high)
 
-    pub whole-less : length s - (e + 2) < length s - at
-    whole-less = omega (arith, whole-line.high, whole-line.low)
+    pub whole_less : length s - (e + 2) < length s - at
+    whole_less = omega (arith, whole_line.high, whole_line.low)
 
-    pub whole-commas : Commas (take (e - at) (drop at s)) n
-    whole-commas = record { is = scanned.commas }
+    pub whole_commas : Commas (take (e - at) (drop at s)) n
+    whole_commas = record { is = scanned.commas }
 
-    pub whole-places : Stops (take (e - at) (drop at s)) stops
-    whole-places = scanned.places
+    pub whole_places : Stops (take (e - at) (drop at s)) stops
+    whole_places = scanned.places
 
     pub whole_length : length (part s at e) ≡ e - at
-    whole_length = length-take-le (e - at) (drop at s) (omega (arith, whole-line.low, whole-line.high, length-drop at s))
+    whole_length = length-take-le (e - at) (drop at s) (omega (arith, whole_line.low, whole_line.high, length-drop at s))
 
-    pub records-on : (st : State)
+    pub records_on : (st : State)
         → records_from st (rows (drop at s))
         ≡ onward (st.line + 1) (record_of (part s at e)) (λ t. records_from t (rows (drop (e + 2) s))) (step_line st (part s at e))
     unfolding records_from
-    records-on st =
-        rw (whole-line.cut, line_no_mark (part s at e), line_is (part s at e) whole-line.clear, line_text (part s at e) whole-line.clear)
+    records_on st =
+        rw (whole_line.cut, line_no_mark (part s at e), line_is (part s at e) whole_line.clear, line_text (part s at e) whole_line.clear)

@@ -46,17 +46,17 @@ module _ (s : List ℕ) where
     first_line : {j : Line} → k ≡ j → LineMeans s 0 stops j
     first_line e = subst (LineMeans s 0 stops) e w.means
 
-    pub open-end : k ≡ End → OpeningOf s (Refused 2 1)
+    pub open_end : k ≡ End → OpeningOf s (Refused 2 1)
     unfolding read_rows
-    open-end e = record { means = by_rows ∙ ap read_rows (first_line e) }
+    open_end e = record { means = by_rows ∙ ap read_rows (first_line e) }
 
-    pub open-mark : k ≡ Mark → OpeningOf s (Refused 2 1)
+    pub open_mark : k ≡ Mark → OpeningOf s (Refused 2 1)
     unfolding read_rows is_line
-    open-mark e = record { means = by_rows ∙ ap read_rows (first_line e) }
+    open_mark e = record { means = by_rows ∙ ap read_rows (first_line e) }
 
-    pub open-broken : k ≡ Broken → OpeningOf s (Refused 2 1)
+    pub open_broken : k ≡ Broken → OpeningOf s (Refused 2 1)
     unfolding read_rows
-    open-broken e = record { means = by_rows ∙ go (rows s) (first_line e) }
+    open_broken e = record { means = by_rows ∙ go (rows s) (first_line e) }
       where
         go : (rs : List (List ℕ)) → BrokenRow rs → read_rows rs ≡ refused 2 1
         go [] b = absurd b
@@ -66,24 +66,24 @@ module _ (s : List ℕ) where
       line_1 : WholeLine s 0 e good
       line_1 = (first_line q).line
 
-      pub open-fits : Fits w64 (e + 2)
-      open-fits = omega (arith, line_1.high, h)
+      pub open_fits : Fits w64 (e + 2)
+      open_fits = omega (arith, line_1.high, h)
 
-      pub open-high : e + 2 ≤ length s
-      open-high = line_1.high
+      pub open_high : e + 2 ≤ length s
+      open_high = line_1.high
 
       -- line 1 with its end
-      row-1 : take (e + 2 - 0) (drop 0 s) ≡ part s 0 e ++ line_end
-      row-1 =
+      row_1 : take (e + 2 - 0) (drop 0 s) ≡ part s 0 e ++ line_end
+      row_1 =
           let l : length (part s 0 e ++ line_end) ≡ e + 2 - 0 = length-append (part s 0 e) line_end ∙ omega (arith, length-take-le (e - 0) s (omega (arith, line_1.high))) in
           let a : s ≡ (part s 0 e ++ line_end) ++ flat (rows (drop (e + 2) s)) = sym (flat_rows s) ∙ ap flat line_1.cut in
           ap (take (e + 2 - 0)) a ∙ take_at (part s 0 e ++ line_end) (flat (rows (drop (e + 2) s))) (e + 2 - 0) l
 
       module _ {f : Heading} (p : f ≡ heading_of (take (e + 2 - 0) (drop 0 s))) where
-        pub open-records : {provider : Bool} → f ≡ Line1 provider → OpeningOf s (Records provider (e + 2))
-        open-records {provider} t =
+        pub open_records : {provider : Bool} → f ≡ Line1 provider → OpeningOf s (Records provider (e + 2))
+        open_records {provider} t =
             let a : part s 0 (e + 2) ≡ head_row provider = heading_is (part s 0 (e + 2)) p t in
-            let c : rows s ≡ head_row provider ∷ rows (drop (e + 2) s) = line_1.cut ∙ ap (λ (r : List ℕ). r ∷ rows (drop (e + 2) s)) (sym row-1 ∙ a) in
+            let c : rows s ≡ head_row provider ∷ rows (drop (e + 2) s) = line_1.cut ∙ ap (λ (r : List ℕ). r ∷ rows (drop (e + 2) s)) (sym row_1 ∙ a) in
             record {
               means = record {
                 behind = record { low = omega arith; high = line_1.high; small = h };
@@ -100,16 +100,16 @@ module _ (s : List ℕ) where
             go : (x : Bool) → same (part s 0 e) (header d) ≡ x → x ≡ false
             go false a = refl
             go true a =
-                let r : part s 0 (e + 2) ≡ head_row d = row-1 ∙ ap (λ (l : List ℕ). l ++ line_end) (same_true (part s 0 e) (header d) a) in
+                let r : part s 0 (e + 2) ≡ head_row d = row_1 ∙ ap (λ (l : List ℕ). l ++ line_end) (same_true (part s 0 e) (header d) a) in
                 absurd (true≢false (sym (ap (λ (l : List ℕ). same l (head_row d)) r ∙ same_refl (head_row d)) ∙ heading_not (part s 0 (e + 2)) p t d))
 
-        pub open-version : f ≡ Other → OpeningOf s (Refused 3 1)
+        pub open_version : f ≡ Other → OpeningOf s (Refused 3 1)
         unfolding read_rows
-        open-version t = record {
+        open_version t = record {
           means = by_rows ∙ rw (line_1.cut, line_is (part s 0 e) line_1.clear, line_text (part s 0 e) line_1.clear, other t true, other t false);
         }
 
-pub ruleset open_laws = (zeros_size, open_large, open-end, open-mark, open-broken, open-fits, open-high, open-records, open-version)
+pub ruleset open_laws = (zeros_size, open_large, open_end, open_mark, open_broken, open_fits, open_high, open_records, open_version)
 
 -- ---- what an opening says
 
@@ -118,8 +118,8 @@ module _ {s : List ℕ} {k : Opening} (w : OpeningOf s k) where
   opening_refused q = subst (OpeningMeans s) q w.means
 
   module _ {provider : Bool} {from : ℕ} (q : k ≡ Records provider from) where
-    pub opening-records : OpensAt s provider from
-    opening-records = subst (OpeningMeans s) q w.means
+    pub opening_records : OpensAt s provider from
+    opening_records = subst (OpeningMeans s) q w.means
 
-    pub opening-behind : Behind s from
-    opening-behind = opening-records.behind
+    pub opening_behind : Behind s from
+    opening_behind = opening_records.behind

@@ -23,7 +23,7 @@ use Rattle.lines.specs.Found.{FaultAt, broken as broken_line_lem, faulty as faul
 use Rattle.checking.specs.declared.Turn.{Turn}
 use Rattle.checking.specs.declared.Turn.TheVariants.{On, Refused, Over}
 use Rattle.checking.specs.Turns.{StepAt, RefusedAt, broken, faulty, TurnMeans, TurnOf}
-use Rattle.checking.proofs.LineFacts.{whole-low, whole-high, whole-fits, whole-less, whole-commas, whole-places}
+use Rattle.checking.proofs.LineFacts.{whole_low, whole_high, whole_fits, whole_less, whole_commas, whole_places}
 
 -- ---- the ways through read_record
 
@@ -50,13 +50,13 @@ module _ (st : State) {s : List ℕ} {at : ℕ} {stops : List ℕ} {k : LineRead
         let x : RecordAt st.provider s at stops facts e n = subst (ReadMeans st.provider s at stops) q w.means in
         record { good = true; line = x.line; step = rw (x.fine, ← x.facts_are) (sym u ∙ o) }
 
-    pub turn-faulty : {j : ℕ} → m ≡ StepRefused j → TurnOf st s at stops (Refused j)
-    turn-faulty u = record { means = faulty e n (placed_at u); size = w.size }
+    pub turn_faulty : {j : ℕ} → m ≡ StepRefused j → TurnOf st s at stops (Refused j)
+    turn_faulty u = record { means = faulty e n (placed_at u); size = w.size }
 
     pub turn_on : {t : State} {rp d : ℕ} → m ≡ StepOn t rp d → TurnOf st s at stops (On t rp d e n)
     turn_on u = record { means = placed_at u; size = w.size }
 
-pub ruleset read_record_laws = (turn_ends, turn_fault, turn-faulty, turn_on)
+pub ruleset read_record_laws = (turn_ends, turn_fault, turn_faulty, turn_on)
 
 -- ---- what a turn says to a loop
 
@@ -75,21 +75,21 @@ module _ {st : State} {s : List ℕ} {at : ℕ} {stops : List ℕ} {k : Turn} (w
     turn_step = subst (TurnMeans st s at stops) q w.means
 
     pub turn_low : at ≤ e
-    turn_low = whole-low turn_step.line refl
+    turn_low = whole_low turn_step.line refl
 
-    pub turn-high : e ≤ length s
-    turn-high = whole-high turn_step.line refl
+    pub turn_high : e ≤ length s
+    turn_high = whole_high turn_step.line refl
 
-    pub turn-fits : length s ≤ 65536 → Fits w64 (e + 2)
-    turn-fits h = whole-fits turn_step.line refl h
+    pub turn_fits : length s ≤ 65536 → Fits w64 (e + 2)
+    turn_fits h = whole_fits turn_step.line refl h
 
-    pub turn-less : length s - (e + 2) < length s - at
-    turn-less = whole-less turn_step.line refl
+    pub turn_less : length s - (e + 2) < length s - at
+    turn_less = whole_less turn_step.line refl
 
-    pub turn-commas : Commas (take (e - at) (drop at s)) n
-    turn-commas = whole-commas turn_step.line refl
+    pub turn_commas : Commas (take (e - at) (drop at s)) n
+    turn_commas = whole_commas turn_step.line refl
 
-    pub turn-places : Stops (take (e - at) (drop at s)) stops
-    turn-places = whole-places turn_step.line refl
+    pub turn_places : Stops (take (e - at) (drop at s)) stops
+    turn_places = whole_places turn_step.line refl
 
-pub ruleset turn_facts = (turn_size, turn_low, turn-high, turn-fits, turn-less, turn-commas, turn-places)
+pub ruleset turn_facts = (turn_size, turn_low, turn_high, turn_fits, turn_less, turn_commas, turn_places)

@@ -13,12 +13,12 @@ use Rattle.characters.specs.Rows.{flat}
 use Rattle.buffers.specs.Buffers.{Wrote}
 use Rattle.replies.specs.declared.Answer.TheVariants.{Done, Refused}
 use Rattle.replies.specs.CallContracts.{Gives}
-use Rattle.replies.proofs.Results.{gives_refusal, gives-20, gives-written}
+use Rattle.replies.proofs.Results.{gives_refusal, gives_20, gives_written}
 use Rattle.division.specs.Cut.{listed, writes_pieces}
 use Rattle.cut.specs.declared.Chosen.{Chosen}
 use Rattle.cut.specs.declared.Chosen.TheVariants.{Count, NoWidth}
 use Rattle.cut.specs.Loops.{chosen, numbered_as, poured, Ready, planned_as, cutting_of, Given, cut_of_bytes}
-use Rattle.cut.proofs.PlanLaws.{Found, plan_fits, plan-fails, plan_found, overheads_most, found_few, found_wide, found_ends, found_bytes, found_length}
+use Rattle.cut.proofs.PlanLaws.{Found, plan_fits, plan_fails, plan_found, overheads_most, found_few, found_wide, found_ends, found_bytes, found_length}
 
 -- ---- a list of pieces is found, whose bytes are b
 
@@ -31,13 +31,13 @@ module _ (s : List ℕ) (c : ℕ) (id d : List ℕ) where
   none_found p = gives_refusal d (given p)
 
   module _ (ps : List (List ℕ)) (b : List ℕ) (p : cutting_of id c s ≡ some ps) (q : flat ps ≡ b) where
-    held-short : length d < length b → Gives (cut_of_bytes s c id) d d (Refused 20 0)
-    held-short l = gives-20 d (given p) (omega (arith, ap length q))
+    held_short : length d < length b → Gives (cut_of_bytes s c id) d d (Refused 20 0)
+    held_short l = gives_20 d (given p) (omega (arith, ap length q))
 
-    held-done : {d' : List ℕ} {r m : ℕ} → m ≡ length b → Wrote d d' 0 r b → Gives (cut_of_bytes s c id) d d' (Done (length ps) m 0)
-    held-done {d'} {r} {m} e x =
+    held_done : {d' : List ℕ} {r m : ℕ} → m ≡ length b → Wrote d d' 0 r b → Gives (cut_of_bytes s c id) d d' (Done (length ps) m 0)
+    held_done {d'} {r} {m} e x =
         subst (λ (t : ℕ). Gives (cut_of_bytes s c id) d d' (Done (length ps) t 0)) (ap length q ∙ sym e)
-        (gives-written d (given p) (subst (λ (w : List ℕ). Wrote d d' 0 r w) (sym q) x))
+        (gives_written d (given p) (subst (λ (w : List ℕ). Wrote d d' 0 r w) (sym q) x))
 
 numbered_count : (head id : List ℕ) (n : ℕ) (xs : List (List (List ℕ))) (k : ℕ) → length (numbered_as head id n k xs) ≡ length xs
 unfolding numbered_as
@@ -48,20 +48,20 @@ numbered_count head id n (x ∷ xs) k = ap suc (numbered_count head id n xs (suc
 
 module _ {s id : List ℕ} {c : ℕ} (d : List ℕ) (g : Given s id) where
   module _ (h : length s ≤ c) where
-    one_piece : cutting_of id c s ≡ some (s ∷ [])
+    one_piece_lem : cutting_of id c s ≡ some (s ∷ [])
     unfolding cutting_of
-    one_piece = ap (planned_as id s) (plan_fits s c g.header h)
+    one_piece_lem = ap (planned_as id s) (plan_fits s c g.header h)
 
-    pub whole-short : length d < length s → Gives (cut_of_bytes s c id) d d (Refused 20 0)
-    whole-short l = held-short s c id d (s ∷ []) s one_piece (append-nil s) l
+    pub whole_short : length d < length s → Gives (cut_of_bytes s c id) d d (Refused 20 0)
+    whole_short l = held_short s c id d (s ∷ []) s one_piece_lem (append-nil s) l
 
-    pub whole-done : {d₁ : List ℕ} {r : ℕ} → Wrote d d₁ 0 r s → Gives (cut_of_bytes s c id) d d₁ (Done 1 (length s) 0)
-    whole-done p = held-done s c id d (s ∷ []) s one_piece (append-nil s) refl p
+    pub whole_done : {d₁ : List ℕ} {r : ℕ} → Wrote d d₁ 0 r s → Gives (cut_of_bytes s c id) d d₁ (Done 1 (length s) 0)
+    whole_done p = held_done s c id d (s ∷ []) s one_piece_lem (append-nil s) refl p
 
   module _ (h : c < length s) {r : Chosen} (p : r ≡ chosen s c) where
-    pub no-width : r ≡ NoWidth → Gives (cut_of_bytes s c id) d d (Refused 18 0)
+    pub no_width : r ≡ NoWidth → Gives (cut_of_bytes s c id) d d (Refused 18 0)
     unfolding cutting_of
-    no-width q = none_found s c id d (ap (planned_as id s) (plan-fails s c g.header h (sym p ∙ q)))
+    no_width q = none_found s c id d (ap (planned_as id s) (plan_fails s c g.header h (sym p ∙ q)))
 
     module _ {w n t : ℕ} (q : r ≡ Count w n t) where
       found : Found s c w n t
@@ -77,19 +77,19 @@ module _ {s id : List ℕ} {c : ℕ} (d : List ℕ) (g : Given s id) where
       small : t + (length s - 13) < 200000
       small = omega (arith, g.bytes, found.sum, overheads_most w n (found_wide found), found_few found)
 
-      pub total-fits : Fits w64 (t + (length s - 13))
-      total-fits = omega (arith, small)
+      pub total_fits : Fits w64 (t + (length s - 13))
+      total_fits = omega (arith, small)
 
-      pub total-fits-32 : Fits w32 (t + (length s - 13))
-      total-fits-32 = omega (arith, small)
+      pub total_fits_32 : Fits w32 (t + (length s - 13))
+      total_fits_32 = omega (arith, small)
 
-      pub split-short : length d < t + (length s - 13) → Gives (cut_of_bytes s c id) d d (Refused 20 0)
-      split-short l =
-          held-short s c id d (numbered_as (part s 0 13) id n 1 found.runs) (poured s c w id n 1 13) many (found_bytes found id) (omega (arith, size))
+      pub split_short : length d < t + (length s - 13) → Gives (cut_of_bytes s c id) d d (Refused 20 0)
+      split_short l =
+          held_short s c id d (numbered_as (part s 0 13) id n 1 found.runs) (poured s c w id n 1 13) many (found_bytes found id) (omega (arith, size))
 
       module _ (l : t + (length s - 13) ≤ length d) where
-        pub split-ready : Ready d s c w n id
-        split-ready = record {
+        pub split_ready : Ready d s c w n id
+        split_ready = record {
           small = record { bytes = g.bytes; header = g.header; more = h };
           wide = found_wide found;
           few = found_few found;
@@ -101,6 +101,6 @@ module _ {s id : List ℕ} {c : ℕ} (d : List ℕ) (g : Given s id) where
         split_done {d₁} {y} z =
             let k : length (numbered_as (part s 0 13) id n 1 found.runs) ≡ n = numbered_count (part s 0 13) id n found.runs 1 ∙ found.count in
             subst (λ (m : ℕ). Gives (cut_of_bytes s c id) d d₁ (Done m (t + (length s - 13)) 0)) k
-            (held-done s c id d (numbered_as (part s 0 13) id n 1 found.runs) (poured s c w id n 1 13) many (found_bytes found id) size z)
+            (held_done s c id d (numbered_as (part s 0 13) id n 1 found.runs) (poured s c w id n 1 13) many (found_bytes found id) size z)
 
-pub ruleset answer_laws = (whole-short, whole-done, no-width, total-fits, total-fits-32, split-short, split-ready, split_done)
+pub ruleset answer_laws = (whole_short, whole_done, no_width, total_fits, total_fits_32, split_short, split_ready, split_done)

@@ -18,7 +18,7 @@ use Rattle.packing.specs.Packing.{total, pack}
 use Rattle.digits.specs.Digits.{digit_count}
 use Rattle.digits.proofs.Numbers.{count_most, count_up}
 use Rattle.packing.specs.Widths.{Plan, over, serves, or_next, tries}
-use Rattle.packing.proofs.Packing.{Holds, pack_last, pack-stuck, pack-run, pack_more}
+use Rattle.packing.proofs.Packing.{Holds, pack_last, pack_stuck, pack_run, pack_more}
 use Rattle.packing.proofs.Widths.{over_up, serves_digits}
 use Rattle.cut.specs.declared.Chosen.TheVariants.{Count, NoWidth}
 use Rattle.cut.specs.Loops.{OverOf, first_length, RunAt, runs_at, past_last, ends, overheads, chosen_by, chosen_from, chosen, Small}
@@ -60,26 +60,26 @@ module _ (s : List ℕ) (c w k i e : ℕ) (x : RunAt s i (over w k) c e) where
     next_row : First (drop e s)
     next_row = rw (drop_step s e 0 h) (first_row (get_or s e 0) (drop (e + 1) s))
 
-    next-long : c < over w k + (e - i) + suc (length next_row.more)
-    next-long = omega (arith, x.next h, ap first_length next_row.cut)
+    next_long : c < over w k + (e - i) + suc (length next_row.more)
+    next_long = omega (arith, x.next h, ap first_length next_row.cut)
 
-    pub runs-next : i < e → runs_at s c w k i ≡ map (λ xs. rows (part s i e) ∷ xs) (runs_at s c w (k + 1) e)
+    pub runs_next : i < e → runs_at s c w k i ≡ map (λ xs. rows (part s i e) ∷ xs) (runs_at s c w (k + 1) e)
     unfolding runs_at
-    runs-next g =
+    runs_next g =
         rw (x.cut, next_row.cut, add-one k)
-        (pack-run length (over w) c (over_up w) k (over w k) (rows (part s i e)) (next_row.byte ∷ next_row.more) next_row.others
-        (omega (arith, taken_total, x.fits g)) (omega (arith, taken_total, next-long)))
+        (pack_run length (over w) c (over_up w) k (over w k) (rows (part s i e)) (next_row.byte ∷ next_row.more) next_row.others
+        (omega (arith, taken_total, x.fits g)) (omega (arith, taken_total, next_long)))
 
-    pub runs-stuck : e ≤ i → runs_at s c w k i ≡ none
+    pub runs_stuck : e ≤ i → runs_at s c w k i ≡ none
     unfolding runs_at
-    runs-stuck g =
+    runs_stuck g =
         let q : e ≡ i = omega (arith, x.low) in
         rw (← q, next_row.cut)
-        (pack-stuck length (over w) c (over_up w) k (next_row.byte ∷ next_row.more) next_row.others (omega (arith, next-long)))
+        (pack_stuck length (over w) c (over_up w) k (next_row.byte ∷ next_row.more) next_row.others (omega (arith, next_long)))
 
     pub ends_next : i < e → ends s c w k i ≡ ends s c w (k + 1) e
     unfolding ends
-    ends_next g = ap (past_last k) (runs-next g) ∙ go (runs_at s c w (k + 1) e)
+    ends_next g = ap (past_last k) (runs_next g) ∙ go (runs_at s c w (k + 1) e)
       where
         go : (m : Option (List (List (List ℕ)))) → past_last k (map (λ xs. rows (part s i e) ∷ xs) m) ≡ past_last (k + 1) m
         go none = refl
@@ -87,7 +87,7 @@ module _ (s : List ℕ) (c w k i e : ℕ) (x : RunAt s i (over w k) c e) where
 
     pub ends_stuck : e ≤ i → ends s c w k i ≡ none
     unfolding ends
-    ends_stuck g = ap (past_last k) (runs-stuck g)
+    ends_stuck g = ap (past_last k) (runs_stuck g)
 
   pub ends_last : length s ≤ e → ends s c w k i ≡ some (k + 1)
   unfolding ends
@@ -204,27 +204,27 @@ module _ (s : List ℕ) (c w₀ w t k u i : ℕ) (v : Packing s c w₀ w t k u i
     run : RunAt s i (over w k) c e
     run = rw v.used.is at r
 
-    pub try-found : {x : Bool} → length s ≤ e → x ≡ serves w k → x ≡ true → Count w k t ≡ chosen s c
-    try-found h p q =
+    pub try_found : {x : Bool} → length s ≤ e → x ≡ serves w k → x ≡ true → Count w k t ≡ chosen s c
+    try_found h p q =
         let y : ends s c w 1 13 ≡ some (k + 1) = sym v.same ∙ ends_last s c w k i e run h in
         sym (v.trying.same ∙ (from_found s c w v.wide k y (sym p ∙ q) ∙ rw v.sum))
 
-    pub try-other : {x : Bool} → length s ≤ e → x ≡ serves w k → x ≡ false → Trying s c (w + 1)
-    try-other h p q =
+    pub try_other : {x : Bool} → length s ≤ e → x ≡ serves w k → x ≡ false → Trying s c (w + 1)
+    try_other h p q =
         let y : ends s c w 1 13 ≡ some (k + 1) = sym v.same ∙ ends_last s c w k i e run h in
         again (from_other s c w v.wide k y (sym p ∙ q))
 
     module _ (h : e < length s) where
-      pub try-none : e ≤ i → Trying s c (w + 1)
-      try-none g = again (from_none s c w v.wide (sym v.same ∙ ends_stuck s c w k i e run h g))
+      pub try_none : e ≤ i → Trying s c (w + 1)
+      try_none g = again (from_none s c w v.wide (sym v.same ∙ ends_stuck s c w k i e run h g))
 
       module _ (g : i < e) where
         onward : ends s c w (k + 1) e ≡ ends s c w 1 13
         onward = sym (ends_next s c w k i e run h g) ∙ v.same
 
         -- a piece more than the width can count: no count serves
-        pub try-many : {d : ℕ} → d ≡ digit_count (k + 1) → w < d → Trying s c (w + 1)
-        try-many {d} y l = go (ends s c w 1 13) refl
+        pub try_many : {d : ℕ} → d ≡ digit_count (k + 1) → w < d → Trying s c (w + 1)
+        try_many {d} y l = go (ends s c w 1 13) refl
           where
             go : (m : Option ℕ) → ends s c w 1 13 ≡ m → Trying s c (w + 1)
             go none q = again (from_none s c w v.wide q)
@@ -233,9 +233,9 @@ module _ (s : List ℕ) (c w₀ w t k u i : ℕ) (v : Packing s c w₀ w t k u i
                 let b : n ≡ n - 1 + 1 = omega arith in
                 again (from_other s c w v.wide (n - 1) (q ∙ ap some b) (never w (n - 1) (omega (arith, y, count_up (k + 1) (n - 1) (omega arith)))))
 
-        pub piece-opens : {o : ℕ} → OverOf w (k + 1) o → Packing s c w₀ w (t + o) (k + 1) o e
+        pub piece_opens : {o : ℕ} → OverOf w (k + 1) o → Packing s c w₀ w (t + o) (k + 1) o e
         unfolding overheads
-        piece-opens y = record {
+        piece_opens y = record {
           trying = v.trying;
           wide = v.wide;
           still = v.still;
@@ -247,4 +247,4 @@ module _ (s : List ℕ) (c w₀ w t k u i : ℕ) (v : Packing s c w₀ w t k u i
           same = onward;
         }
 
-pub ruleset count_laws = (try_start, try_out, pack_first, try-found, try-other, try-none, try-many, piece-opens)
+pub ruleset count_laws = (try_start, try_out, pack_first, try_found, try_other, try_none, try_many, piece_opens)

@@ -94,41 +94,41 @@ module _ (f : List ℕ) (c : ℕ) (id used d : List ℕ) {buf : List ℕ} {l : �
 
     -- x, y: what the tests of the ID said
     module _ {x : Bool} (q : x ≡ valid_id id) where
-      list-is : (v u : Bool) → v ≡ valid_id id → u ≡ unused id used → cut_list f c id used ≡ for_id v u (listed (cutting id c (arrange made.book)))
+      list_is : (v u : Bool) → v ≡ valid_id id → u ≡ unused id used → cut_list f c id used ≡ for_id v u (listed (cutting id c (arrange made.book)))
       unfolding cut_list
-      list-is v u e₁ e₂ = ap (λ (r : Res Notebook). and_then r (list_for id used c)) made.read ∙ rw (← e₁, ← e₂)
+      list_is v u e₁ e₂ = ap (λ (r : Res Notebook). and_then r (list_for id used c)) made.read ∙ rw (← e₁, ← e₂)
 
-      pub cut-no-id : not x ≡ true → Gives (cut_result f c id used) d d (Refused 17 0)
+      pub cut_no_id : not x ≡ true → Gives (cut_result f c id used) d d (Refused 17 0)
       unfolding cut_result
-      cut-no-id z = gives_refusal d (ap (map_res writes_pieces) (list-is false (unused id used) (sym (not_true' x z) ∙ q) refl))
+      cut_no_id z = gives_refusal d (ap (map_res writes_pieces) (list_is false (unused id used) (sym (not_true' x z) ∙ q) refl))
 
       module _ (z : not x ≡ false) where
         digits : true ≡ valid_id id
         digits = sym (not_false' x z) ∙ q
 
-        pub cut-long : length id ≡ 14
-        cut-long = id_length id (sym digits)
+        pub cut_long : length id ≡ 14
+        cut_long = id_length id (sym digits)
 
-        pub cut-given : Given (part buf 0 t) id
-        cut-given = record {
+        pub cut_given : Given (part buf 0 t) id
+        cut_given = record {
           bytes = rw (← made.bytes) (canonical_small f made.book made.read);
           header = rw (← made.bytes) (canonical_long f made.book made.read);
-          ident = cut-long;
+          ident = cut_long;
         }
 
         module _ {y : Bool} (p₁ : y ≡ unused id used) where
           pub cut-used : not y ≡ true → Gives (cut_result f c id used) d d (Refused 24 0)
           unfolding cut_result
-          cut-used w = gives_refusal d (ap (map_res writes_pieces) (list-is true false digits (sym (not_true' y w) ∙ p₁)))
+          cut-used w = gives_refusal d (ap (map_res writes_pieces) (list_is true false digits (sym (not_true' y w) ∙ p₁)))
 
           module _ (w : not y ≡ false) where
             pieces_are : cut_list f c id used ≡ listed (cutting_of id c (part buf 0 t))
             pieces_are =
-                list-is true true digits (sym (not_false' y w) ∙ p₁)
+                list_is true true digits (sym (not_false' y w) ∙ p₁)
                 ∙ ap listed (sym (cutting_as f made.book made.read id c) ∙ ap (cutting_of id c) made.bytes)
 
             pub cut-gives : {d' : List ℕ} {r : Answer} → Gives (cut_of_bytes (part buf 0 t) c id) d d' r → Gives (cut_result f c id used) d d' r
             unfolding cut_result cut_of_bytes
             cut-gives {d'} {r} v = subst (λ (x : Res Result). Gives x d d' r) (ap (map_res writes_pieces) (sym pieces_are)) v
 
-pub ruleset cut_laws = (cut_refused, cut_inside, cut-no-id, cut-long, cut-used, cut-given, cut-gives)
+pub ruleset cut_laws = (cut_refused, cut_inside, cut_no_id, cut_long, cut-used, cut_given, cut-gives)

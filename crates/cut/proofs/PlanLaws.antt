@@ -108,8 +108,8 @@ module _ (s : List ℕ) (c : ℕ) (h : 13 ≤ length s) where
     unfolding chosen chosen_from
     chosen_is = ap chosen_by (sym plan_is)
 
-    pub plan-fails : chosen s c ≡ NoWidth → plan length c (rows (drop 13 s)) ≡ no_plan
-    plan-fails e = go (plan length c (rows (drop 13 s))) refl (plan_good length c (rows (drop 13 s))) (sym chosen_is ∙ e)
+    pub plan_fails : chosen s c ≡ NoWidth → plan length c (rows (drop 13 s)) ≡ no_plan
+    plan_fails e = go (plan length c (rows (drop 13 s))) refl (plan_good length c (rows (drop 13 s))) (sym chosen_is ∙ e)
       where
         go : (p : Plan (List ℕ)) → plan length c (rows (drop 13 s)) ≡ p → Planned length c (rows (drop 13 s)) p → chosen_by p ≡ NoWidth
             → plan length c (rows (drop 13 s)) ≡ no_plan

@@ -25,7 +25,7 @@ use Rattle.packing.specs.Widths.{over}
 use Rattle.division.specs.Marks.{mark_line, mark_row}
 use Rattle.cut.specs.Loops.{OverOf, RunAt, runs_at, past_last, ends, numbered_as, pieces_as, poured, piece_as, MarkRoom, PieceRoom, Ready}
 use Rattle.cut.proofs.RowLaws.{part_length}
-use Rattle.cut.proofs.CountLaws.{no_some, runs_last, runs-next, ends_next, ends_stuck, ends_from}
+use Rattle.cut.proofs.CountLaws.{no_some, runs_last, runs_next, ends_next, ends_stuck, ends_from}
 
 -- ---- the record 911
 
@@ -63,22 +63,22 @@ module _ {d : List ℕ} {at : ℕ} {s : List ℕ} {i e : ℕ} {id : List ℕ} {n
     behind_head_lem : a ≡ at + 13
     behind_head_lem = omega (arith, p.next, part_length s 0 13 v.header (omega arith))
 
-    pub piece-rows : Room d₁ a (part s i e)
-    piece-rows = omega (arith, sizes, behind_head_lem, p.size, part_length s i e v.inside v.low)
+    pub piece_rows : Room d₁ a (part s i e)
+    piece_rows = omega (arith, sizes, behind_head_lem, p.size, part_length s i e v.inside v.low)
 
     module _ {d₂ : List ℕ} {b : ℕ} (q : Wrote d₁ d₂ a b (part s i e)) where
-      pub piece-mark : MarkRoom d₂ b id n k
-      piece-mark = record {
+      pub piece_mark : MarkRoom d₂ b id n k
+      piece_mark = record {
         few_n = v.few_n;
         few_k = v.few_k;
         room = omega (arith, sizes, behind_head_lem, p.size, q.size, q.next, part_length s i e v.inside v.low, mark_length id n k);
       }
 
-      pub piece-wrote : {d₃ : List ℕ} {r : ℕ} → Wrote d₂ d₃ b r (mark_row id n k) → Wrote d d₃ at r (piece_as s id n k i e)
+      pub piece_wrote : {d₃ : List ℕ} {r : ℕ} → Wrote d₂ d₃ b r (mark_row id n k) → Wrote d d₃ at r (piece_as s id n k i e)
       unfolding piece_as
-      piece-wrote z = then p (then q z)
+      piece_wrote z = then p (then q z)
 
-pub ruleset piece_laws = (piece_head, piece-rows, piece-mark, piece-wrote)
+pub ruleset piece_laws = (piece_head, piece_rows, piece_mark, piece_wrote)
 
 -- ---- the pieces from piece k on: the last, or one and the next
 
@@ -93,7 +93,7 @@ module _ (s : List ℕ) (c w : ℕ) (id : List ℕ) (n k i e : ℕ) (x : RunAt s
 
   poured_next : e < length s → i < e → (m : ℕ) → ends s c w (k + 1) e ≡ some m → poured s c w id n k i ≡ piece_as s id n k i e ++ poured s c w id n (k + 1) e
   unfolding poured piece_as numbered_as ends
-  poured_next h g m q = ap (pieces_as (part s 0 13) id n k) (runs-next s c w k i e x h g) ∙ go (runs_at s c w (k + 1) e) q
+  poured_next h g m q = ap (pieces_as (part s 0 13) id n k) (runs_next s c w k i e x h g) ∙ go (runs_at s c w (k + 1) e) q
     where
       go : (y : Option (List (List (List ℕ)))) → past_last (k + 1) y ≡ some m
           → pieces_as (part s 0 13) id n k (map (λ xs. rows (part s i e) ∷ xs) y)
@@ -125,8 +125,8 @@ module _ {d₀ d s : List ℕ} {c w n : ℕ} {id : List ℕ} {o k i : ℕ} (v : 
     run : RunAt s i (over w k) c e
     run = rw y.is at r
 
-    last-is : length s ≤ e → poured s c w id n k i ≡ piece_as s id n k i e
-    last-is h = poured_last s c w id n k i e run h
+    last_is : length s ≤ e → poured s c w id n k i ≡ piece_as s id n k i e
+    last_is h = poured_last s c w id n k i e run h
 
     module _ (h : e < length s) where
       -- every row has found a piece
@@ -137,51 +137,51 @@ module _ {d₀ d s : List ℕ} {c w n : ℕ} {id : List ℕ} {o k i : ℕ} (v : 
           go true q = absurd (no_some (sym (ends_stuck s c w k i e run h (leb-true _ _ q)) ∙ v.count))
           go false q = leb-false _ _ q
 
-      pub pour-less : length s - e < length s - i
-      pour-less = omega (arith, more)
+      pub pour_less : length s - e < length s - i
+      pour_less = omega (arith, more)
 
-      next-count : ends s c w (k + 1) e ≡ some (n + 1)
-      next-count = sym (ends_next s c w k i e run h more) ∙ v.count
+      next_count : ends s c w (k + 1) e ≡ some (n + 1)
+      next_count = sym (ends_next s c w k i e run h more) ∙ v.count
 
       next_is : poured s c w id n k i ≡ piece_as s id n k i e ++ poured s c w id n (k + 1) e
-      next_is = poured_next s c w id n k i e run h more (n + 1) next-count
+      next_is = poured_next s c w id n k i e run h more (n + 1) next_count
 
-    piece-fits : length (piece_as s id n k i e) ≤ length (poured s c w id n k i)
-    piece-fits = go (leb (length s) e) refl
+    piece_fits : length (piece_as s id n k i e) ≤ length (poured s c w id n k i)
+    piece_fits = go (leb (length s) e) refl
       where
         go : (b : Bool) → leb (length s) e ≡ b → length (piece_as s id n k i e) ≤ length (poured s c w id n k i)
-        go true q = omega (arith, ap length (last-is (leb-true _ _ q)))
+        go true q = omega (arith, ap length (last_is (leb-true _ _ q)))
         go false q =
             omega (arith, ap length (next_is (leb-false _ _ q)), length-append (piece_as s id n k i e) (poured s c w id n (k + 1) e))
 
-    pub pour-room : PieceRoom d o s i e id n k
-    pour-room = record {
+    pub pour_room : PieceRoom d o s i e id n k
+    pour_room = record {
       few_n = v.ready.few;
       few_k = omega (arith, few, v.ready.few);
       header = v.ready.small.header;
       low = r.low;
       inside = r.inside;
-      room = omega (arith, piece-fits, v.room, v.ready.room, v.size);
+      room = omega (arith, piece_fits, v.room, v.ready.room, v.size);
     }
 
     module _ {d₁ : List ℕ} {o₁ : ℕ} (p : Wrote d d₁ o o₁ (piece_as s id n k i e)) where
-      pub pour-done : length s ≤ e → Wrote d₀ d₁ 0 o₁ (poured s c w id n 1 13)
-      pour-done h = record {
-        next = omega (arith, p.next, v.room, ap length (last-is h));
-        list = p.list ∙ (rw (last-is h) at v.list);
+      pub pour_done : length s ≤ e → Wrote d₀ d₁ 0 o₁ (poured s c w id n 1 13)
+      pour_done h = record {
+        next = omega (arith, p.next, v.room, ap length (last_is h));
+        list = p.list ∙ (rw (last_is h) at v.list);
         size = omega (arith, p.size, v.size);
         high = omega (arith, p.high, v.size);
       }
 
-      pub pour-next : e < length s → Pouring d₀ d₁ s c w n id o₁ (k + 1) e
-      pour-next h = record {
+      pub pour_next : e < length s → Pouring d₀ d₁ s c w n id o₁ (k + 1) e
+      pour_next h = record {
         ready = v.ready;
         inside = r.inside;
-        count = next-count h;
+        count = next_count h;
         size = p.size ∙ v.size;
         room =
             omega (arith, p.next, v.room, ap length (next_is h), length-append (piece_as s id n k i e) (poured s c w id n (k + 1) e));
         list = carry (poured s c w id n (k + 1) e) p (rw (next_is h) at v.list);
       }
 
-pub ruleset pour_laws = (pour_start, pour_fits, pour-less, pour-room, pour-done, pour-next)
+pub ruleset pour_laws = (pour_start, pour_fits, pour_less, pour_room, pour_done, pour_next)

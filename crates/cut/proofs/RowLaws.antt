@@ -141,8 +141,8 @@ module _ (s : List ℕ) (i u c : ℕ) where
           next = λ _. omega (arith, long, v.high, v.used);
         }
 
-    pub back-out : e ≤ i → RunAt s i u c e
-    back-out h =
+    pub back_out : e ≤ i → RunAt s i u c e
+    back_out h =
         let q : e ≡ i = omega (arith, v.low) in
         record {
           low = v.low;
@@ -152,4 +152,4 @@ module _ (s : List ℕ) (i u c : ℕ) where
           next = λ _. omega (arith, long, v.high, v.used);
         }
 
-pub ruleset run_laws = (run_none, run_all, back_start, back_step, back_found, back-out)
+pub ruleset run_laws = (run_none, run_all, back_start, back_step, back_found, back_out)

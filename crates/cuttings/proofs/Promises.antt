@@ -19,14 +19,14 @@ use Rattle.division.proofs.Answers.{numbered, done_told, Wrote, wrote, own_sound
 use Rattle.division.proofs.Chunks.{mark}
 use Rattle.division.proofs.Own.{Marked, marked}
 use Rattle.cuttings.specs.Cuttings.{UsedExactly, IdFirst, FileFirst, AsBefore, CutCall, left_by, AnotherId, NeverMixed}
-use Rattle.cuttings.proofs.Replies.{file_first, id-first, used-reply, same_result}
+use Rattle.cuttings.proofs.Replies.{file_first, id_first, used_reply, same_result}
 use Rattle.cuttings.proofs.Mixed.{holds_in, two_ids}
 
 pub used_exactly : UsedExactly
-used_exactly f b c id used out e v = used-reply f c id used out b e v
+used_exactly f b c id used out e v = used_reply f c id used out b e v
 
 pub id_comes_first : IdFirst
-id_comes_first f b c id used out e v = id-first f c id used out b e v
+id_comes_first f b c id used out e v = id_first f c id used out b e v
 
 pub file_comes_first : FileFirst
 file_comes_first f n line e c id used out = file_first f c id used out n line e

@@ -34,11 +34,11 @@ module _ (f : List ℕ) (c : ℕ) (id used out : List ℕ) where
     unfolding cut_result cut_list
     given = ap (λ (r : Res Notebook). map_res writes_pieces (and_then r (list_for id used c))) e
 
-    pub id-first : valid_id id ≡ false → reply_to (cut_result f c id used) out ≡ refusal 17 0
-    id-first v = refuses out (given ∙ rw v)
+    pub id_first : valid_id id ≡ false → reply_to (cut_result f c id used) out ≡ refusal 17 0
+    id_first v = refuses out (given ∙ rw v)
 
-    pub used-reply : valid_id id ≡ true → (reply_to (cut_result f c id used) out ≡ refusal 24 0) ↔ (OtherLength used ⊎ InRun id used)
-    used-reply v = (λ h. (used_exactly id used).0 (refuse (unused id used) refl h), λ h. refuses out (given ∙ rw (v, (used_exactly id used).1 h)))
+    pub used_reply : valid_id id ≡ true → (reply_to (cut_result f c id used) out ≡ refusal 24 0) ↔ (OtherLength used ⊎ InRun id used)
+    used_reply v = (λ h. (used_exactly id used).0 (refuse (unused id used) refl h), λ h. refuses out (given ∙ rw (v, (used_exactly id used).1 h)))
       where
         refuse : (x : Bool) → unused id used ≡ x → reply_to (cut_result f c id used) out ≡ refusal 24 0 → x ≡ false
         refuse false p h = refl

@@ -88,39 +88,39 @@ module _ (s : List ℕ) (some : length s ≡ 0 → ⊥) (few : length s ≤ 3) w
   high_1 t = num_high before_1 (omega arith) t
 
   module _ {x : ℕ} (a : 48 ≤ get_or s 0 0) (b : get_or s 0 0 ≤ 57) (e : x ≡ get_or s 0 0 - 48) where
-    before-2 : NumLeft s x 1
-    before-2 =
+    before_2 : NumLeft s x 1
+    before_2 =
         let z : 10 * 0 + x ≡ x = omega arith in
         subst (λ (n : ℕ). NumLeft s n 1) z (num_next before_1 (omega arith) a b e)
 
-    pub value-1 : length s ≡ 1 → x ≡ short_value s
-    value-1 h = num_out before-2 (omega arith)
+    pub value_1 : length s ≡ 1 → x ≡ short_value s
+    value_1 h = num_out before_2 (omega arith)
 
     module _ (more : length s ≡ 1 → ⊥) where
-      pub low-2 : get_or s 1 0 < 48 → 1000 ≡ short_value s
-      low-2 t = num_low before-2 (omega arith) t
+      pub low_2 : get_or s 1 0 < 48 → 1000 ≡ short_value s
+      low_2 t = num_low before_2 (omega arith) t
 
-      pub high-2 : 57 < get_or s 1 0 → 1000 ≡ short_value s
-      high-2 t = num_high before-2 (omega arith) t
+      pub high_2 : 57 < get_or s 1 0 → 1000 ≡ short_value s
+      high_2 t = num_high before_2 (omega arith) t
 
       module _ {y : ℕ} (a' : 48 ≤ get_or s 1 0) (b' : get_or s 1 0 ≤ 57) (e' : y ≡ get_or s 1 0 - 48) where
-        before-3 : NumLeft s (10 * x + y) 2
-        before-3 = num_next before-2 (omega arith) a' b' e'
+        before_3 : NumLeft s (10 * x + y) 2
+        before_3 = num_next before_2 (omega arith) a' b' e'
 
-        pub value-2 : length s ≡ 2 → 10 * x + y ≡ short_value s
-        value-2 h = num_out before-3 (omega arith)
+        pub value_2 : length s ≡ 2 → 10 * x + y ≡ short_value s
+        value_2 h = num_out before_3 (omega arith)
 
         module _ (most : length s ≡ 2 → ⊥) where
           pub low-3 : get_or s 2 0 < 48 → 1000 ≡ short_value s
-          low-3 t = num_low before-3 (omega arith) t
+          low-3 t = num_low before_3 (omega arith) t
 
           pub high-3 : 57 < get_or s 2 0 → 1000 ≡ short_value s
-          high-3 t = num_high before-3 (omega arith) t
+          high-3 t = num_high before_3 (omega arith) t
 
           pub value-3 : {z : ℕ} → 48 ≤ get_or s 2 0 → get_or s 2 0 ≤ 57 → z ≡ get_or s 2 0 - 48 → 10 * (10 * x + y) + z ≡ short_value s
-          value-3 c d f = num_out (num_next before-3 (omega arith) c d f) (omega arith)
+          value-3 c d f = num_out (num_next before_3 (omega arith) c d f) (omega arith)
 
-pub ruleset num_laws = (num_none, num_long, low_1, high_1, value-1, low-2, high-2, value-2, low-3, high-3, value-3)
+pub ruleset num_laws = (num_none, num_long, low_1, high_1, value_1, low_2, high_2, value_2, low-3, high-3, value-3)
 
 module _ (s : List ℕ) {a : ℕ} (e : a ≡ get_or s 0 0) where
   pub plain_zero : a ≡ 48 → 0 ≡ plain_number s

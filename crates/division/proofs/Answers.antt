@@ -28,7 +28,7 @@ use Rattle.division.specs.Join.{join_file, join_result}
 use Rattle.replies.specs.declared.Reply.{Reply}
 use Rattle.replies.specs.Replies.{refusal, result, reply_of}
 use Rattle.replies.specs.Results.{Result, writes as writing, answer_of, fitting, answer_in, reply_to, output_of}
-use Rattle.replies.proofs.Results.{gives_refusal, gives-20, gives-result}
+use Rattle.replies.proofs.Results.{gives_refusal, gives_20, gives_result}
 use Rattle.division.specs.Orders.{Perm}
 use Rattle.division.specs.Demand.{OnePiece, ListIn, Sound, Written, Delivers, CanonicalFile, JoinedFile, Valid, Found, OneOfThree}
 use Rattle.division.proofs.Own.{sound, restores}
@@ -77,13 +77,13 @@ numbered f b c id used out e = rw e (valid (valid_id id) (unused id used))
 
 pub deliver : {x : Res Result} {r : Result} → x ≡ ok r → Delivers x (result r.a r.b r.c) r.written
 deliver {x} {r} e = record {
-  withheld = λ out. (λ h. lacks out (leb (length r.written) (length out)) refl h, λ h. sym (ap reply_of (gives-20 out e h).answer));
-  kept = λ out h. sym (gives-20 out e h).output;
-  written = λ out h. (sym (ap reply_of (gives-result out e h).answer), sym (gives-result out e h).output);
+  withheld = λ out. (λ h. lacks out (leb (length r.written) (length out)) refl h, λ h. sym (ap reply_of (gives_20 out e h).answer));
+  kept = λ out h. sym (gives_20 out e h).output;
+  written = λ out h. (sym (ap reply_of (gives_result out e h).answer), sym (gives_result out e h).output);
 }
   where
     lacks : (out : List ℕ) (b : Bool) → leb (length r.written) (length out) ≡ b → reply_to x out ≡ refusal 20 0 → length out < length r.written
-    lacks out true p h = absurd (omega (arith, ap (λ (y : Reply). y.refusal) (ap reply_of (gives-result out e (leb-true _ _ p)).answer ∙ h)))
+    lacks out true p h = absurd (omega (arith, ap (λ (y : Reply). y.refusal) (ap reply_of (gives_result out e (leb-true _ _ p)).answer ∙ h)))
     lacks out false p h = leb-false _ _ p
 
 -- a file is told by the call that writes it
@@ -171,11 +171,11 @@ module _ (f : List ℕ) (b : Notebook) (c : ℕ) (id used : List ℕ) (e : read_
           given = ap (map_res writes_pieces) q
 
           by : (x : Bool) → leb (length (flat ps)) (length out) ≡ x → Wrote out n t
-          by false p = absurd (done_refused ((gives-20 out given (leb-false _ _ p)).answer ∙ h))
+          by false p = absurd (done_refused ((gives_20 out given (leb-false _ _ p)).answer ∙ h))
           by true p =
-              let d : Done (length ps) (length (flat ps)) 0 ≡ Done n t 0 = (gives-result out given (leb-true _ _ p)).answer ∙ h in
+              let d : Done (length ps) (length (flat ps)) 0 ≡ Done n t 0 = (gives_result out given (leb-true _ _ p)).answer ∙ h in
               let s : length (flat ps) ≡ t = cc in
-              let w : output_of (map_res writes_pieces (cut_list f c id used)) out ≡ flat ps ++ drop (length (flat ps)) out = sym (gives-result out given (leb-true _ _ p)).output in
+              let w : output_of (map_res writes_pieces (cut_list f c id used)) out ≡ flat ps ++ drop (length (flat ps)) out = sym (gives_result out given (leb-true _ _ p)).output in
               record {
                 list = ps;
                 found = list_found ps q;
@@ -218,9 +218,9 @@ module _ (f : List ℕ) (b : Notebook) (c : ℕ) (id used : List ℕ) (e : read_
       given = ap (map_res writes_pieces) (list_of v ∙ ap listed q)
 
       go : (x : Bool) → leb (length (flat ps)) (length out) ≡ x → ⊥
-      go true p = done_refused (sym ((gives-result out given (leb-true _ _ p)).answer ∙ h))
+      go true p = done_refused (sym ((gives_result out given (leb-true _ _ p)).answer ∙ h))
       go false p =
-          let e : Refused 20 0 ≡ Refused 18 0 = (gives-20 out given (leb-false _ _ p)).answer ∙ h in
+          let e : Refused 20 0 ≡ Refused 18 0 = (gives_20 out given (leb-false _ _ p)).answer ∙ h in
           let z : ◌≡◌ {A = ℕ} 20 18 = cc in
           omega arith
 

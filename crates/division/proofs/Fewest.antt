@@ -254,11 +254,11 @@ module _ (i : List ℕ) (b : Notebook) (c : ℕ) where
       let j : JoinedFrom (flat qs) s.file = joined_from (flat qs) s.file s.joins in
       let r : read_file (file_of j.piece) ≡ ok b = ap read_file j.is ∙ s.same.read_one ∙ ap ok q in
       let c' : split (flat (map chunk_bytes z.chunks)) ≡ ok j.pieces = subst (λ (t : List (List ℕ)). split (flat t) ≡ ok j.pieces) z.bytes j.cut in
-      let k : join_pieces (map piece_of z.chunks) ≡ some j.piece = ap join_pieces (same-pieces z.chunks j.pieces z.good c') ∙ j.joins in
+      let k : join_pieces (map piece_of z.chunks) ≡ some j.piece = ap join_pieces (same_pieces z.chunks j.pieces z.good c') ∙ j.joins in
       let n : length z.chunks ≡ length qs = sym (ap length z.bytes ∙ map_length chunk_bytes z.chunks) in
       listed (length qs) (subst (λ (m : ℕ). AtMost m (plan length c ls)) n
       (joined_least z.chunks j.piece z.good (subst (All (Within c)) z.bytes s.fits) k r))
     where
-      same-pieces : (xs : List Chunk) (ps : List Piece) → All Good xs → split (flat (map chunk_bytes xs)) ≡ ok ps → map piece_of xs ≡ ps
-      same-pieces [] ps g e = absurd (no_refusal (sym split_nothing ∙ e))
-      same-pieces (x ∷ xs) ps g e = let q : ok (map piece_of (x ∷ xs)) ≡ ok ps = sym (split_bytes x xs g) ∙ e in let u : map piece_of (x ∷ xs) ≡ ps = cc in u
+      same_pieces : (xs : List Chunk) (ps : List Piece) → All Good xs → split (flat (map chunk_bytes xs)) ≡ ok ps → map piece_of xs ≡ ps
+      same_pieces [] ps g e = absurd (no_refusal (sym split_nothing ∙ e))
+      same_pieces (x ∷ xs) ps g e = let q : ok (map piece_of (x ∷ xs)) ≡ ok ps = sym (split_bytes x xs g) ∙ e in let u : map piece_of (x ∷ xs) ≡ ps = cc in u

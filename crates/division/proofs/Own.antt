@@ -293,37 +293,37 @@ module _ (f i : List ℕ) (b : Notebook) (c : ℕ) (e : read_file f ≡ ok b) wh
   -- ---- two or more
 
   module _ (v : valid_id i ≡ true) (xs : List (List (List ℕ))) (g : Divides length c ls xs) where
-    runs-free : All AllFree xs
-    runs-free = free_runs xs (subst (All Free) (sym g.all) all_free)
+    runs_free : All AllFree xs
+    runs_free = free_runs xs (subst (All Free) (sym g.all) all_free)
 
     abbrev own : List Part
     own = parts b.provider i (length xs) 1 xs
 
-    own-size : (ps : List Part) → Perm own ps → length (flat (map bytes_of ps)) ≤ 131072
-    own-size ps m =
+    own_size : (ps : List Part) → Perm own ps → length (flat (map bytes_of ps)) ≤ 131072
+    own_size ps m =
         omega (
           arith,
           perm_flat (perm_map bytes_of m),
-          parts_total b.provider i (length xs) 1 xs v g.most (omega (arith, g.most)) runs-free,
+          parts_total b.provider i (length xs) 1 xs v g.most (omega (arith, g.most)) runs_free,
           g.most,
           ap (λ (t : List (List ℕ)). length (flat t)) g.all,
           size,
         )
 
-    restore-split : (ps : List Part) → Perm own ps → join_file (flat (map bytes_of ps)) ≡ ok (write_file b)
+    restore_split : (ps : List Part) → Perm own ps → join_file (flat (map bytes_of ps)) ≡ ok (write_file b)
     unfolding write_file
-    restore-split ps m =
+    restore_split ps m =
         let q : joined_file (flat (map bytes_of ps)) ≡ ok (write_file b) =
-        joined_own b.provider i xs v g.two g.most runs-free ps m (own-size ps m)
+        joined_own b.provider i xs v g.two g.most runs_free ps m (own_size ps m)
         ∙ ap (λ (t : List (List ℕ)). ok (head_row b.provider ++ flat t)) g.all in
         join_file_lem (flat (map bytes_of ps)) (write_file b) b q (written_carries f b e)
 
-    sound-split : (h : List ℕ) → CarrySame (write_file b) h → Sound h c (map bytes_of own)
-    sound-split h s = record {
-      pieces = own_pieces own (parts_own b.provider i (length xs) 1 xs v g.most (omega (arith, g.most)) runs-free);
-      fits = parts_fit b.provider i (length xs) 1 c xs v g.most (omega (arith, g.most)) runs-free g.fits;
+    sound_split : (h : List ℕ) → CarrySame (write_file b) h → Sound h c (map bytes_of own)
+    sound_split h s = record {
+      pieces = own_pieces own (parts_own b.provider i (length xs) 1 xs v g.most (omega (arith, g.most)) runs_free);
+      fits = parts_fit b.provider i (length xs) 1 c xs v g.most (omega (arith, g.most)) runs_free g.fits;
       file = write_file b;
-      joins = restore-split own (perm_refl own);
+      joins = restore_split own (perm_refl own);
       same = s;
     }
 
@@ -348,12 +348,12 @@ module _ (f i : List ℕ) (b : Notebook) (c : ℕ) (e : read_file f ≡ ok b) wh
         several : (xs : List (List (List ℕ))) → Divides length c ls xs → 2 ≤ length (map bytes_of (parts b.provider i (length xs) 1 xs))
             → All (Marked i) (map bytes_of (parts b.provider i (length xs) 1 xs))
         several xs g l =
-            own_marked i (own v xs g) (parts_own b.provider i (length xs) 1 xs v g.most (omega (arith, g.most)) (runs-free v xs g))
+            own_marked i (own v xs g) (parts_own b.provider i (length xs) 1 xs v g.most (omega (arith, g.most)) (runs_free v xs g))
             (all_map (Alike b.provider i (length xs)) (λ p. p.mark.ident ≡ i) (λ p a. a.ident) (own v xs g) (parts_alike b.provider i (length xs) 1 xs))
 
     -- WHAT CUTTING FINDS IS SOUND
     pub sound : (g : List ℕ) → CarrySame (write_file b) g → (ps : List (List ℕ)) → cutting i c b ≡ some ps → Sound g c ps
-    sound g s = by_plan (Sound g c) (sound_whole g s) (λ xs d. sound-split v xs d g s)
+    sound g s = by_plan (Sound g c) (sound_whole g s) (λ xs d. sound_split v xs d g s)
 
     -- IN ANY ORDER it is joined to the notebook's file
     pub restores : (ps qs : List (List ℕ)) → cutting i c b ≡ some ps → Perm ps qs → join_file (flat qs) ≡ ok (write_file b)
@@ -367,4 +367,4 @@ module _ (f i : List ℕ) (b : Notebook) (c : ℕ) (e : read_file f ≡ ok b) wh
         several xs g m =
             let u : (l : List Part) × (qs ≡ map bytes_of l) × Perm (parts b.provider i (length xs) 1 xs) l =
             perm_unmap bytes_of (parts b.provider i (length xs) 1 xs) m in
-            rw u.1 (restore-split v xs g u.0 u.2)
+            rw u.1 (restore_split v xs g u.0 u.2)

@@ -43,15 +43,15 @@ module _ (row : List ℕ) {x : Bool} {a : List ℕ} (o : a ≡ head_row true) (p
     second : same row (head_row false) ≡ y
     second = ap (same row) (sym u) ∙ sym r
 
-    pub heading-patient : y ≡ true → Line1 false ≡ heading_of row
+    pub heading_patient : y ≡ true → Line1 false ≡ heading_of row
     unfolding heading_of
-    heading-patient t = rw (first ∙ q, second ∙ t)
+    heading_patient t = rw (first ∙ q, second ∙ t)
 
-    pub heading-other : y ≡ false → Other ≡ heading_of row
+    pub heading_other : y ≡ false → Other ≡ heading_of row
     unfolding heading_of
-    heading-other t = rw (first ∙ q, second ∙ t)
+    heading_other t = rw (first ∙ q, second ∙ t)
 
-pub ruleset heading_laws = (heading_provider, heading-patient, heading-other)
+pub ruleset heading_laws = (heading_provider, heading_patient, heading_other)
 
 -- ---- what is read says of a row
 

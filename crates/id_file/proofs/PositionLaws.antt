@@ -27,16 +27,16 @@ module _ {text : List ℕ} {at : ℕ} where
   not_passed h = record { low = omega arith; high = h; long = λ l. absurd (omega arith) }
 
   module _ {found : Bool} (i : Inside text at found) (h : not found ≡ false) where
-    pub id-end : at + 14 ≤ length text
-    id-end = i.room (not_false' found h)
+    pub id_end : at + 14 ≤ length text
+    id_end = i.room (not_false' found h)
 
     pub passed : Passed text at (at + 14)
-    passed = record { low = omega arith; high = id-end; long = λ l. omega arith }
+    passed = record { low = omega arith; high = id_end; long = λ l. omega arith }
 
-    pub passed-line : {next : ℕ} → Onward text (at + 14) next → Passed text at next
-    passed-line o = record { low = omega (arith, o.low); high = o.high; long = λ l. o.low }
+    pub passed_line : {next : ℕ} → Onward text (at + 14) next → Passed text at next
+    passed_line o = record { low = omega (arith, o.low); high = o.high; long = λ l. o.low }
 
-pub ruleset passed_laws = (not_passed, id-end, passed, passed-line)
+pub ruleset passed_laws = (not_passed, id_end, passed, passed_line)
 
 -- ---- one ID after another
 

@@ -20,7 +20,7 @@ use Rattle.replies.specs.declared.Answer.{Answer}
 use Rattle.replies.specs.declared.Answer.TheVariants.{Done, Refused}
 use Rattle.replies.specs.Results.{Result, at_exit, answer_of, fitting, answer_in, output_of}
 use Rattle.replies.specs.CallContracts.{Gives}
-use Rattle.replies.proofs.Results.{gives_refusal, gives-20, gives-result}
+use Rattle.replies.proofs.Results.{gives_refusal, gives_20, gives_result}
 use Rattle.notebook.specs.Notebook.{Notebook, read_file}
 use Rattle.notebook.specs.Check.{check_result}
 use Rattle.notebook.specs.Canonical.{head_row}
@@ -28,7 +28,7 @@ use Rattle.checking.specs.declared.Opening.{Opening}
 use Rattle.checking.specs.declared.Opening.TheVariants.{Records, Refused as OpenRefused}
 use Rattle.checking.specs.Opening.{OpensAt, OpeningOf}
 use Rattle.checking.specs.Walking.{Midway}
-use Rattle.checking.proofs.OpenLaws.{opening_refused, opening-records}
+use Rattle.checking.proofs.OpenLaws.{opening_refused, opening_records}
 use Rattle.checking.proofs.CheckLaws.{midway_start, check_records}
 use Rattle.notebook.specs.Index.{Entry, entries_from, entries_after_head, entries_of, listed_from, list_of, numbers, numbers_of, indexed, index_result}
 use Rattle.index.specs.Filling.{numbers_at, FullOf, LastOf, BatchMeans, BatchOf, Onward, ExitMeans, Exit}
@@ -66,7 +66,7 @@ answer_accepts s d {n} {g} {y} e = go (read_file s) refl e
         by true f e =
             let h : length (numbers_of s) ≤ length d = leb-true (length (numbers_of s)) (length d) f in
             let given : index_result s ≡ ok (indexed s b) = ap (map_res (indexed s)) q in
-            let w = gives-result d given h in
+            let w = gives_result d given h in
             let k : length b.records ≡ n = cc in
             record { room = h; done = subst (λ (k : ℕ). Done k 0 0 ≡ answer_in (index_result s) d) k w.answer; output = sets_all (numbers_of s) d h ∙ w.output }
 
@@ -106,16 +106,16 @@ module _ {s : List ℕ} {k : Opening} (w : OpeningOf s k) where
   index_unopened d q = gives_refusal d (ap (map_res (indexed s)) (opening_refused w q))
 
   module _ {provider : Bool} {from : ℕ} (q : k ≡ Records provider from) {st : State} (e : st ≡ start provider) where
-    pub index-begins : Onward s st from 0
-    index-begins = subst (λ (x : State). Onward s x from 0) (sym e) (begins (opening-records w q))
+    pub index_begins : Onward s st from 0
+    index_begins = subst (λ (x : State). Onward s x from 0) (sym e) (begins (opening_records w q))
 
-    pub index-whole : {d d' : List ℕ} {r : Answer} → Exit s st from 0 d d' r → Gives (index_result s) d d' r
-    index-whole {d} {d'} {r} x = record { answer = x.answer; output = go r x.answer x.output }
+    pub index_whole : {d d' : List ℕ} {r : Answer} → Exit s st from 0 d d' r → Gives (index_result s) d d' r
+    index_whole {d} {d'} {r} x = record { answer = x.answer; output = go r x.answer x.output }
       where
         all : sets d ((st.line - 1) * 7) (numbers_at s st from 0) ≡ sets d 0 (numbers_of s)
         all =
             ap (λ (t : State). sets d ((t.line - 1) * 7) (numbers_at s t from 0)) e
-            ∙ ap₂ (λ (j : ℕ) (v : List ℕ). sets d j v) {x = ((start provider).line - 1) * 7} {y = 0} (omega (arith, line_start provider)) (sym (file_numbers (opening-records w q)))
+            ∙ ap₂ (λ (j : ℕ) (v : List ℕ). sets d j v) {x = ((start provider).line - 1) * 7} {y = 0} (omega (arith, line_start provider)) (sym (file_numbers (opening_records w q)))
 
         go : (r : Answer) → r ≡ answer_in (index_result s) d → ExitMeans s st from 0 d d' r → d' ≡ output_of (index_result s) d
         go (Refused n line) a o = o ∙ answer_kept (index_result s) d (sym a)
@@ -140,9 +140,9 @@ module _ {s : List ℕ} {st : State} {at clinic : ℕ} (v : Onward s st at clini
     pub last_end : filled ≤ length entries
     last_end = omega (arith, last.high, b.size)
 
-    pub last-refused : {n line : ℕ} → c ≡ Refused n line → Exit s st at clinic d d (Refused n line)
+    pub last_refused : {n line : ℕ} → c ≡ Refused n line → Exit s st at clinic d d (Refused n line)
     unfolding index_result
-    last-refused {n} {line} e = record { answer = (gives_refusal d (ap (map_res (indexed s)) (answer_refused s n line (sym checked ∙ e)))).answer; output = refl; size = refl }
+    last_refused {n} {line} e = record { answer = (gives_refusal d (ap (map_res (indexed s)) (answer_refused s n line (sym checked ∙ e)))).answer; output = refl; size = refl }
 
     module _ {n g x : ℕ} (e : c ≡ Done n g x) where
       by_count : Counted s n
@@ -159,18 +159,18 @@ module _ {s : List ℕ} {st : State} {at clinic : ℕ} (v : Onward s st at clini
       unfolding numbers_of list_of
       size = omega (arith, numbers_length (listed_from 2 0 (entries_of s)), listed_length 2 0 (entries_of s), walk_length file.walked, by_count.count)
 
-      pub last-short : length d < n * 7 → Exit s st at clinic d d (Refused 20 0)
-      last-short h = record { answer = (gives-20 d given (omega (arith, size))).answer; output = refl; size = refl }
+      pub last_short : length d < n * 7 → Exit s st at clinic d d (Refused 20 0)
+      last_short h = record { answer = (gives_20 d given (omega (arith, size))).answer; output = refl; size = refl }
 
       module _ (h : n * 7 ≤ length d) where
         room : (st.line - 1) * 7 + length (numbers_at s st at clinic) ≤ length d
         room = omega (arith, size, ap length v.listed ∙ length-append v.before (numbers_at s st at clinic), v.count)
 
         done : Done n 0 0 ≡ answer_in (index_result s) d
-        done = subst (λ (k : ℕ). Done k 0 0 ≡ answer_in (index_result s) d) by_count.count (gives-result d given (omega (arith, size))).answer
+        done = subst (λ (k : ℕ). Done k 0 0 ≡ answer_in (index_result s) d) by_count.count (gives_result d given (omega (arith, size))).answer
 
-        pub last-room : Room d ((st.line - 1) * 7) (take (filled - 0) (drop 0 entries))
-        last-room = omega (arith, room, ap length last.list)
+        pub last_room : Room d ((st.line - 1) * 7) (take (filled - 0) (drop 0 entries))
+        last_room = omega (arith, room, ap length last.list)
 
         pub last_written : {d' : List ℕ} {r : ℕ} → Wrote d d' ((st.line - 1) * 7) r (take (filled - 0) (drop 0 entries)) → Exit s st at clinic d d' (Done n 0 0)
         last_written x = record { answer = done; output = x.list ∙ ap (sets d ((st.line - 1) * 7)) last.list; size = x.size }
@@ -183,8 +183,8 @@ module _ {s : List ℕ} {st : State} {at clinic : ℕ} (v : Onward s st at clini
     z : length entries ≡ 448
     z = w.size
 
-    pub full-onward : Onward s after end kept
-    full-onward = record {
+    pub full_onward : Onward s after end kept
+    full_onward = record {
       checked = v.checked ∙ b.answer;
       before = v.before ++ entries;
       listed = v.listed ∙ ap (λ (r : List ℕ). v.before ++ r) b.list ∙ sym (append_assoc v.before entries (numbers_at s after end kept));
@@ -193,12 +193,12 @@ module _ {s : List ℕ} {st : State} {at clinic : ℕ} (v : Onward s st at clini
     }
 
     -- the measure of the calls
-    pub full-less : length s - end < length s - at
-    full-less = omega (arith, b.less, b.midway.high)
+    pub full_less : length s - end < length s - at
+    full_less = omega (arith, b.less, b.midway.high)
 
     module _ {d d₁ : List ℕ} {c : Answer} (x : Exit s after end kept d d₁ c) where
-      pub full-refused : {n line : ℕ} → c ≡ Refused n line → Exit s st at clinic d d₁ (Refused n line)
-      full-refused {n} {line} e = record { answer = sym e ∙ x.answer; output = subst (ExitMeans s after end kept d d₁) e x.output; size = x.size }
+      pub full_refused : {n line : ℕ} → c ≡ Refused n line → Exit s st at clinic d d₁ (Refused n line)
+      full_refused {n} {line} e = record { answer = sym e ∙ x.answer; output = subst (ExitMeans s after end kept d d₁) e x.output; size = x.size }
 
       module _ {n g y : ℕ} (e : c ≡ Done n g y) where
         accepts : Accepts s d n
@@ -212,11 +212,11 @@ module _ {s : List ℕ} {st : State} {at clinic : ℕ} (v : Onward s st at clini
             ap length (v.listed ∙ ap (λ (r : List ℕ). v.before ++ r) b.list) ∙ length-append v.before (entries ++ numbers_at s after end kept)
             ∙ omega (arith, length-append entries (numbers_at s after end kept), z, v.count)
 
-        pub full-room : Room d₁ ((st.line - 1) * 7) entries
-        full-room = omega (arith, z, x.size, whole_room, parts)
+        pub full_room : Room d₁ ((st.line - 1) * 7) entries
+        full_room = omega (arith, z, x.size, whole_room, parts)
 
-        pub full-written : {d' : List ℕ} {r : ℕ} → Wrote d₁ d' ((st.line - 1) * 7) r entries → Exit s st at clinic d d' (Done n 0 0)
-        full-written {d'} u =
+        pub full_written : {d' : List ℕ} {r : ℕ} → Wrote d₁ d' ((st.line - 1) * 7) r entries → Exit s st at clinic d d' (Done n 0 0)
+        full_written {d'} u =
             let behind : d₁ ≡ sets d ((after.line - 1) * 7) (numbers_at s after end kept) = subst (ExitMeans s after end kept d d₁) e x.output in
             let place : (after.line - 1) * 7 ≡ (st.line - 1) * 7 + length entries = omega (arith, b.lines, z, v.midway.low) in
             record {
@@ -228,4 +228,4 @@ module _ {s : List ℕ} {st : State} {at clinic : ℕ} (v : Onward s st at clini
               size = u.size ∙ x.size;
             }
 
-pub ruleset last_laws = (last_end, last-refused, last-short, last-room)
+pub ruleset last_laws = (last_end, last_refused, last_short, last_room)

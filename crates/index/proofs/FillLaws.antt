@@ -35,8 +35,8 @@ use Rattle.checking.specs.declared.Turn.{Turn}
 use Rattle.checking.specs.declared.Turn.TheVariants.{Over, Refused as TurnRefused, On as TurnOn}
 use Rattle.checking.specs.Turns.{StepAt, RefusedAt, broken, faulty, TurnOf}
 use Rattle.checking.proofs.TurnLaws.{turn_over, turn_refused, turn_step}
-use Rattle.checking.proofs.LineFacts.{whole-line, whole_length}
-use Rattle.checking.proofs.CheckLaws.{Reading, reading-over, reading-stopped}
+use Rattle.checking.proofs.LineFacts.{whole_line, whole_length}
+use Rattle.checking.proofs.CheckLaws.{Reading, reading_over, reading_stopped}
 use Rattle.notebook.specs.Index.{Entry, entry_of, entered, entries_from, clinic_after, clinic_of, listed_from, numbers}
 use Rattle.index.specs.Filling.{Spanned, answer_at, numbers_at, BatchOf}
 use Rattle.index.specs.declared.Batch.TheVariants.{Full, Last}
@@ -125,17 +125,17 @@ module _ {st₀ : State} {s : List ℕ} {from clinic₀ : ℕ} {st : State} {at 
 
   -- where no record is left
   module _ {stops : List ℕ} where
-    filling-end : LineOf s at stops End → entries_from st at (rows (drop at s)) ≡ []
+    filling_end : LineOf s at stops End → entries_from st at (rows (drop at s)) ≡ []
     unfolding entries_from
-    filling-end w = ap (entries_from st at) w.means
+    filling_end w = ap (entries_from st at) w.means
 
-    filling-mark : LineOf s at stops Mark → entries_from st at (rows (drop at s)) ≡ []
+    filling_mark : LineOf s at stops Mark → entries_from st at (rows (drop at s)) ≡ []
     unfolding entries_from is_line
-    filling-mark w = ap (entries_from st at) w.means
+    filling_mark w = ap (entries_from st at) w.means
 
-    filling-broken : LineOf s at stops Broken → entries_from st at (rows (drop at s)) ≡ []
+    filling_broken : LineOf s at stops Broken → entries_from st at (rows (drop at s)) ≡ []
     unfolding entries_from
-    filling-broken w = go (rows (drop at s)) w.means
+    filling_broken w = go (rows (drop at s)) w.means
       where
         go : (rs : List (List ℕ)) → BrokenRow rs → entries_from st at rs ≡ []
         go [] b = absurd b
@@ -143,42 +143,42 @@ module _ {st₀ : State} {s : List ℕ} {from clinic₀ : ℕ} {st : State} {at 
 
   module _ {stops : List ℕ} {e : ℕ} {good : Bool} {commas : ℕ} (w : LineOf s at stops (Whole e good commas)) where
     line : WholeLine s at e good
-    line = whole-line w refl
+    line = whole_line w refl
 
     -- the entries of the line here and of those after it
     here : Moved → List Entry
     here = entered at (part s at e) (λ t. entries_from t (e + 2) (rows (drop (e + 2) s)))
 
-    line-entries : entries_from st at (rows (drop at s)) ≡ here (step_line st (part s at e))
+    line_entries : entries_from st at (rows (drop at s)) ≡ here (step_line st (part s at e))
     unfolding entries_from here
-    line-entries =
+    line_entries =
         let n : at + length (part s at e ++ line_end) ≡ e + 2 = rw (length-append, whole_length w refl) (omega (arith, line.low)) in
         rw (line.cut, line_is (part s at e) line.clear, line_text (part s at e) line.clear, n)
 
-    filling-faulty : {n : ℕ} → Fault n ≡ step_line st (part s at e) → entries_from st at (rows (drop at s)) ≡ []
+    filling_faulty : {n : ℕ} → Fault n ≡ step_line st (part s at e) → entries_from st at (rows (drop at s)) ≡ []
     unfolding here entered
-    filling-faulty u = line-entries ∙ ap here (sym u)
+    filling_faulty u = line_entries ∙ ap here (sym u)
 
   module _ {stops : List ℕ} {k : Turn} (w : TurnOf st s at stops k) where
-    pub filling-over : {r : Answer} → k ≡ Over → r ≡ tally st (closed st) → BatchOf s st₀ from clinic₀ d (Last r next)
-    filling-over q p = all_written (reading-over o w q p) (⊎_elim filling-end filling-mark (turn_over w q))
+    pub filling_over : {r : Answer} → k ≡ Over → r ≡ tally st (closed st) → BatchOf s st₀ from clinic₀ d (Last r next)
+    filling_over q p = all_written (reading_over o w q p) (⊎_elim filling_end filling_mark (turn_over w q))
 
-    pub filling-stopped : {n : ℕ} → k ≡ TurnRefused n → BatchOf s st₀ from clinic₀ d (Last (Refused n (st.line + 1)) next)
-    filling-stopped {n} q = all_written (reading-stopped o w q) (go (turn_refused w q))
+    pub filling_stopped : {n : ℕ} → k ≡ TurnRefused n → BatchOf s st₀ from clinic₀ d (Last (Refused n (st.line + 1)) next)
+    filling_stopped {n} q = all_written (reading_stopped o w q) (go (turn_refused w q))
       where
         go : RefusedAt st s at stops n → entries_from st at (rows (drop at s)) ≡ []
-        go (broken l e) = filling-broken l
-        go (faulty e m x) = filling-faulty x.line x.step
+        go (broken l e) = filling_broken l
+        go (faulty e m x) = filling_faulty x.line x.step
 
     module _ {after : State} {rp doctor e commas : ℕ} (q : k ≡ TurnOn after rp doctor e commas) where
       found : StepAt st s at stops e commas (On after rp doctor)
       found = turn_step w q
 
       whole : WholeLine s at e found.good
-      whole = whole-line found.line refl
+      whole = whole_line found.line refl
 
-      pub filling-span : Spanned at e
-      filling-span = record { low = whole.low; small = omega (arith, whole.high, o.midway.small) }
+      pub filling_span : Spanned at e
+      filling_span = record { low = whole.low; small = omega (arith, whole.high, o.midway.small) }
 
       taken_here : Placed st (part s at e) after rp doctor
       taken_here = placed st (part s at e) after rp doctor (sym found.step)
@@ -187,9 +187,9 @@ module _ {st₀ : State} {s : List ℕ} {from clinic₀ : ℕ} {st : State} {at 
       next_here = next_line st (facts_of (record_of (part s at e))) after rp doctor taken_here.step
 
       -- the array is filled entry by entry
-      pub filling-room : next < 448 → (a b c x y z u : ℕ) → Room d next (seven_numbers a b c x y z u)
+      pub filling_room : next < 448 → (a b c x y z u : ℕ) → Room d next (seven_numbers a b c x y z u)
       unfolding seven_numbers
-      filling-room h a b c x y z u = omega (arith, v.count, v.size)
+      filling_room h a b c x y z u = omega (arith, v.count, v.size)
 
       module _ {kept : ℕ} (c : kept ≡ clinic_after after.line clinic after.place) where
         own : List ℕ
@@ -199,14 +199,14 @@ module _ {st₀ : State} {s : List ℕ} {from clinic₀ : ℕ} {st : State} {at 
         written : numbers_at s st at clinic ≡ own ++ numbers_at s after (e + 2) kept
         unfolding numbers listed_from here entered entry_of own
         written =
-            ap (λ (es : List Entry). numbers (listed_from (st.line + 1) clinic es)) (line-entries found.line ∙ ap (here found.line) (sym found.step))
+            ap (λ (es : List Entry). numbers (listed_from (st.line + 1) clinic es)) (line_entries found.line ∙ ap (here found.line) (sym found.step))
             ∙ rw (c, place_number taken_here, whole_length found.line refl, next_here)
 
-        pub filling-on : {behind : ℕ} {d' : List ℕ}
+        pub filling_on : {behind : ℕ} {d' : List ℕ}
             → Wrote d d' next behind (seven_numbers after.place at (e - at) (group_of after) doctor (drug_of after) (clinic_of after.place kept))
             → Filling st₀ s from clinic₀ after (e + 2) d' behind kept
         unfolding own
-        filling-on x =
+        filling_on x =
             let n = seven_length after.place at (e - at) (group_of after) doctor (drug_of after) (clinic_of after.place kept) in
             record {
               left =
@@ -219,4 +219,4 @@ module _ {st₀ : State} {s : List ℕ} {from clinic₀ : ℕ} {st : State} {at 
               more = λ _. omega (arith, v.begun, whole.low);
             }
 
-pub ruleset filling_laws = (filling_start, filling_full, filling-over, filling-stopped, filling-span, filling-room, filling-on)
+pub ruleset filling_laws = (filling_start, filling_full, filling_over, filling_stopped, filling_span, filling_room, filling_on)

@@ -25,7 +25,7 @@ use Rattle.records.specs.Items.{is_code, edge, sized, fault}
 use Rattle.records.specs.Records.{item_fault}
 use Rattle.items.specs.Codes.{kind_of, need_of, item_of}
 use Rattle.items.specs.Ends.{Within, scripts_fit, text_form, sized_end, EndOf, CodeRun, DigitAt, DigitFits}
-use Rattle.items.proofs.TextLaws.{edge_free, edge_clear, edge_inner, scripts_within, scripts-fit}
+use Rattle.items.proofs.TextLaws.{edge_free, edge_clear, edge_inner, scripts_within, scripts_fit_lem}
 use Rattle.items.proofs.DispatchLaws.{sized_form, kind_n, kind_u, kind_k, kind_x, item_empty, item_some}
 
 -- 0 says nothing
@@ -68,8 +68,8 @@ module _ (provider : Bool) (c : ℕ) (s : List ℕ) (a : ℕ) {e : ℕ} (v : Run
     some z = n (omega (arith, part_length s a e v.low v.high, v.low))
 
     -- by the fault of its kind
-    pub end-kind : 0 ≡ fault (kind_of (c / 4 % 16) (c / 64)) (part s a e) → EndOf provider c s a e
-    end-kind p = end_fine (item_some c provider (part s a e) some p) refl
+    pub end_kind : 0 ≡ fault (kind_of (c / 4 % 16) (c / 64)) (part s a e) → EndOf provider c s a e
+    end_kind p = end_fine (item_some c provider (part s a e) some p) refl
 
     module _ (h : e - a ≤ c / 64) where
       short : length (part s a e) ≤ c / 64
@@ -77,31 +77,31 @@ module _ (provider : Bool) (c : ℕ) (s : List ℕ) (a : ℕ) {e : ℕ} (v : Run
 
     -- f: what sized_end said. A kind that asks for its length, no edge and a form that the item has
     module _ {f : ℕ} (g : f ≡ sized_end c s a e) where
-      pub end-sized : (0 ≡ sized (c / 64) (part s a e) true → 0 ≡ fault (kind_of (c / 4 % 16) (c / 64)) (part s a e)) → EndOf provider c s a f
+      pub end_sized : (0 ≡ sized (c / 64) (part s a e) true → 0 ≡ fault (kind_of (c / 4 % 16) (c / 64)) (part s a e)) → EndOf provider c s a f
       unfolding sized_end
-      end-sized k = go (leb (e - a) (c / 64)) refl (edge (part s a e)) refl g
+      end_sized k = go (leb (e - a) (c / 64)) refl (edge (part s a e)) refl g
         where
           go : (x : Bool) → leb (e - a) (c / 64) ≡ x → (y : Bool) → edge (part s a e) ≡ y → f ≡ cond (x && not y) e 0 → EndOf provider c s a f
-          go true p false q r = subst (EndOf provider c s a) (sym r) (end-kind (k (sized_form (c / 64) (part s a e) true (short (leb-true (e - a) (c / 64) p)) (sym q) refl refl)))
+          go true p false q r = subst (EndOf provider c s a) (sym r) (end_kind (k (sized_form (c / 64) (part s a e) true (short (leb-true (e - a) (c / 64) p)) (sym q) refl refl)))
           go true p true q r = subst (EndOf provider c s a) (sym r) (end_none provider c s a)
           go false p y q r = subst (EndOf provider c s a) (sym r) (end_none provider c s a)
 
       -- kind N
-      pub end-text : c / 4 % 16 ≡ 0 → EndOf provider c s a f
-      end-text k = end-sized (kind_n (c / 64) (part s a e) k)
+      pub end_text : c / 4 % 16 ≡ 0 → EndOf provider c s a f
+      end_text k = end_sized (kind_n (c / 64) (part s a e) k)
 
       -- kinds U and K: w is what in_form said of the scripts k
-      pub end-script : (k : Scripts) {w : Bool} → (eqb (c / 4 % 16) 1 || eqb (c / 4 % 16) 12) ≡ true → Counted s a e k → w ≡ scripts_fit (c / 4 % 16) k (e - a) → w ≡ true → EndOf provider c s a f
-      end-script k {w} o d p t = ⊎_elim (λ q. u (eqb-true _ _ q)) (λ q. x (eqb-true _ _ q)) (either (eqb (c / 4 % 16) 1) (eqb (c / 4 % 16) 12) o)
+      pub end_script : (k : Scripts) {w : Bool} → (eqb (c / 4 % 16) 1 || eqb (c / 4 % 16) 12) ≡ true → Counted s a e k → w ≡ scripts_fit (c / 4 % 16) k (e - a) → w ≡ true → EndOf provider c s a f
+      end_script k {w} o d p t = ⊎_elim (λ q. u (eqb-true _ _ q)) (λ q. x (eqb-true _ _ q)) (either (eqb (c / 4 % 16) 1) (eqb (c / 4 % 16) 12) o)
         where
           form : true ≡ text_form (c / 4 % 16) (part s a e)
-          form = sym t ∙ p ∙ scripts-fit (part s a e) k d v.chars (c / 4 % 16) (e - a) (sym (part_length s a e v.low v.high))
+          form = sym t ∙ p ∙ scripts_fit_lem (part s a e) k d v.chars (c / 4 % 16) (e - a) (sym (part_length s a e v.low v.high))
 
           u : c / 4 % 16 ≡ 1 → EndOf provider c s a f
-          u q = end-sized (λ z. kind_u (c / 64) (part s a e) q (form ∙ ap (λ (n : ℕ). text_form n (part s a e)) q) z)
+          u q = end_sized (λ z. kind_u (c / 64) (part s a e) q (form ∙ ap (λ (n : ℕ). text_form n (part s a e)) q) z)
 
           x : c / 4 % 16 ≡ 12 → EndOf provider c s a f
-          x q = end-sized (λ z. kind_k (c / 64) (part s a e) q (form ∙ ap (λ (n : ℕ). text_form n (part s a e)) q) z)
+          x q = end_sized (λ z. kind_k (c / 64) (part s a e) q (form ∙ ap (λ (n : ℕ). text_form n (part s a e)) q) z)
 
 -- the scripts of a run are within it
 pub run_within : {s : List ℕ} {a e : ℕ} (k : Scripts) → RunOf s a e → Counted s a e k → Within k (e - a)
@@ -140,8 +140,8 @@ module _ (c : ℕ) (s : List ℕ) (a : ℕ) (r : Run) where
         part_at s a r.end (length (part s a r.end) - 1) (omega (arith, l)) ∙ ap (λ (j : ℕ). get_or s j 0) j
 
     -- a run of one byte has no second
-    second-byte : eqb (get_or s (a + 1) 0) 0x40 ≡ false → eqb (get_or (part s a r.end) 1 0) 0x40 ≡ false
-    second-byte n = go (leb 2 (length (part s a r.end))) refl
+    second_byte : eqb (get_or s (a + 1) 0) 0x40 ≡ false → eqb (get_or (part s a r.end) 1 0) 0x40 ≡ false
+    second_byte n = go (leb 2 (length (part s a r.end))) refl
       where
         go : (x : Bool) → leb 2 (length (part s a r.end)) ≡ x → eqb (get_or (part s a r.end) 1 0) 0x40 ≡ false
         go true e = ap (λ (k : ℕ). eqb k 0x40) (part_at s a r.end 1 (omega (arith, l, leb-true 2 (length (part s a r.end)) e))) ∙ n
@@ -156,29 +156,29 @@ module _ (c : ℕ) (s : List ℕ) (a : ℕ) (r : Run) where
           let k : edge (part s a r.end) ≡ false =
           ⊎_elim (λ z. edge_clear (part s a r.end) v.chars b o (sym d.either ∙ eqb-true _ _ z))
           (λ z. let f = both (not (eqb (get_or s (r.end - 1) 0) 0x40)) (not (eqb (get_or s (a + 1) 0) 0x40)) z in
-          edge_inner (part s a r.end) v.chars b o (second-byte (not_true' (eqb (get_or s (a + 1) 0) 0x40) f.1))
+          edge_inner (part s a r.end) v.chars b o (second_byte (not_true' (eqb (get_or s (a + 1) 0) 0x40) f.1))
           (ap (λ (k : ℕ). eqb k 0x40) last_byte ∙ not_true' (eqb (get_or s (r.end - 1) 0) 0x40) f.0))
           (either (eqb r.scripts.either 0) (not (eqb (get_or s (r.end - 1) 0) 0x40) && not (eqb (get_or s (a + 1) 0) 0x40)) (sym p ∙ t)) in
           sym (rw (le-leb (r.end - a) (c / 64) h, k) refl)
 
       -- no character of one byte
-      pub sized-wide : r.scripts.one ≡ 0 → r.end ≡ sized_end c s a r.end
-      sized-wide z = stays (inl (sym d.one ∙ z))
+      pub sized_wide : r.scripts.one ≡ 0 → r.end ≡ sized_end c s a r.end
+      sized_wide z = stays (inl (sym d.one ∙ z))
 
-      pub sized-above : (leb 0x28 (get_or s a 0) && leb 0x28 (get_or s (r.end - 1) 0)) ≡ true → r.end ≡ sized_end c s a r.end
-      sized-above z =
+      pub sized_above : (leb 0x28 (get_or s a 0) && leb 0x28 (get_or s (r.end - 1) 0)) ≡ true → r.end ≡ sized_end c s a r.end
+      sized_above z =
           let q = both (leb 0x28 (get_or s a 0)) (leb 0x28 (get_or s (r.end - 1) 0)) z in
           stays (inr (omega (arith, first_byte, leb-true 0x28 (get_or s a 0) q.0), omega (arith, last_byte, leb-true 0x28 (get_or s (r.end - 1) 0) q.1)))
 
-    pub sized-edged : {x : Bool} → x ≡ edge (part s a r.end) → x ≡ true → 0 ≡ sized_end c s a r.end
+    pub sized_edged : {x : Bool} → x ≡ edge (part s a r.end) → x ≡ true → 0 ≡ sized_end c s a r.end
     unfolding sized_end
-    sized-edged p t = sym (rw (le-leb (r.end - a) (c / 64) h, sym p ∙ t) refl)
+    sized_edged p t = sym (rw (le-leb (r.end - a) (c / 64) h, sym p ∙ t) refl)
 
-    pub sized-plain : {x : Bool} → x ≡ edge (part s a r.end) → x ≡ false → r.end ≡ sized_end c s a r.end
+    pub sized_plain : {x : Bool} → x ≡ edge (part s a r.end) → x ≡ false → r.end ≡ sized_end c s a r.end
     unfolding sized_end
-    sized-plain p t = sym (rw (le-leb (r.end - a) (c / 64) h, sym p ∙ t) refl)
+    sized_plain p t = sym (rw (le-leb (r.end - a) (c / 64) h, sym p ∙ t) refl)
 
-pub ruleset sized_laws = (sized_no, sized-wide, sized-above, sized-edged, sized-plain)
+pub ruleset sized_laws = (sized_no, sized_wide, sized_above, sized_edged, sized_plain)
 
 -- ---- codes
 
@@ -271,7 +271,7 @@ module _ (provider : Bool) (c : ℕ) (s : List ℕ) (a : ℕ) {e : ℕ} (v : Cod
   pub code_fine : (e ≡ a → ⊥) → e - a ≤ c / 64 → c / 4 % 16 ≡ 2 → EndOf provider c s a e
   code_fine n h k =
       let l = some provider c s a v.run n in
-      end-kind provider c s a v.run n
+      end_kind provider c s a v.run n
       (kind_x (c / 64) (part s a e) k refl
       (sized_form (c / 64) (part s a e) (all is_code (part s a e)) (short provider c s a v.run n h) (code_edge (part s a e) v.codes l) refl
       (sym (zero_unless (all is_code (part s a e)) 11 v.codes))))
@@ -291,15 +291,15 @@ module _ (provider : Bool) (c : ℕ) {s : List ℕ} {a d : ℕ} (v : DigitAt s a
   digit_run = (code_go (code_start s a (omega (arith, (v.holds h).inside))) (v.holds h).inside refl (ap is_code (v.holds h).is ∙ digit_code d h)).run
 
   pub end_digit : {x : Bool} → DigitFits (c / 4 % 16) (c / 64) d x → x ≡ true → EndOf provider c s a (a + 1)
-  end_digit w t = end-kind provider c s a digit_run (λ e. omega arith) (sym (ap (fault (kind_of (c / 4 % 16) (c / 64))) alone ∙ w.holds t h))
+  end_digit w t = end_kind provider c s a digit_run (λ e. omega arith) (sym (ap (fault (kind_of (c / 4 % 16) (c / 64))) alone ∙ w.holds t h))
 
 pub ruleset blank_laws = (blank_none, blank_here)
 
 pub ruleset code_item_laws = (end_none, code_blank, code_fine)
 
-pub ruleset text_item_laws = (end_none, end_blank, end-text)
+pub ruleset text_item_laws = (end_none, end_blank, end_text)
 
-pub ruleset script_item_laws = (end_none, end_blank, end-script, run_within)
+pub ruleset script_item_laws = (end_none, end_blank, end_script, run_within)
 
 -- the bytes of a code are a run
 pub run_fine : (provider : Bool) (c : ℕ) (s : List ℕ) (a : ℕ) {e : ℕ} → CodeRun s a e → {f : ℕ} → f ≡ item_fault (provider) (item_of c) (part s a e) → f ≡ 0 → EndOf provider c s a e

@@ -17,7 +17,7 @@ use Rattle.scanning.proofs.RunLaws.{run_none}
 use Rattle.items.specs.declared.Spelled.{Spelled}
 use Rattle.items.specs.Ends.{EndOf, CodeRun, SpelledAt}
 use Rattle.items.proofs.DispatchLaws.{rp_fault, kind_r}
-use Rattle.items.proofs.EndLaws.{code_start, code_digit_go, end-kind}
+use Rattle.items.proofs.EndLaws.{code_start, code_digit_go, end_kind}
 
 -- one digit more
 value_more : (n : ℕ) (x : List ℕ) (b : ℕ) → value n (x ++ b ∷ []) ≡ 10 * value n x + (b - 48)
@@ -78,23 +78,23 @@ module _ (s : List ℕ) (a : ℕ) (h : a + 2 < length s) {x : Bool} {p : ℕ} (q
     small : 10 * p + r ≤ 99
     small = omega (arith, nine (get_or s a 0) q t e, nine (get_or s (a + 1) 0) q' t' e')
 
-    pub spelled-2 : SpelledAt s a (record { end = a + 2; value = 10 * p + r })
-    spelled-2 = spelled two (omega arith) (omega arith) (omega (arith, small))
+    pub spelled_2 : SpelledAt s a (record { end = a + 2; value = 10 * p + r })
+    spelled_2 = spelled two (omega arith) (omega arith) (omega (arith, small))
 
     module _ {z : Bool} {w : ℕ} (q'' : z ≡ is_digit (get_or s (a + 2) 0)) (t'' : not z ≡ false) (e'' : w ≡ get_or s (a + 2) 0 - 48) where
-      pub spelled-3 : SpelledAt s a (record { end = a + 3; value = 10 * (10 * p + r) + w })
-      spelled-3 =
+      pub spelled_3 : SpelledAt s a (record { end = a + 3; value = 10 * (10 * p + r) + w })
+      spelled_3 =
           let z : a + 2 + 1 ≡ a + 3 = omega arith in
           let three : Spelling s a (a + 3) (10 * (10 * p + r) + w) = subst (λ (k : ℕ). Spelling s a k (10 * (10 * p + r) + w)) z (spelling_more two h q'' t'' e'') in
           spelled three (omega arith) (omega arith) (omega (arith, small, nine (get_or s (a + 2) 0) q'' t'' e''))
 
-pub ruleset spelled_laws = (spelled_none, spelled_low, spelled_1, spelled-2, spelled-3)
+pub ruleset spelled_laws = (spelled_none, spelled_low, spelled_1, spelled_2, spelled_3)
 
 -- a number that is not 0 has no fault
 pub number_fine : (provider : Bool) (c : ℕ) (s : List ℕ) (a : ℕ) {r : Spelled} → SpelledAt s a r → c / 4 % 16 ≡ 7 → (r.value ≡ 0 → ⊥) → EndOf provider c s a r.end
 number_fine provider c s a {r} v k z =
     let n : r.end ≡ a → ⊥ = λ e. z (v.none e) in
     let w = v.some n in
-    end-kind provider c s a v.run n
+    end_kind provider c s a v.run n
     (kind_r (c / 64) (part s a r.end) k
     (rp_fault (part s a r.end) w.0 (sym (simp (le-leb 1 r.value (omega arith), le-leb r.value 999 w.1)))))

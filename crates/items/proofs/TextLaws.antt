@@ -59,16 +59,16 @@ module _ (l : List ℕ) (k : Scripts) (w : Bytes l k) where
         whole : bytes_of is_char l ≡ length l
         whole = eqb-true (bytes_of is_char l) (length l) (sym (bytes_all is_char refl l c) ∙ c)
 
-        both-widths : k.one + bytes_of is_two_byte l ≡ length l
-        both-widths = omega (arith, whole, bytes_shared widths l, w.one)
+        both_widths : k.one + bytes_of is_two_byte l ≡ length l
+        both_widths = omega (arith, whole, bytes_shared widths l, w.one)
 
         go : (b : Bool) → eqb k.one 0 ≡ b → eqb (bytes_of is_two_byte l) (length l) ≡ b
-        go true e = eq-eqb (bytes_of is_two_byte l) (length l) (omega (arith, both-widths, eqb-true k.one 0 e))
-        go false e = ne_eqb (bytes_of is_two_byte l) (length l) (λ z. eqb-false k.one 0 e (omega (arith, both-widths)))
+        go true e = eq-eqb (bytes_of is_two_byte l) (length l) (omega (arith, both_widths, eqb-true k.one 0 e))
+        go false e = ne_eqb (bytes_of is_two_byte l) (length l) (λ z. eqb-false k.one 0 e (omega (arith, both_widths)))
 
-    pub scripts-fit : (kind n : ℕ) → n ≡ length l → scripts_fit kind k n ≡ text_form kind l
+    pub scripts_fit_lem : (kind n : ℕ) → n ≡ length l → scripts_fit kind k n ≡ text_form kind l
     unfolding scripts_fit text_form one_width one_script
-    scripts-fit kind n e =
+    scripts_fit_lem kind n e =
         let o : chars_are is_one_byte l ≡ eqb k.one n = bytes_all is_one_byte refl l c ∙ ap₂ eqb (sym w.one) (sym e) in
         let t : chars_are is_two_byte l ≡ eqb k.one 0 = bytes_all is_two_byte refl l c ∙ two_bytes in
         let h : chars_are is_hiragana l ≡ eqb (k.hiragana + k.either) n = bytes_all is_hiragana refl l c ∙ ap₂ eqb (sym hiragana_bytes_lem) (sym e) in
@@ -100,7 +100,7 @@ no_form kind l e =
 
 -- the ways through text_form: t is what scripts_of said, f what in_form said
 pub form_told : (kind : ℕ) {l : List ℕ} {t : Told} {f : Bool} → ToldOf l t → t.good ≡ true → f ≡ scripts_fit kind t.scripts (length l) → f ≡ text_form kind l
-form_told kind {l} {t} w g e = e ∙ scripts-fit l t.scripts (w.bytes g) (sym w.chars ∙ g) kind (length l) refl
+form_told kind {l} {t} w g e = e ∙ scripts_fit_lem l t.scripts (w.bytes g) (sym w.chars ∙ g) kind (length l) refl
 
 pub form_none : (kind : ℕ) {l : List ℕ} {t : Told} → ToldOf l t → t.good ≡ false → false ≡ text_form kind l
 form_none kind {l} w g = no_form kind l (sym w.chars ∙ g)

@@ -32,7 +32,7 @@ use Rattle.join.specs.declared.Lines.TheVariants.{Plain, Marked, Wrong}
 use Rattle.join.specs.declared.Member.TheVariants.{Of, Foreign}
 use Rattle.division.specs.Join.{unmarked, Part, row_before, last_mark, part_of, part_with, agree}
 use Rattle.join.specs.Spans.{is_whole, unbroken, is_body, goes_on, LineAt, part_by, ident_at, MarkedLines, LastMeans, LastIs, LinesMean, LinesAre, agreed, Within, MemberIs}
-use Rattle.join.proofs.WalkLaws.{row_bounds, goes_over, goes_head, goes_end_head, goes_end, goes_broken, unbroken-step}
+use Rattle.join.proofs.WalkLaws.{row_bounds, goes_over, goes_head, goes_end_head, goes_end, goes_broken, unbroken_step}
 
 -- ---- a row of kind body is a line; its text is all but two bytes
 
@@ -277,48 +277,48 @@ module _ {s : List ℕ} {from at : ℕ} (v : Before s from at) where
   lines_out h = over (sym (goes_over s at h))
 
   module _ {e : ℕ} {k : Row} (x : RowAt s at e) (p : KindIs (take (e - at) (drop at s)) k) where
-    pub lines-head : {d : Bool} → k ≡ Head d → LinesAre s from (Plain at)
-    lines-head q = over (sym (goes_head s x p q))
+    pub lines_head : {d : Bool} → k ≡ Head d → LinesAre s from (Plain at)
+    lines_head q = over (sym (goes_head s x p q))
 
-    pub lines-end-head : {d : Bool} → k ≡ EndHead d → LinesAre s from (Plain at)
-    lines-end-head q = over (sym (goes_end_head s x p q))
+    pub lines_end_head : {d : Bool} → k ≡ EndHead d → LinesAre s from (Plain at)
+    lines_end_head q = over (sym (goes_end_head s x p q))
 
     pub lines_end : k ≡ End → LinesAre s from (Plain at)
     lines_end q = over (sym (goes_end s x p q))
 
-    pub lines-broken : k ≡ Broken → LinesAre s from (Plain at)
-    lines-broken q = over (sym (goes_broken s x p q))
+    pub lines_broken : k ≡ Broken → LinesAre s from (Plain at)
+    lines_broken q = over (sym (goes_broken s x p q))
 
     module _ (q : k ≡ Body) where
-      is_body : is_body (kind_of (part s at e)) ≡ true
-      is_body = ap is_body (p.is ∙ ap as_kind q)
+      is_body_lem : is_body (kind_of (part s at e)) ≡ true
+      is_body_lem = ap is_body (p.is ∙ ap as_kind q)
 
-      pub lines-line : LineAt s at e
-      lines-line = record { row = x; line = body_line (part s at e) is_body }
+      pub lines_line : LineAt s at e
+      lines_line = record { row = x; line = body_line (part s at e) is_body_lem }
 
       pub lines_two : 2 ≤ e
-      lines_two = line_two lines-line
+      lines_two = line_two lines_line
 
-      pub lines-before : at ≤ e - 2
-      lines-before = line_before lines-line
+      pub lines_before : at ≤ e - 2
+      lines_before = line_before lines_line
 
-      pub lines-high : e - 2 ≤ length s
-      lines-high = line_high lines-line
+      pub lines_high : e - 2 ≤ length s
+      lines_high = line_high lines_line
 
       module _ {y : Bool} (z : y ≡ is_mark (take (e - 2 - at) (drop at s))) where
         mark_of : is_mark (text (part s at e)) ≡ y
-        mark_of = ap is_mark (line_text lines-line) ∙ sym z
+        mark_of = ap is_mark (line_text lines_line) ∙ sym z
 
-        pub lines-go : y ≡ false → Before s from e
+        pub lines_go : y ≡ false → Before s from e
         unfolding unmarked
-        lines-go t =
+        lines_go t =
             let r : List ℕ = part s at e in
             record {
               low = omega (arith, v.low, x.more);
               high = x.inside;
               front = v.front ++ r ∷ [];
               cut = v.cut ∙ (ap (λ (w : List (List ℕ)). v.front ++ w) x.cut ∙ sym (append_assoc v.front (r ∷ []) (rows (drop e s))));
-              bodies = body_snoc v.front r v.bodies is_body;
+              bodies = body_snoc v.front r v.bodies is_body_lem;
               plain = unmarked_front v.front (r ∷ []) v.plain ∙ rw (mark_of ∙ t);
               bytes = flat_append v.front (r ∷ []) ∙ (ap₂ ◌++◌ v.bytes (append-nil r) ∙ part_join s from at e v.low (omega (arith, x.more)));
             }
@@ -343,10 +343,10 @@ module _ {s : List ℕ} {from at : ℕ} (v : Before s from at) where
           next-pieces =
               whole_pieces ∙ (ap pieces_in x.cut ∙ ap (opened (body_of (rows (drop e s))) (pieces_in (rows (drop e s)))) (p.is ∙ ap as_kind q))
 
-          last-is : (r : Lines) → LastMeans s at e r → LinesMean s from r
-          last-is (Plain stop) m = absurd m
-          last-is Wrong m = record { marked = not_plain; none = λ d. by_last d ∙ (ap (infront v.front) (m d) ∙ front_none v.front) }
-          last-is (Marked a b n j) (m₁, m₂, m) =
+          last_is : (r : Lines) → LastMeans s at e r → LinesMean s from r
+          last_is (Plain stop) m = absurd m
+          last_is Wrong m = record { marked = not_plain; none = λ d. by_last d ∙ (ap (infront v.front) (m d) ∙ front_none v.front) }
+          last_is (Marked a b n j) (m₁, m₂, m) =
               subst (λ (i : ℕ). MarkedLines s from i b n j) (sym m₁) (subst (λ (i : ℕ). MarkedLines s from at i n j) (sym m₂) (record {
                 low = v.low;
                 ident = m.ident;
@@ -362,14 +362,14 @@ module _ {s : List ℕ} {from at : ℕ} (v : Before s from at) where
                 bytes = v.bytes;
                 next = next-pieces;
                 over = m.last;
-                whole = whole_unbroken ∙ unbroken-step s x p q;
+                whole = whole_unbroken ∙ unbroken_step s x p q;
               }))
 
           pub lines-last : {r : Lines} → LastIs s at e r → LinesAre s from r
-          lines-last {r} m = record { mean = last-is r m.means }
+          lines-last {r} m = record { mean = last_is r m.means }
 
 pub ruleset lines_laws =
-    (row_bounds, lines_start, lines_out, lines-head, lines-end-head, lines_end, lines-broken, lines-line, lines_two, lines-before, lines-high, lines-go, lines-last)
+    (row_bounds, lines_start, lines_out, lines_head, lines_end_head, lines_end, lines_broken, lines_line, lines_two, lines_before, lines_high, lines_go, lines-last)
 
 -- ---- a piece of a set
 
@@ -425,8 +425,8 @@ module _ {s : List ℕ} {e : ℕ} {side d : Bool} {i : List ℕ} {n : ℕ} {r : 
         go none = refl
         go (some ps) = rw t
 
-    pub member-side : not (beq side d) ≡ true → MemberIs s e side d i n Foreign
-    member-side t = foreign (go side d (not-true (beq side d) t))
+    pub member_side : not (beq side d) ≡ true → MemberIs s e side d i n Foreign
+    member_side t = foreign (go side d (not-true (beq side d) t))
       where
         go : (a b : Bool) → beq a b ≡ false → (beq b a && (same i (ident_at s last) && eqb n m)) ≡ false
         go true true e = absurd (false≢true (sym e))
@@ -435,14 +435,14 @@ module _ {s : List ℕ} {e : ℕ} {side d : Bool} {i : List ℕ} {n : ℕ} {r : 
         go false false e = absurd (false≢true (sym e))
 
     module _ (t : not (beq side d) ≡ false) where
-      pub member-count : (m ≡ n → ⊥) → MemberIs s e side d i n Foreign
-      member-count u =
+      pub member_count : (m ≡ n → ⊥) → MemberIs s e side d i n Foreign
+      member_count u =
           let z : eqb n m ≡ false = ne_eqb n m (λ w. u (sym w)) in
           foreign (rw z (ap (λ (b : Bool). beq d side && b) (and-false (same i (ident_at s last))) ∙ and-false (beq d side)))
 
       module _ (u : m ≡ n) {y : Bool} (w : y ≡ same (take (last + 18 - (last + 4)) (drop (last + 4) s)) i) where
-        pub member-id : not y ≡ true → MemberIs s e side d i n Foreign
-        member-id z =
+        pub member_id : not y ≡ true → MemberIs s e side d i n Foreign
+        member_id z =
             let f : same i (ident_at s last) ≡ false = same_flip (ident_at s last) i ∙ (sym w ∙ not-true y z) in
             foreign (rw f (and-false (beq d side)))
 
@@ -475,4 +475,4 @@ module _ {s : List ℕ} {e : ℕ} {side d : Bool} {i : List ℕ} {n : ℕ} {r : 
                 → some (part_by side (ident_at s last) m k (lines v q).lines) ≡ some (part_by d i n k (lines v q).lines)
             same-part g f u = cc
 
-pub ruleset member_laws = (member_plain, member_wrong, member_ident, member_at, member_from, member_to, member-side, member-count, member-id, member_is)
+pub ruleset member_laws = (member_plain, member_wrong, member_ident, member_at, member_from, member_to, member_side, member_count, member_id, member_is)

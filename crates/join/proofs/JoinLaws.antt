@@ -164,14 +164,14 @@ module _ {D s : List ℕ} {d : Bool} {x : FirstOfSet} (g : First D s d x) where
     first = g;
     more = m;
     sizes = record { numbers = enough; starts = enough; ends = enough };
-    bounds = record { low = λ i l. omega (arith, zero-at i l); high = λ i l. omega (arith, zero-at i l) };
+    bounds = record { low = λ i l. omega (arith, zero_at i l); high = λ i l. omega (arith, zero_at i l) };
   }
     where
       enough : x.n ≤ length (replicate {A = ℕ} N 0)
       enough = omega (arith, length-replicate {A = ℕ} N 0)
 
-      zero-at : (i : ℕ) → i < x.n → get_or (replicate {A = ℕ} N 0) i 0 ≡ 0
-      zero-at i l = get_or-replicate {A = ℕ} N i 0 0 (omega arith)
+      zero_at : (i : ℕ) → i < x.n → get_or (replicate {A = ℕ} N 0) i 0 ≡ 0
+      zero_at i l = get_or-replicate {A = ℕ} N i 0 0 (omega arith)
 
 module _ {D s : List ℕ} {d : Bool} {x : FirstOfSet} {ks₀ a₀ b₀ : List ℕ} (f : FirstIn D s d x ks₀ a₀ b₀) where
   abbrev g : First D s d x
@@ -212,8 +212,8 @@ module _ {D s : List ℕ} {d : Bool} {x : FirstOfSet} {ks₀ a₀ b₀ : List �
 
   module _ {ks a b : List ℕ} {y : Bool} (v : CollectIs s d (take (x.mark + 18 - (x.mark + 4)) (drop (x.mark + 4) s)) x.n ks a b y) where
     -- no set: is_set says so of the same parts
-    pub set-lost : not y ≡ true → SoundIs (length D) s (or_set (join_parts (all_parts (pieces_in (rows s))))) D (No 19 0)
-    set-lost q =
+    pub set_lost : not y ≡ true → SoundIs (length D) s (or_set (join_parts (all_parts (pieces_in (rows s))))) D (No 19 0)
+    set_lost q =
         let i : unbroken (rows s) ≡ true → is_set d (ident_at s x.mark) x.n (all_parts (pieces_in (rows s))) ≡ false =
         subst (CollectMeans s d (ident_at s x.mark) x.n ks a b) (not-true y q) v.means in
         record {
@@ -258,13 +258,13 @@ module _ {D s : List ℕ} {d : Bool} {x : FirstOfSet} {ks₀ a₀ b₀ : List �
               let c : eqb (suc (length ps)) x.n ≡ true = eq-eqb (suc (length ps)) x.n (ap length h ∙ collected.count) in
               by_test g (some ps) ps refl ∙ (rw (t, le-leb 2 x.n f.more, c) (ap (λ (z : List Part). one_piece d (gather z x.n 1)) h))
 
-      pub set-done : {D₁ : List ℕ} {r : Made} → SetIs (length D) d s ks a b x.n D₁ r
+      pub set_done : {D₁ : List ℕ} {r : Made} → SetIs (length D) d s ks a b x.n D₁ r
           → SoundIs (length D) s (or_set (join_parts (all_parts (pieces_in (rows s))))) D₁ r
-      set-done {D₁} {r} m =
+      set_done {D₁} {r} m =
           settled (g.sound ∙ collected.whole)
           (subst (λ (o : Option Piece). MadeIs (length D) (or_set o) D₁ r) (sym joins) (m.made collected.seen collected.count collected.listed))
 
-pub ruleset set_laws = (set_free, set_number, set_ident, set_begun, set-lost, set_given, set-done)
+pub ruleset set_laws = (set_free, set_number, set_ident, set_begun, set_lost, set_given, set_done)
 
 -- ---- one piece, or a set
 
@@ -293,8 +293,8 @@ module _ {D s : List ℕ} (g : Input D s) {r : Next} (x : FirstIs s r) where
     opening : Opened s 0 e d
     opening = foremost.opened
 
-    pub pieces-from : e ≤ length s
-    pieces-from = opening.high
+    pub pieces_from : e ≤ length s
+    pieces_from = opening.high
 
     by_parts : all_parts (pieces_in (rows s)) ≡ part_with (part_of d (body_of (rows (drop e s)))) (all_parts (pieces_in (rows (drop e s))))
     unfolding all_parts
@@ -304,9 +304,9 @@ module _ {D s : List ℕ} (g : Input D s) {r : Next} (x : FirstIs s r) where
       mean : {j : Lines} → l ≡ j → LinesMean s e j
       mean t = subst (LinesMean s e) t v.mean
 
-      pub pieces-wrong : l ≡ Wrong → SoundIs (length D) s (or_set (join_pieces (pieces_in (rows s)))) D (No 19 0)
+      pub pieces_wrong : l ≡ Wrong → SoundIs (length D) s (or_set (join_pieces (pieces_in (rows s)))) D (No 19 0)
       unfolding all_parts
-      pieces-wrong t =
+      pieces_wrong t =
           let w : WrongLines s e = mean t in
           nineteen (ap join_pieces opening.is
           ∙ (several (record { provider = d; rows = body_of (rows (drop e s)) }) (pieces_in (rows (drop e s))) w.marked
@@ -316,8 +316,8 @@ module _ {D s : List ℕ} (g : Input D s) {r : Next} (x : FirstIs s r) where
         marked : MarkedLines s e last stop n k
         marked = mean t
 
-        pub pieces-first : First D s d (record { n = n; k = k; from = e; mark = last; stop = stop })
-        pieces-first = record {
+        pub pieces_first : First D s d (record { n = n; k = k; from = e; mark = last; stop = stop })
+        pieces_first = record {
           line = g.line;
           small = g.small;
           count = marked.count;
@@ -334,9 +334,9 @@ module _ {D s : List ℕ} (g : Input D s) {r : Next} (x : FirstIs s r) where
           whole = opening.whole ∙ marked.whole;
         }
 
-        pub pieces-set : {D₁ : List ℕ} {m : Made} → SoundIs (length D) s (or_set (join_parts (all_parts (pieces_in (rows s))))) D₁ m
+        pub pieces_set : {D₁ : List ℕ} {m : Made} → SoundIs (length D) s (or_set (join_parts (all_parts (pieces_in (rows s))))) D₁ m
             → SoundIs (length D) s (or_set (join_pieces (pieces_in (rows s)))) D₁ m
-        pieces-set {D₁} {m} y =
+        pieces_set {D₁} {m} y =
             let z : join_pieces (pieces_in (rows s)) ≡ join_parts (all_parts (pieces_in (rows s))) =
             ap join_pieces opening.is ∙ (several (record { provider = d; rows = body_of (rows (drop e s)) }) (pieces_in (rows (drop e s))) marked.marked
             ∙ ap (λ (ps : List Piece). join_parts (all_parts ps)) (sym opening.is)) in
@@ -346,11 +346,11 @@ module _ {D s : List ℕ} (g : Input D s) {r : Next} (x : FirstIs s r) where
         plain : PlainLines s e stop
         plain = mean t
 
-        pub pieces-stop : stop ≤ length s
-        pieces-stop = plain.high
+        pub pieces_stop : stop ≤ length s
+        pieces_stop = plain.high
 
-        pub pieces-given : Given D s e stop
-        pieces-given = record { line = g.line; low = plain.low; high = plain.high }
+        pub pieces_given : Given D s e stop
+        pieces_given = record { line = g.line; low = plain.low; high = plain.high }
 
         module _ {r₂ : Next} (y : NextIs s stop r₂) where
           pub pieces-broken : r₂ ≡ Stray → SoundIs (length D) s (or_set (join_pieces (pieces_in (rows s)))) D (No 19 0)
@@ -377,7 +377,7 @@ module _ {D s : List ℕ} (g : Input D s) {r : Next} (x : FirstIs s r) where
               ap (λ (ps : List Piece). or_set (join_pieces ps)) w ∙ rw plain.plain (ap (λ (b : List ℕ). ok (head_row d ++ b)) plain.bytes) in
               settled (foremost.sound ∙ (plain.whole ∙ l.whole)) (subst (λ (k : Res (List ℕ)). MadeIs (length D) k D₁ m) (sym f) z)
 
-pub ruleset pieces_laws = (pieces_over, pieces_stray, pieces-broken, pieces-from, pieces-wrong, pieces-first, pieces-set, pieces-stop, pieces-given, pieces_more, pieces-one)
+pub ruleset pieces_laws = (pieces_over, pieces_stray, pieces-broken, pieces_from, pieces_wrong, pieces_first, pieces_set, pieces_stop, pieces_given, pieces_more, pieces-one)
 
 -- ---- the input
 
@@ -455,41 +455,41 @@ module _ (s : List ℕ) {B₀ B : List ℕ} {m : Made} (h : Holds s B₀) (x : M
       go (w, e, g) = gives_refusal d (ap (map_res writes) (ap then_checked e ∙ too_large w (beyond w (joined_no_longer s w e) g)))
 
   module _ {t : ℕ} (q : m ≡ Bytes t) where
-    made-file : (joined_file s ≡ ok (take t B)) × (t ≤ length B)
-    made-file = subst (MadeMeans (joined_file s) B) q x.means
+    made_file : (joined_file s ≡ ok (take t B)) × (t ≤ length B)
+    made_file = subst (MadeMeans (joined_file s) B) q x.means
 
-    pub join-end : t ≤ length B
-    join-end = made-file.1
+    pub join_end : t ≤ length B
+    join_end = made_file.1
 
-    pub join-fits : Fits w32 t
-    join-fits = omega (arith, made-file.1, x.size, h.small)
+    pub join_fits : Fits w32 t
+    join_fits = omega (arith, made_file.1, x.size, h.small)
 
     -- the file, as the code takes it
     file : List ℕ
     file = take (t - 0) (drop 0 B)
 
-    by-check : join_result s ≡ map_res writes (checked_file file (read_file file))
+    by_check : join_result s ≡ map_res writes (checked_file file (read_file file))
     unfolding join_result join_file file
-    by-check = let z : t ≡ t - 0 = omega arith in ap (λ (r : Res (List ℕ)). map_res writes (then_checked r)) (made-file.0 ∙ ap (λ (k : ℕ). ok (take k B)) z)
+    by_check = let z : t ≡ t - 0 = omega arith in ap (λ (r : Res (List ℕ)). map_res writes (then_checked r)) (made_file.0 ∙ ap (λ (k : ℕ). ok (take k B)) z)
 
     module _ {k : Answer} (c : k ≡ answer_in (check_result (take (t - 0) (drop 0 B))) []) (d : List ℕ) where
-      pub join-refused : {n line : ℕ} → k ≡ Refused n line → Gives (join_result s) d d (Refused n line)
+      pub join_refused : {n line : ℕ} → k ≡ Refused n line → Gives (join_result s) d d (Refused n line)
       unfolding file
-      join-refused {n} {line} e =
-          gives_refusal d (by-check ∙ ap (λ (r : Res Notebook). map_res writes (checked_file file r)) (answer_refused file n line (sym c ∙ e)))
+      join_refused {n} {line} e =
+          gives_refusal d (by_check ∙ ap (λ (r : Res Notebook). map_res writes (checked_file file r)) (answer_refused file n line (sym c ∙ e)))
 
       module _ {n₁ n₂ n₃ : ℕ} (e : k ≡ Done n₁ n₂ n₃) where
         given : join_result s ≡ ok (writes (take (t - 0) (drop 0 B)))
         unfolding file
-        given = by-check ∙ ap (λ (r : Res Notebook). map_res writes (checked_file file r)) (answer_accepted file n₁ n₂ n₃ (sym c ∙ e)).read
+        given = by_check ∙ ap (λ (r : Res Notebook). map_res writes (checked_file file r)) (answer_accepted file n₁ n₂ n₃ (sym c ∙ e)).read
 
-        pub join-short : length d < t → Gives (join_result s) d d (Refused 20 0)
-        join-short h = front_20 B d join-end given h
+        pub join_short : length d < t → Gives (join_result s) d d (Refused 20 0)
+        join_short h = front_20 B d join_end given h
 
         pub join_written : {d₁ : List ℕ} {r : ℕ} → Wrote d d₁ 0 r (take (t - 0) (drop 0 B)) → Gives (join_result s) d d₁ (Done t 0 0)
-        join_written w = front_written B d join-end given w
+        join_written w = front_written B d join_end given w
 
-pub ruleset join_laws = (join_no, join_large, join-end, join-fits, join-refused, join-short, join_written)
+pub ruleset join_laws = (join_no, join_large, join_end, join_fits, join_refused, join_short, join_written)
 
 -- ---- the arrays
 

@@ -211,9 +211,9 @@ module _ {s : List ℕ} {d : Bool} {i : List ℕ} {n : ℕ} {ks₀ a₀ b₀ ks 
   }
 
   module _ {r : Next} (x : NextIs s at r) where
-    pub collect-over : r ≡ Over → CollectIs s d i n ks a b (eqb m n)
+    pub collect_over : r ≡ Over → CollectIs s d i n ks a b (eqb m n)
     unfolding all_parts
-    collect-over q =
+    collect_over q =
         let f : Ended s at = subst (NextMeans s at) q x.means in
         let w : all_parts (pieces_in (rows s)) ≡ some v.seen = v.parts ∙ (ap (λ (t : List Piece). after v.seen (all_parts t)) f.is ∙ ap some (append-nil v.seen)) in
         record { means = go (eqb m n) refl w (v.whole ∙ f.whole) }
@@ -235,23 +235,23 @@ module _ {s : List ℕ} {d : Bool} {i : List ℕ} {n : ℕ} {ks₀ a₀ b₀ ks 
             ∙ (ap (λ (t : Bool). agree (like d i n) v.seen && t) (ne_eqb (length v.seen) n z) ∙ and-false (agree (like d i n) v.seen))
 
     -- only a broken row goes on with no piece and opens none
-    pub collect-stray : r ≡ Stray → CollectIs s d i n ks a b false
-    collect-stray q = record { means = λ u. absurd (false≢true (sym (subst (NextMeans s at) q x.means v.over) ∙ (sym v.whole ∙ u))) }
+    pub collect_stray : r ≡ Stray → CollectIs s d i n ks a b false
+    collect_stray q = record { means = λ u. absurd (false≢true (sym (subst (NextMeans s at) q x.means v.over) ∙ (sym v.whole ∙ u))) }
 
     module _ {e : ℕ} {side : Bool} (q : r ≡ Opens e side) where
       opening : Opened s at e side
       opening = subst (NextMeans s at) q x.means
 
-      pub collect-within : Within s e
-      collect-within = record { high = opening.high; small = v.small }
+      pub collect_within : Within s e
+      collect_within = record { high = opening.high; small = v.small }
 
       left_is : all_parts (pieces_in (rows (drop at s))) ≡ part_with (part_of side (body_of (rows (drop e s)))) (all_parts (pieces_in (rows (drop e s))))
       unfolding all_parts
       left_is = ap all_parts opening.is
 
       module _ {y : Member} (z : MemberIs s e side d i n y) where
-        pub collect-foreign : y ≡ Foreign → CollectIs s d i n ks a b false
-        collect-foreign t =
+        pub collect_foreign : y ≡ Foreign → CollectIs s d i n ks a b false
+        collect_foreign t =
             let f = subst (MemberMeans s e side d i n) t z.means in
             record {
               means = λ _. not_agreed d i n (all_parts (pieces_in (rows s))) (ap (agreed d i n) v.parts
@@ -317,7 +317,7 @@ module _ {ks₀ a₀ b₀ ks a b : List ℕ} (v : Kept ks₀ a₀ b₀ ks a b) w
 pub ruleset kept_laws = (collect_kept, kept_numbers, kept_starts, kept_ends)
 
 pub ruleset collect_laws =
-    (collect_start, collect_at, collect_fits, collect_free, collect-over, collect-stray, collect-within, collect-foreign, collect-place, collect-less, collect-many, collect-go)
+    (collect_start, collect_at, collect_fits, collect_free, collect_over, collect_stray, collect_within, collect_foreign, collect-place, collect-less, collect-many, collect-go)
 
 -- ---- a piece that is looked for
 
@@ -329,23 +329,23 @@ module _ {ks a b : List ℕ} {n k : ℕ} (v : Wanted ks a b n k) where
   spot_k = v.number
 
   module _ {c : ℕ} (x : CountIs k (take (n - 0) (drop 0 ks)) c) where
-    first-n : length (take (n - 0) (drop 0 ks)) ≡ n
-    first-n = let z : n - 0 ≡ n = omega arith in ap (λ (j : ℕ). length (take j ks)) z ∙ length-take-le n ks v.sizes.numbers
+    first_n : length (take (n - 0) (drop 0 ks)) ≡ n
+    first_n = let z : n - 0 ≡ n = omega arith in ap (λ (j : ℕ). length (take j ks)) z ∙ length-take-le n ks v.sizes.numbers
 
-    pub spot-low : 1 ≤ c
-    spot-low = count_one x (omega (arith, first-n, v.some))
+    pub spot_low : 1 ≤ c
+    spot_low = count_one x (omega (arith, first_n, v.some))
 
     below : c - 1 < n
-    below = omega (arith, spot-low, count_most x, first-n)
+    below = omega (arith, spot_low, count_most x, first_n)
 
-    pub spot-number : c - 1 < length ks
-    spot-number = omega (arith, below, v.sizes.numbers)
+    pub spot_number : c - 1 < length ks
+    spot_number = omega (arith, below, v.sizes.numbers)
 
-    pub spot-start : c - 1 < length a
-    spot-start = omega (arith, below, v.sizes.starts)
+    pub spot_start : c - 1 < length a
+    spot_start = omega (arith, below, v.sizes.starts)
 
-    pub spot-end : c - 1 < length b
-    spot-end = omega (arith, below, v.sizes.ends)
+    pub spot_end : c - 1 < length b
+    spot_end = omega (arith, below, v.sizes.ends)
 
     module _ (ps : List Part) (q : length ps ≡ n) (l : take (length ps) ks ≡ ks_of ps) where
       these : take (n - 0) (drop 0 ks) ≡ ks_of ps
@@ -354,27 +354,27 @@ module _ {ks a b : List ℕ} {n k : ℕ} (v : Wanted ks a b n k) where
       among : CountIs k (ks_of ps) c
       among = subst (λ (t : List ℕ). CountIs k t c) these x
 
-      k-there : get_or ks (c - 1) 0 ≡ get_or (ks_of ps) (c - 1) 0
-      k-there = let z : n ≡ n - 0 = omega arith in sym (get_or-take n ks (c - 1) 0 below) ∙ ap (λ (t : List ℕ). get_or t (c - 1) 0) (ap (λ (j : ℕ). take j ks) z ∙ these)
+      k_there : get_or ks (c - 1) 0 ≡ get_or (ks_of ps) (c - 1) 0
+      k_there = let z : n ≡ n - 0 = omega arith in sym (get_or-take n ks (c - 1) 0 below) ∙ ap (λ (t : List ℕ). get_or t (c - 1) 0) (ap (λ (j : ℕ). take j ks) z ∙ these)
 
       many : 1 ≤ length (ks_of ps)
       many = omega (arith, ks_length ps, q, v.some)
 
-    pub spot-nowhere : (get_or ks (c - 1) 0 ≡ k → ⊥) → SpotIs ks a b n k Nowhere
-    spot-nowhere e = record { means = λ ps q l. piece_missing ps (among ps q l) (many ps q l) (λ y. e (k-there ps q l ∙ y)) }
+    pub spot_nowhere : (get_or ks (c - 1) 0 ≡ k → ⊥) → SpotIs ks a b n k Nowhere
+    spot_nowhere e = record { means = λ ps q l. piece_missing ps (among ps q l) (many ps q l) (λ y. e (k_there ps q l ∙ y)) }
 
-    pub spot-rows : get_or ks (c - 1) 0 ≡ k → SpotIs ks a b n k (Rows (get_or a (c - 1) 0) (get_or b (c - 1) 0))
-    spot-rows e = record {
+    pub spot_rows : get_or ks (c - 1) 0 ≡ k → SpotIs ks a b n k (Rows (get_or a (c - 1) 0) (get_or b (c - 1) 0))
+    spot_rows e = record {
       means = record {
         index = c - 1;
         inside = below;
         starts = refl;
         ends = refl;
-        found = λ ps q l. piece_found ps (among ps q l) (many ps q l) (sym (k-there ps q l) ∙ e);
+        found = λ ps q l. piece_found ps (among ps q l) (many ps q l) (sym (k_there ps q l) ∙ e);
       };
     }
 
-pub ruleset spot_laws = (spot_part, spot_k, spot-low, spot-number, spot-start, spot-end, spot-nowhere, spot-rows)
+pub ruleset spot_laws = (spot_part, spot_k, spot_low, spot_number, spot_start, spot_end, spot_nowhere, spot_rows)
 
 -- ---- the rows by k
 
@@ -445,8 +445,8 @@ module _ {d₀ d : List ℕ} {at : ℕ} {s ks a b : List ℕ} {n o k : ℕ} (v :
   }
 
   module _ (h : k ≤ n) where
-    pub gathering-wanted : Wanted ks a b n k
-    gathering-wanted = record { sizes = v.given.sizes; some = v.given.some; number = omega (arith, v.given.count) }
+    pub gathering_wanted : Wanted ks a b n k
+    gathering_wanted = record { sizes = v.given.sizes; some = v.given.some; number = omega (arith, v.given.count) }
 
     step : (ps : List Part) → gather ps (n + 1 - k) k ≡ rows_of_part (find_part k ps) (gather ps (n + 1 - (k + 1)) (k + 1))
     unfolding gather
@@ -458,8 +458,8 @@ module _ {d₀ d : List ℕ} {at : ℕ} {s ks a b : List ℕ} {n o k : ℕ} (v :
       spotted : {r : Spot} → y ≡ r → SpotMeans ks a b n k r
       spotted t = subst (SpotMeans ks a b n k) t x.means
 
-      pub gathering-missing : y ≡ Nowhere → FillIs d₀ d at s ks a b n Missing
-      gathering-missing t = record {
+      pub gathering_missing : y ≡ Nowhere → FillIs d₀ d at s ks a b n Missing
+      gathering_missing t = record {
         means = λ ps q l. (v.going ps q l).left ∙ ap (rows_before (v.going ps q l).done)
             (step ps ∙ ap (λ (p : Option Part). rows_of_part p (gather ps (n + 1 - (k + 1)) (k + 1))) (spotted t ps q l.numbers));
         size = v.size;
@@ -469,24 +469,24 @@ module _ {d₀ d : List ℕ} {at : ℕ} {s ks a b : List ℕ} {n o k : ℕ} (v :
         spot : SpotAt ks a b n k from to
         spot = spotted t
 
-        pub gathering-low : from ≤ to
-        gathering-low = omega (arith, spot.starts, spot.ends, v.given.bounds.low spot.index spot.inside)
+        pub gathering_low : from ≤ to
+        gathering_low = omega (arith, spot.starts, spot.ends, v.given.bounds.low spot.index spot.inside)
 
-        pub gathering-high : to ≤ length s
-        gathering-high = omega (arith, spot.ends, v.given.bounds.high spot.index spot.inside)
+        pub gathering_high : to ≤ length s
+        gathering_high = omega (arith, spot.ends, v.given.bounds.high spot.index spot.inside)
 
-        span-length : length (part s from to) ≡ to - from
-        span-length = part_length s from to gathering-low gathering-high
+        span_length : length (part s from to) ≡ to - from
+        span_length = part_length s from to gathering_low gathering_high
 
-        pub gathering-fits : o + length (take (to - from) (drop from s)) ≤ 200000000
-        gathering-fits = omega (arith, span-length, v.small, v.given.small, v.given.count, gathering-high)
+        pub gathering_fits : o + length (take (to - from) (drop from s)) ≤ 200000000
+        gathering_fits = omega (arith, span_length, v.small, v.given.small, v.given.count, gathering_high)
 
-        pub gathering-go : {d₁ : List ℕ} {o₁ : ℕ} → PutIs d d₁ o o₁ (take (to - from) (drop from s)) → Gathering d₀ d₁ at s ks a b n o₁ (k + 1)
-        gathering-go {d₁} {o₁} u = record {
+        pub gathering_go : {d₁ : List ℕ} {o₁ : ℕ} → PutIs d d₁ o o₁ (take (to - from) (drop from s)) → Gathering d₀ d₁ at s ks a b n o₁ (k + 1)
+        gathering_go {d₁} {o₁} u = record {
           given = v.given;
           low = omega arith;
           high = omega arith;
-          small = omega (arith, u.next, span-length, gathering-high, v.given.small, v.small, v.low);
+          small = omega (arith, u.next, span_length, gathering_high, v.given.small, v.small, v.low);
           size = u.size ∙ v.size;
           going = λ ps q l. go ps l (v.going ps q l) (spot.found ps q l.numbers);
         }
@@ -506,7 +506,7 @@ module _ {d₀ d : List ℕ} {at : ℕ} {s ks a b : List ℕ} {n o k : ℕ} (v :
                 }
 
 pub ruleset gathering_laws =
-    (gathering_start, gathering_size, gathering_full, gathering_short, gathering-wanted, gathering-low, gathering-high, gathering-missing, gathering-fits, gathering-go)
+    (gathering_start, gathering_size, gathering_full, gathering_short, gathering_wanted, gathering_low, gathering_high, gathering_missing, gathering_fits, gathering_go)
 
 -- ---- bytes that fit, or not
 

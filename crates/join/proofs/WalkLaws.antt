@@ -77,29 +77,29 @@ module _ {s : List ℕ} {begun : Bool} {n at : ℕ} (v : Walk s begun n at) wher
     go_on : {b : Bool} → broken_line (rows s) ≡ broken_from b (n + 1) (rows (drop e s)) → Walk s b (n + 1) e
     go_on q = record { inside = x.inside; few = omega (arith, v.few, x.more); small = v.small; left = q }
 
-    pub walk-body : k ≡ Body → Walk s begun (n + 1) e
-    walk-body q = go_on (step ∙ ap turn q)
+    pub walk_body : k ≡ Body → Walk s begun (n + 1) e
+    walk_body q = go_on (step ∙ ap turn q)
 
-    pub walk-head : {d : Bool} → k ≡ Head d → Walk s true (n + 1) e
-    walk-head q = go_on (step ∙ ap turn q)
+    pub walk_head : {d : Bool} → k ≡ Head d → Walk s true (n + 1) e
+    walk_head q = go_on (step ∙ ap turn q)
 
-    pub walk-broken : k ≡ Broken → n ≡ broken_line (rows s)
-    walk-broken q = sym (step ∙ ap turn q)
+    pub walk_broken : k ≡ Broken → n ≡ broken_line (rows s)
+    walk_broken q = sym (step ∙ ap turn q)
 
-    pub walk-early-head : {d : Bool} → k ≡ EndHead d → not begun ≡ true → n ≡ broken_line (rows s)
-    walk-early-head q w = sym (step ∙ (ap turn q ∙ rw (not-true begun w)))
+    pub walk_early_head : {d : Bool} → k ≡ EndHead d → not begun ≡ true → n ≡ broken_line (rows s)
+    walk_early_head q w = sym (step ∙ (ap turn q ∙ rw (not-true begun w)))
 
-    pub walk-early-end : k ≡ End → not begun ≡ true → n ≡ broken_line (rows s)
-    walk-early-end q w = sym (step ∙ (ap turn q ∙ rw (not-true begun w)))
+    pub walk_early_end : k ≡ End → not begun ≡ true → n ≡ broken_line (rows s)
+    walk_early_end q w = sym (step ∙ (ap turn q ∙ rw (not-true begun w)))
 
-    pub walk-end-head : {d : Bool} → k ≡ EndHead d → not begun ≡ false → Walk s begun (n + 1) e
-    walk-end-head q w = let b : begun ≡ true = not-false begun w in go_on (step ∙ (ap turn q ∙ rw b))
+    pub walk_end_head : {d : Bool} → k ≡ EndHead d → not begun ≡ false → Walk s begun (n + 1) e
+    walk_end_head q w = let b : begun ≡ true = not-false begun w in go_on (step ∙ (ap turn q ∙ rw b))
 
     pub walk_end : k ≡ End → not begun ≡ false → Walk s begun (n + 1) e
     walk_end q w = let b : begun ≡ true = not-false begun w in go_on (step ∙ (ap turn q ∙ rw b))
 
 pub ruleset walk_laws =
-    (row_bounds, walk_empty, walk_start, walk_fits, walk_out, walk-body, walk-head, walk-broken, walk-early-head, walk-early-end, walk-end-head, walk_end)
+    (row_bounds, walk_empty, walk_start, walk_fits, walk_out, walk_body, walk_head, walk_broken, walk_early_head, walk_early_end, walk_end_head, walk_end)
 
 -- ---- the first row
 
@@ -174,32 +174,32 @@ module _ (s : List ℕ) {at : ℕ} where
     unfolding pieces_in
     pieces_step q = ap pieces_in x.cut ∙ ap (opened (body_of (rows (drop e s))) (pieces_in (rows (drop e s)))) (p.is ∙ ap as_kind q)
 
-    pub unbroken-step : {j : Row} → k ≡ j → unbroken (rows (drop at s)) ≡ (is_whole (as_kind j) && unbroken (rows (drop e s)))
+    pub unbroken_step : {j : Row} → k ≡ j → unbroken (rows (drop at s)) ≡ (is_whole (as_kind j) && unbroken (rows (drop e s)))
     unfolding unbroken
-    unbroken-step q = ap unbroken x.cut ∙ ap (λ (i : RowKind). is_whole i && unbroken (rows (drop e s))) (p.is ∙ ap as_kind q)
+    unbroken_step q = ap unbroken x.cut ∙ ap (λ (i : RowKind). is_whole i && unbroken (rows (drop e s))) (p.is ∙ ap as_kind q)
 
-    pub next-head : {d : Bool} → k ≡ Head d → NextIs s at (Opens e d)
-    next-head q = record { means = record { low = x.more; high = x.inside; is = pieces_step q; whole = unbroken-step q } }
+    pub next_head : {d : Bool} → k ≡ Head d → NextIs s at (Opens e d)
+    next_head q = record { means = record { low = x.more; high = x.inside; is = pieces_step q; whole = unbroken_step q } }
 
-    pub next-end-head : {d : Bool} → k ≡ EndHead d → NextIs s at (Opens e d)
-    next-end-head q = record { means = record { low = x.more; high = x.inside; is = pieces_step q; whole = unbroken-step q } }
+    pub next_end_head : {d : Bool} → k ≡ EndHead d → NextIs s at (Opens e d)
+    next_end_head q = record { means = record { low = x.more; high = x.inside; is = pieces_step q; whole = unbroken_step q } }
 
-    pub next-end : k ≡ End → NextIs s at Over
+    pub next_end : k ≡ End → NextIs s at Over
     unfolding pieces_in unbroken
-    next-end q =
+    next_end q =
         let r : part s at e ≡ end_mark = end_is (part s at e) (p.is ∙ ap as_kind q) in
         let c : rows (drop at s) ≡ end_mark ∷ rows (drop e s) = x.cut ∙ ap (λ (y : List ℕ). y ∷ rows (drop e s)) r in
         let l : drop at s ≡ 0x1a ∷ drop e s = sym (flat_rows (drop at s)) ∙ (ap flat c ∙ ap (λ (y : List ℕ). 0x1a ∷ y) (flat_rows (drop e s))) in
         let z : rows (drop e s) ≡ [] = ap rows (end_last (drop e s) (rows (drop e s)) (ap rows (sym l) ∙ c)) in
-        record { means = record { is = pieces_step q ∙ ap pieces_in z; whole = unbroken-step q ∙ ap unbroken z } }
+        record { means = record { is = pieces_step q ∙ ap pieces_in z; whole = unbroken_step q ∙ ap unbroken z } }
 
-    pub next-body : k ≡ Body → NextIs s at Stray
-    next-body q = record { means = λ o. absurd (false≢true (sym o ∙ sym (goes_body s x p q))) }
+    pub next_body : k ≡ Body → NextIs s at Stray
+    next_body q = record { means = λ o. absurd (false≢true (sym o ∙ sym (goes_body s x p q))) }
 
-    pub next-broken : k ≡ Broken → NextIs s at Stray
-    next-broken q = record { means = λ o. unbroken-step q }
+    pub next_broken : k ≡ Broken → NextIs s at Stray
+    next_broken q = record { means = λ o. unbroken_step q }
 
-pub ruleset next_laws = (next_over, next-head, next-end-head, next-end, next-body, next-broken)
+pub ruleset next_laws = (next_over, next_head, next_end_head, next_end, next_body, next_broken)
 
 -- ---- the first piece
 
@@ -214,7 +214,7 @@ module _ (s : List ℕ) {e : ℕ} {k : Row} (x : RowAt s 0 e) (p : KindIs (take 
   pub first_head : {d : Bool} → k ≡ Head d → FirstIs s (Opens e d)
   first_head q = record {
     means = record {
-      opened = record { low = x.more; high = x.inside; is = pieces_step s x p q; whole = unbroken-step s x p q };
+      opened = record { low = x.more; high = x.inside; is = pieces_step s x p q; whole = unbroken_step s x p q };
       over = sym (goes_head s x p q);
       sound = sound_step q;
     };

@@ -117,11 +117,11 @@ value_first (among ns) s = kept (among ns) s s refl refl
 
 none_first : (k : Kind) → First k [] (raw [])
 unfolding rp_raw day_raw number read_day
-none_first k = record { num = zero-both (is_r k); day = zero-both (is_d k) }
+none_first k = record { num = zero_both (is_r k); day = zero_both (is_d k) }
   where
-    zero-both : (b : Bool) → ◌≡◌ {A = ℕ} 0 (cond b 0 0)
-    zero-both true = refl
-    zero-both false = refl
+    zero_both : (b : Bool) → ◌≡◌ {A = ℕ} 0 (cond b 0 0)
+    zero_both true = refl
+    zero_both false = refl
 
 item_first : (i : Item) (s : List ℕ) → First i.kind s (item_value i s)
 unfolding item_value

@@ -23,7 +23,7 @@ use Rattle.lines.specs.declared.Found.TheVariants.{Line as FoundLine, Fault as F
 use Rattle.lines.specs.declared.LineRead.TheVariants.{Record, Fault, Over}
 use Rattle.lines.specs.Codes.{Commas, Spanned, details_raw}
 use Rattle.lines.specs.Found.{NumberedAs, QuickOf, SoundAt, broken, faulty, FoundMeans, FoundOf, ReadOf}
-use Rattle.lines.proofs.LineLaws.{sound_few, sound-fault, sound-facts}
+use Rattle.lines.proofs.LineLaws.{sound_few, sound_fault, sound_facts}
 
 -- "4": characters come before all else
 chars_fault : (b : Bool) (l : List ℕ) → all_chars l ≡ false → line_fault b l ≡ 4
@@ -53,39 +53,39 @@ module _ (b : Bool) (s : List ℕ) (at : ℕ) {stops : List ℕ} {k : Line} (v :
     whole : ScannedLine s at stops e good n
     whole = (line_as q).means
 
-    pub slow-size : Sixteen stops
-    slow-size = v.size
+    pub slow_size : Sixteen stops
+    slow_size = v.size
 
-    pub slow-low : at ≤ e
-    slow-low = whole.line.low
+    pub slow_low : at ≤ e
+    slow_low = whole.line.low
 
-    pub slow-high : e ≤ length s
-    slow-high = omega (arith, whole.line.high)
+    pub slow_high : e ≤ length s
+    slow_high = omega (arith, whole.line.high)
 
-    pub slow-commas : Commas (take (e - at) (drop at s)) n
-    slow-commas = record { is = whole.commas }
+    pub slow_commas : Commas (take (e - at) (drop at s)) n
+    slow_commas = record { is = whole.commas }
 
-    pub slow-places : Stops (take (e - at) (drop at s)) stops
-    slow-places = whole.places
+    pub slow_places : Stops (take (e - at) (drop at s)) stops
+    slow_places = whole.places
 
-    found-fault : {f : ℕ} → f ≡ line_fault b (part s at e) → (f ≡ 0 → ⊥) → FoundOf b s at stops (FoundFault f)
-    found-fault p z = record { means = faulty e good n (line_as q) p z; size = v.size }
+    found_fault : {f : ℕ} → f ≡ line_fault b (part s at e) → (f ≡ 0 → ⊥) → FoundOf b s at stops (FoundFault f)
+    found_fault p z = record { means = faulty e good n (line_as q) p z; size = v.size }
 
-    pub slow-chars : not good ≡ true → FoundOf b s at stops (FoundFault 4)
-    slow-chars t = found-fault (sym (chars_fault b (part s at e) (sym whole.line.chars ∙ not_true' good t))) (λ z. omega arith)
+    pub slow_chars : not good ≡ true → FoundOf b s at stops (FoundFault 4)
+    slow_chars t = found_fault (sym (chars_fault b (part s at e) (sym whole.line.chars ∙ not_true' good t))) (λ z. omega arith)
 
     module _ (t : not good ≡ false) {r : Numbered} (x : NumberedAs b (take (e - at) (drop at s)) r) where
-      pub slow-fault : {f : ℕ} → (r.fault ≡ 0 → ⊥) → f ≡ r.fault → FoundOf b s at stops (FoundFault f)
-      slow-fault z p =
-          found-fault (p ∙ x.faulty z ∙ sym (past_chars b (part s at e) (sym whole.line.chars ∙ not_false' good t))) (λ y. z (sym p ∙ y))
+      pub slow_fault : {f : ℕ} → (r.fault ≡ 0 → ⊥) → f ≡ r.fault → FoundOf b s at stops (FoundFault f)
+      slow_fault z p =
+          found_fault (p ∙ x.faulty z ∙ sym (past_chars b (part s at e) (sym whole.line.chars ∙ not_false' good t))) (λ y. z (sym p ∙ y))
 
-      pub slow-fine : r.fault ≡ 0 → FoundOf b s at stops (FoundLine e n r.number)
-      slow-fine o = record {
+      pub slow_fine : r.fault ≡ 0 → FoundOf b s at stops (FoundLine e n r.number)
+      slow_fine o = record {
         means = record { line = subst (λ (g : Bool). LineOf s at stops (Whole e g n)) (not_false' good t) (line_as q); sound = x.sound o };
         size = v.size;
       }
 
-pub ruleset slow_laws = (slow_end, slow_mark, slow_broken, slow-size, slow-low, slow-high, slow-chars, slow-fault, slow-fine)
+pub ruleset slow_laws = (slow_end, slow_mark, slow_broken, slow_size, slow_low, slow_high, slow_chars, slow_fault, slow_fine)
 
 -- ---- the ways through find_line
 
@@ -117,11 +117,11 @@ module _ {b : Bool} {s : List ℕ} {at : ℕ} {stops : List ℕ} {k : Found} (v 
     pub read_low : at ≤ e
     read_low = found.line.low
 
-    pub read-high : e ≤ length s
-    read-high = omega (arith, found.line.high)
+    pub read_high : e ≤ length s
+    read_high = omega (arith, found.line.high)
 
-    pub read-spanned : Spanned (take (e - at) (drop at s)) stops n
-    read-spanned = record {
+    pub read_spanned : Spanned (take (e - at) (drop at s)) stops n
+    read_spanned = record {
       places = found.places;
       commas = record { is = found.commas };
       few = omega (arith, found.commas, sound_few sound.sound);
@@ -129,13 +129,13 @@ module _ {b : Bool} {s : List ℕ} {at : ℕ} {stops : List ℕ} {k : Found} (v 
     }
 
     module _ {d : Details} (h : d ≡ details_raw number (drop 1 (items_of (take (e - at) (drop at s))))) where
-      by-pairs : {y : Bool} → d.paired ≡ y → line_fault b (part s at e) ≡ unless y 12
-      by-pairs p = past_chars b (part s at e) (sym found.line.chars) ∙ sound-fault sound.sound h ∙ ap (λ (y : Bool). unless y 12) p
+      by_pairs : {y : Bool} → d.paired ≡ y → line_fault b (part s at e) ≡ unless y 12
+      by_pairs p = past_chars b (part s at e) (sym found.line.chars) ∙ sound_fault sound.sound h ∙ ap (λ (y : Bool). unless y 12) p
 
-      pub read-record : d.paired ≡ true → ReadOf b s at stops (Record d.facts e n)
-      read-record p = record { means = record { line = sound.line; fine = by-pairs p; facts_are = sound-facts sound.sound h }; size = v.size }
+      pub read_record : d.paired ≡ true → ReadOf b s at stops (Record d.facts e n)
+      read_record p = record { means = record { line = sound.line; fine = by_pairs p; facts_are = sound_facts sound.sound h }; size = v.size }
 
       pub read_pairs : d.paired ≡ false → ReadOf b s at stops (Fault 12)
-      read_pairs p = record { means = faulty e true n sound.line (sym (by-pairs p)) (λ z. omega arith); size = v.size }
+      read_pairs p = record { means = faulty e true n sound.line (sym (by_pairs p)) (λ z. omega arith); size = v.size }
 
-pub ruleset read_laws = (read_over, read_fault, read_low, read-high, read-spanned, read-record, read_pairs)
+pub ruleset read_laws = (read_over, read_fault, read_low, read_high, read_spanned, read_record, read_pairs)

@@ -68,9 +68,9 @@ module _ {s h : List ℕ} {ss : List (List ℕ)} {n place : ℕ} (f : Cut s h ss
     pairs_of : length ss ≡ place % 16 → pairs (record_from (h ∷ ss)) ≡ pairs_raw n ss
     pairs_of l = ap pairs record_is ∙ pairs_is n place ss f.place_is l
 
-    facts-of : length ss ≡ place % 16 → facts_of (record_of s) ≡ facts_raw n ss
+    facts_of_lem : length ss ≡ place % 16 → facts_of (record_of s) ≡ facts_raw n ss
     unfolding record_of
-    facts-of l =
+    facts_of_lem l =
         ap (λ (x : List (List ℕ)). facts_of (record_from x)) f.cut ∙ ap facts_of record_is
         ∙ facts_is n place ss f.place_is l
         (ap (λ (r : Row). leb 1 r.number) (sym by_n) ∙ row.listed ∙ listed)
@@ -102,12 +102,12 @@ module _ (s : List ℕ) (b : Bool) {e n : ℕ} (q : e ≡ find_from 0x2c s 0) (m
       faulty b s 6 (λ z. omega arith) (fault_is f b ∙ rw (eq-eqb n 911 h))
 
   module _ {place : ℕ} (x : n ≡ 911 → ⊥) (p : place ≡ place_of n) (i : InCodes place) where
-    pub numbered-unlisted : place ≡ 0 → NumberedAs b s (record { fault = 5; number = 0 })
-    numbered-unlisted z = faulty b s 5 (λ z. omega arith) (fault_is (cut_at p i) b ∙ rw (ne_eqb n 911 x, lt-leb 1 place (omega arith)))
+    pub numbered_unlisted : place ≡ 0 → NumberedAs b s (record { fault = 5; number = 0 })
+    numbered_unlisted z = faulty b s 5 (λ z. omega arith) (fault_is (cut_at p i) b ∙ rw (ne_eqb n 911 x, lt-leb 1 place (omega arith)))
 
     module _ {commas : ℕ} (z : place ≡ 0 → ⊥) (k : Commas s commas) where
-      pub read-spanned : {stops : List ℕ} → Stops s stops → Sixteen stops → commas ≡ place % 16 → Spanned s stops commas
-      read-spanned v y w = record { places = v; commas = k; few = omega arith; size = y }
+      pub read_spanned : {stops : List ℕ} → Stops s stops → Sixteen stops → commas ≡ place % 16 → Spanned s stops commas
+      read_spanned v y w = record { places = v; commas = k; few = omega arith; size = y }
 
       counted : commas ≡ length (drop 1 (items_of s))
       counted = omega (arith, k.is, items_count s, ap length first_cut)
@@ -130,8 +130,8 @@ module _ (s : List ℕ) (b : Bool) {e n : ℕ} (q : e ≡ find_from 0x2c s 0) (m
               ← v,
             )
 
-        pub numbered-items : NumberedAs b s (record { fault = f; number = n })
-        numbered-items = record {
+        pub numbered_items : NumberedAs b s (record { fault = f; number = n })
+        numbered_items = record {
           faulty = λ y. sym (items_left ∙ or_stops f _ y);
           sound = λ o. record {
             number = m ∙ ap (λ (x : List (List ℕ)). plain_number (get_or x 0 [])) (sym first_cut);
@@ -142,7 +142,7 @@ module _ (s : List ℕ) (b : Bool) {e n : ℕ} (q : e ≡ find_from 0x2c s 0) (m
           };
         }
 
-pub ruleset numbered_laws = (first_inside, numbered_mark, numbered-unlisted, numbered_count, read-spanned, numbered-items)
+pub ruleset numbered_laws = (first_inside, numbered_mark, numbered_unlisted, numbered_count, read_spanned, numbered_items)
 
 -- ---- a line without a fault in number and items: its facts, and what its pairs leave
 
@@ -171,10 +171,10 @@ module _ {b : Bool} {s : List ℕ} {n : ℕ} (v : Sound b s n) where
       )
 
   module _ {d : Details} (h : d ≡ details_raw n (drop 1 (items_of s))) where
-    pub sound-fault : fault_from b (items_of s) ≡ unless d.paired 12
+    pub sound_fault : fault_from b (items_of s) ≡ unless d.paired 12
     unfolding details_raw
-    sound-fault = left ∙ ap (λ (y : Details). unless y.paired 12) (sym h)
+    sound_fault = left ∙ ap (λ (y : Details). unless y.paired 12) (sym h)
 
-    pub sound-facts : d.facts ≡ facts_of (record_of s)
+    pub sound_facts : d.facts ≡ facts_of (record_of s)
     unfolding details_raw
-    sound-facts = ap (λ (y : Details). y.facts) h ∙ sym (facts-of cut v.listed length_is)
+    sound_facts = ap (λ (y : Details). y.facts) h ∙ sym (facts_of_lem cut v.listed length_is)

@@ -88,20 +88,20 @@ module _ (f q u : List ℕ) {n : ℕ} (e : n ≡ plain_number f) where
       )
 
   module _ {x y z : Bool} (p : x ≡ same u 調剤) (r : y ≡ same u 日分) (t : z ≡ same u 回分) where
-    pub form-once : {w : Bool} → or_member false (2 ∷ 4 ∷ 5 ∷ 9 ∷ 10 ∷ []) n ≡ true → w ≡ or_empty (quantity q) (is_num (quantity q) 1) → (w && (eqb (length u) 0 || x)) ≡ form_raw f q u
-    form-once h k = sym (form_is ∙ rw (h, ← k, ← p))
+    pub form_once : {w : Bool} → or_member false (2 ∷ 4 ∷ 5 ∷ 9 ∷ 10 ∷ []) n ≡ true → w ≡ or_empty (quantity q) (is_num (quantity q) 1) → (w && (eqb (length u) 0 || x)) ≡ form_raw f q u
+    form_once h k = sym (form_is ∙ rw (h, ← k, ← p))
 
     module _ (no-a : or_member false (2 ∷ 4 ∷ 5 ∷ 9 ∷ 10 ∷ []) n ≡ false) where
-      pub form-days : n ≡ 1 → (eqb (length u) 0 || y) ≡ form_raw f q u
-      form-days h = sym (form_is ∙ rw (no-a, eq-eqb n 1 h, ← r))
+      pub form_days : n ≡ 1 → (eqb (length u) 0 || y) ≡ form_raw f q u
+      form_days h = sym (form_is ∙ rw (no-a, eq-eqb n 1 h, ← r))
 
-      pub form-times : (n ≡ 1 → ⊥) → n ≡ 3 → (eqb (length u) 0 || z) ≡ form_raw f q u
-      form-times b h = sym (form_is ∙ rw (no-a, ne_eqb n 1 b, eq-eqb n 3 h, ← t))
+      pub form_times : (n ≡ 1 → ⊥) → n ≡ 3 → (eqb (length u) 0 || z) ≡ form_raw f q u
+      form_times b h = sym (form_is ∙ rw (no-a, ne_eqb n 1 b, eq-eqb n 3 h, ← t))
 
       pub form_both : (n ≡ 1 → ⊥) → (n ≡ 3 → ⊥) → (eqb n 6 || eqb n 7) ≡ true → (eqb (length u) 0 || (y || z)) ≡ form_raw f q u
       form_both b d h = sym (form_is ∙ rw (no-a, ne_eqb n 1 b, ne_eqb n 3 d, h, ← r, ← t))
 
-      pub form-free : (n ≡ 1 → ⊥) → (n ≡ 3 → ⊥) → (eqb n 6 || eqb n 7) ≡ false → true ≡ form_raw f q u
-      form-free b d h = sym (form_is ∙ rw (no-a, ne_eqb n 1 b, ne_eqb n 3 d, h))
+      pub form_free : (n ≡ 1 → ⊥) → (n ≡ 3 → ⊥) → (eqb n 6 || eqb n 7) ≡ false → true ≡ form_raw f q u
+      form_free b d h = sym (form_is ∙ rw (no-a, ne_eqb n 1 b, ne_eqb n 3 d, h))
 
-pub ruleset form_laws = (form-once, form-days, form-times, form_both, form-free)
+pub ruleset form_laws = (form_once, form_days, form_times, form_both, form_free)

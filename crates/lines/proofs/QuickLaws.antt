@@ -17,7 +17,7 @@ use Rattle.digits.specs.Short.{plain_number}
 use Rattle.scanning.specs.declared.Line.TheVariants.{Whole as WholeLine}
 use Rattle.characters.specs.Text.{is_stop}
 use Rattle.scanning.specs.Scans.{Sixteen, RunOf, ScanOf, LineOf}
-use Rattle.scanning.proofs.TextLaws.{Scanned, scan_start, scan-comma, scan-stop}
+use Rattle.scanning.proofs.TextLaws.{Scanned, scan_start, scan_comma, scan_stop}
 use Rattle.scanning.proofs.LineLaws.{line_whole}
 use Rattle.scanning.proofs.RunLaws.{run_scanned}
 use Rattle.records.specs.Table.{Item}
@@ -111,14 +111,14 @@ module _ {cs : List ℕ} {b : Bool} {place : ℕ} {s : List ℕ} {at from : ℕ}
   passing_high = v.high
 
   module _ (h : k < end) where
-    pub passing-code : k < length cs
-    passing-code = omega (arith, v.few, ap length v.lent, codes_length)
+    pub passing_code : k < length cs
+    passing_code = omega (arith, v.few, ap length v.lent, codes_length)
 
-    pub passing-stop : j < length a
-    passing-stop = omega (arith, v.pace, v.ends, v.scan.size)
+    pub passing_stop : j < length a
+    passing_stop = omega (arith, v.pace, v.ends, v.scan.size)
 
-    pub passing-written : (x : ℕ) → Sixteen (set a j x)
-    passing-written x = record { is = simp length-set v.scan.size }
+    pub passing_written : (x : ℕ) → Sixteen (set a j x)
+    passing_written x = record { is = simp length-set v.scan.size }
 
     module _ (i : e < length s) (q : get_or s e 0 ≡ 0x2c) {r : ℕ} (w : EndOf b (get_or cs k 0) s (e + 1) r) (z : r ≡ 0 → ⊥) where
       item : FineItem b (get_or cs k 0) s (e + 1) r
@@ -130,29 +130,29 @@ module _ {cs : List ℕ} {b : Bool} {place : ℕ} {s : List ℕ} {at from : ℕ}
           let c : part s e r ≡ 0x2c ∷ part s (e + 1) r = rw (n, drop_step s e 0 i) (ap (λ (x : ℕ). x ∷ part s (e + 1) r) q) in
           sym (part_join s at e r passing_low (omega (arith, item.run.low))) ∙ ap (λ (x : List ℕ). part s at e ++ x) c
 
-      items-on : items_of (part s at r) ≡ items_of (part s at e) ++ part s (e + 1) r ∷ []
-      items-on = ap items_of behind ∙ items_snoc (part s at e) (part s (e + 1) r) item.run.plain
+      items_on : items_of (part s at r) ≡ items_of (part s at e) ++ part s (e + 1) r ∷ []
+      items_on = ap items_of behind ∙ items_snoc (part s at e) (part s (e + 1) r) item.run.plain
 
-      pub passing-next : Passing cs b place s at from a₀ (set a j (e - at)) end (k + 1) (j + 1) r
-      passing-next =
+      pub passing_next : Passing cs b place s at from a₀ (set a j (e - at)) end (k + 1) (j + 1) r
+      passing_next =
           let p : ℕ = place / 16 in
           let t : List ℕ = part s (e + 1) r in
           let x : List (List ℕ) = items_of (part s at e) in
           let u : front cs p (j + 1) ≡ front cs p j ++ item_of (get_or cs k 0) ∷ [] =
-          front_snoc cs p j (omega (arith, v.pace, passing-code)) ∙ ap (λ (y : ℕ). front cs p j ++ item_of (get_or cs y 0) ∷ []) (sym v.pace) in
-          let d : drop 1 (items_of (part s at r)) ≡ drop 1 x ++ t ∷ [] = ap (drop 1) items-on ∙ drop-append-le 1 x (t ∷ []) (omega (arith, v.count)) in
+          front_snoc cs p j (omega (arith, v.pace, passing_code)) ∙ ap (λ (y : ℕ). front cs p j ++ item_of (get_or cs y 0) ∷ []) (sym v.pace) in
+          let d : drop 1 (items_of (part s at r)) ≡ drop 1 x ++ t ∷ [] = ap (drop 1) items_on ∙ drop-append-le 1 x (t ∷ []) (omega (arith, v.count)) in
           let l : length (front cs p j) ≡ length (drop 1 x) =
-          omega (arith, front_length cs p j (omega (arith, v.pace, passing-code)), length-drop 1 x, v.count) in
+          omega (arith, front_length cs p j (omega (arith, v.pace, passing_code)), length-drop 1 x, v.count) in
           record {
-            scan = run_scanned (scan-comma v.scan i q (omega (arith, v.pace, v.ends))) item.run;
+            scan = run_scanned (scan_comma v.scan i q (omega (arith, v.pace, v.ends))) item.run;
             high = item.run.high;
             pace = omega (arith, v.pace);
             ends = v.ends;
             within = omega arith;
             few = v.few;
             lent = v.lent;
-            first = ap (λ (y : List (List ℕ)). get_or y 0 []) items-on ∙ get_or-append x (t ∷ []) [] 0 (omega (arith, v.count)) ∙ v.first;
-            count = omega (arith, ap length items-on, length-append x (t ∷ []), v.count);
+            first = ap (λ (y : List (List ℕ)). get_or y 0 []) items_on ∙ get_or-append x (t ∷ []) [] 0 (omega (arith, v.count)) ∙ v.first;
+            count = omega (arith, ap length items_on, length-append x (t ∷ []), v.count);
             fine = ap₂ (items_fault b) u d ∙ faults_snoc b (front cs p j) (item_of (get_or cs k 0)) (drop 1 x) t l v.fine item.fine;
           }
 
@@ -160,11 +160,11 @@ module _ {cs : List ℕ} {b : Bool} {place : ℕ} {s : List ℕ} {at from : ℕ}
     all_there : j ≡ place % 16
     all_there = omega (arith, v.pace, v.ends, v.within)
 
-    pub passing-over : {x : Bool} → LineEndsIf s e x → x ≡ true → QuickItems b place s at from a e
-    passing-over w f =
+    pub passing_over : {x : Bool} → LineEndsIf s e x → x ≡ true → QuickItems b place s at from a e
+    passing_over w f =
         let y : LineEnds s e = w.holds f in
         let c : ScanOf s at a (record { end = e; good = true; commas = j }) =
-        scan-stop v.scan (omega (arith, y.inside)) {x = true} (sym (ap is_stop y.return)) refl in
+        scan_stop v.scan (omega (arith, y.inside)) {x = true} (sym (ap is_stop y.return)) refl in
         let l : LineOf s at a (WholeLine e true j) = line_whole s at a (omega (arith, passing_low, y.inside)) c y.inside y.return y.feed in
         record {
           holds = λ _. record {
@@ -175,7 +175,7 @@ module _ {cs : List ℕ} {b : Bool} {place : ℕ} {s : List ℕ} {at from : ℕ}
           size = passing_size;
         }
 
-pub ruleset passing_laws = (passing_start, quick_none, passing_size, passing_low, passing_high, passing-code, passing-stop, passing-written, passing-next, passing-over)
+pub ruleset passing_laws = (passing_start, quick_none, passing_size, passing_low, passing_high, passing_code, passing_stop, passing_written, passing_next, passing_over)
 
 -- ---- the whole line
 

@@ -68,12 +68,12 @@ pub items_snoc : (x t : List ℕ) → comma_count t ≡ 0 → items_of (x ++ 0x2
 items_snoc [] t e = ap (λ (y : List (List ℕ)). [] ∷ y) (items_plain t e)
 items_snoc (a ∷ x) t e = go (is_comma a) (items_snoc x t e)
   where
-    cons-on : cons_item a (items_of x ++ t ∷ []) ≡ cons_item a (items_of x) ++ t ∷ []
-    cons-on = rw (items_cut x)
+    cons_on : cons_item a (items_of x ++ t ∷ []) ≡ cons_item a (items_of x) ++ t ∷ []
+    cons_on = rw (items_cut x)
 
     go : (b : Bool) → items_of (x ++ 0x2c ∷ t) ≡ items_of x ++ t ∷ [] → cond b ([] ∷ items_of (x ++ 0x2c ∷ t)) (cons_item a (items_of (x ++ 0x2c ∷ t))) ≡ cond b ([] ∷ items_of x) (cons_item a (items_of x)) ++ t ∷ []
     go true i = ap (λ (y : List (List ℕ)). [] ∷ y) i
-    go false i = ap (cons_item a) i ∙ cons-on
+    go false i = ap (cons_item a) i ∙ cons_on
 
 -- a line has a first item
 pub items_some : (s : List ℕ) → items_of s ≡ get_or (items_of s) 0 [] ∷ drop 1 (items_of s)
@@ -245,8 +245,8 @@ module _ (l : List ℕ) where
 
   -- item number j after it
   module _ (j : ℕ) (h : 1 ≤ j) (k : j ≤ comma_count l) where
-    pub comma-next : comma_at l (j - 1) < comma_at l j
-    comma-next = go (dec_lt j (comma_count l))
+    pub comma_next : comma_at l (j - 1) < comma_at l j
+    comma_next = go (dec_lt j (comma_count l))
       where
         z : suc (j - 1) ≡ j
         z = omega arith
@@ -258,9 +258,9 @@ module _ (l : List ℕ) where
             omega (arith, comma_is (j - 1) (omega arith), comma_is j m, o)
         go (no m) = omega (arith, comma_less (j - 1) (omega arith), comma_last j (omega arith))
 
-    pub item-part : get_or (items_of l) j [] ≡ part l (comma_at l (j - 1) + 1) (comma_at l j)
+    pub item_part : get_or (items_of l) j [] ≡ part l (comma_at l (j - 1) + 1) (comma_at l j)
     unfolding comma_at start_of
-    item-part = item_by l j k ∙ ap (λ (x : ℕ). part l x (get_or (commas_from 0 l) j (length l))) (go j h k)
+    item_part = item_by l j k ∙ ap (λ (x : ℕ). part l x (get_or (commas_from 0 l) j (length l))) (go j h k)
       where
         go : (j : ℕ) → 1 ≤ j → j ≤ comma_count l → start_of (commas_from 0 l) j ≡ get_or (commas_from 0 l) (j - 1) (length l) + 1
         go zero h k = absurd (omega arith)
@@ -315,34 +315,34 @@ module _ {s stops : List ℕ} {n : ℕ} (v : Spanned s stops n) where
   stop_last j h = comma_last s j (omega (arith, v.commas.is))
 
   module _ (j : ℕ) (h : 1 ≤ j) (k : j ≤ n) where
-    pub front-inside : get_or stops (j - 1) 0 < length s
-    front-inside = omega (arith, stop_is (j - 1) (omega arith), comma_less s (j - 1) (omega (arith, v.commas.is)))
+    pub front_inside : get_or stops (j - 1) 0 < length s
+    front_inside = omega (arith, stop_is (j - 1) (omega arith), comma_less s (j - 1) (omega (arith, v.commas.is)))
 
-    pub span-index : j - 1 < length stops
-    span-index = omega (arith, v.few, v.size.is)
+    pub span_index : j - 1 < length stops
+    span_index = omega (arith, v.few, v.size.is)
 
     spanned : {a e : ℕ} → a ≡ comma_at s (j - 1) → e ≡ comma_at s j → SpanAt s j (record { from = a + 1; to = e })
     spanned p q =
         let c : j ≤ comma_count s = omega (arith, v.commas.is) in
         record {
-          says = ap₂ (λ (x y : ℕ). part s (x + 1) y) p q ∙ sym (item-part s j h c);
-          low = omega (arith, p, q, comma-next s j h c);
+          says = ap₂ (λ (x y : ℕ). part s (x + 1) y) p q ∙ sym (item_part s j h c);
+          low = omega (arith, p, q, comma_next s j h c);
           high = omega (arith, q, comma_le s j);
         }
 
-    pub span-mid : j < n → SpanAt s j (record { from = get_or stops (j - 1) 0 + 1; to = get_or stops j 0 })
-    span-mid m = spanned (stop_is (j - 1) (omega arith)) (stop_is j m)
+    pub span_mid : j < n → SpanAt s j (record { from = get_or stops (j - 1) 0 + 1; to = get_or stops j 0 })
+    span_mid m = spanned (stop_is (j - 1) (omega arith)) (stop_is j m)
 
     pub span_last : n ≤ j → SpanAt s j (record { from = get_or stops (j - 1) 0 + 1; to = length s })
     span_last m = spanned (stop_is (j - 1) (omega arith)) (sym (stop_last j m))
 
-    pub between-mid : j < n → Between s j (record { from = get_or stops (j - 1) 0 + 1; to = get_or stops j 0 })
-    between-mid m = record { begins = omega (arith, stop_is (j - 1) (omega arith)); ends = stop_is j m }
+    pub between_mid : j < n → Between s j (record { from = get_or stops (j - 1) 0 + 1; to = get_or stops j 0 })
+    between_mid m = record { begins = omega (arith, stop_is (j - 1) (omega arith)); ends = stop_is j m }
 
-    pub between-last : n ≤ j → Between s j (record { from = get_or stops (j - 1) 0 + 1; to = length s })
-    between-last m = record { begins = omega (arith, stop_is (j - 1) (omega arith)); ends = sym (stop_last j m) }
+    pub between_last : n ≤ j → Between s j (record { from = get_or stops (j - 1) 0 + 1; to = length s })
+    between_last m = record { begins = omega (arith, stop_is (j - 1) (omega arith)); ends = sym (stop_last j m) }
 
-pub ruleset span_laws = (span_none, span-index, span-mid, span_last, between-mid, between-last)
+pub ruleset span_laws = (span_none, span_index, span_mid, span_last, between_mid, between_last)
 
 -- ---- an item as a span of the file
 

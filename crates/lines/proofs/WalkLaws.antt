@@ -75,10 +75,10 @@ module _ {cs : List ℕ} {b : Bool} {place : ℕ} {s : List ℕ} {n end k j : �
         let m : j < length (items_of s) = omega (arith, items_count s, v.commas.is, walk_within h) in
         w.same ∙ rw (first h, drop_step (items_of s) j [] m) (ap (λ (x : ℕ). x or_else items_fault b (left cs (k + 1) end) (drop (j + 1) (items_of s))) (ap (item_fault b (item_of (get_or cs k 0))) (sym q.says) ∙ sym g))
 
-    pub walk-fault : (f ≡ 0 → ⊥) → f ≡ items_fault b (slice_of place) (drop 1 (items_of s))
-    walk-fault z = sym (turn ∙ or_stops f _ z)
+    pub walk_fault : (f ≡ 0 → ⊥) → f ≡ items_fault b (slice_of place) (drop 1 (items_of s))
+    walk_fault z = sym (turn ∙ or_stops f _ z)
 
-    pub walk-next : f ≡ 0 → Walk cs b place s n end (k + 1) (j + 1)
-    walk-next z = record { same = turn ∙ ap (λ (x : ℕ). x or_else items_fault b (left cs (k + 1) end) (drop (j + 1) (items_of s))) z; high = w.high; lent = w.lent; some = omega arith; pace = omega (arith, w.pace) }
+    pub walk_next : f ≡ 0 → Walk cs b place s n end (k + 1) (j + 1)
+    walk_next z = record { same = turn ∙ ap (λ (x : ℕ). x or_else items_fault b (left cs (k + 1) end) (drop (j + 1) (items_of s))) z; high = w.high; lent = w.lent; some = omega arith; pace = omega (arith, w.pace) }
 
-pub ruleset walk_laws = (walk_start, walk_over, walk_within, walk-fault, walk-next)
+pub ruleset walk_laws = (walk_start, walk_over, walk_within, walk_fault, walk_next)

@@ -140,7 +140,7 @@ pub mixed_refused : MixedRefused
 mixed_refused x d p kana other rest v w a small z y n =
     let g = no_fault d p other rest w (λ i j l e. passes (file_with d p other rest) i j l e z) in
     let m : one_script kana ≡ false = mixed (one_script kana) refl in
-    let c : all_chars (line_with p kana) ≡ true = line_chars p kana other (y.chars ∙ sym (other-chars g.0)) ∙ g.0 in
+    let c : all_chars (line_with p kana) ≡ true = line_chars p kana other (y.chars ∙ sym (other_chars g.0)) ∙ g.0 in
     let f : line_fault d (line_with p kana) ≡ 11 = line_fault_lem d p kana v ∙ rw (c, g.1, kana_mixed d kana y m) refl in
     reads_all x (file_with d p kana rest) a (faulty d p kana rest v small f (λ e. omega arith))
   where
@@ -148,8 +148,8 @@ mixed_refused x d p kana other rest v w a small z y n =
     mixed true e = absurd (n (in_one_script kana e))
     mixed false e = refl
 
-    other-chars : all_chars (line_with p other) ≡ true → all_chars other ≡ true
-    other-chars e = last_chars p other e
+    other_chars : all_chars (line_with p other) ≡ true → all_chars other ≡ true
+    other_chars e = last_chars p other e
 
 -- ---- nothing more is asked
 

@@ -56,10 +56,10 @@ module _ (f : List ℕ) (b : Notebook) (e : read_file f ≡ ok b) where
       ∙ sym (ap (λ (x : Res Notebook). map_res writes (map_res canonical_bytes x)) e)
 
   pub canonical_fixed : (a : Notebook) → read_file (canonical_bytes b) ≡ ok a → canonical_bytes a ≡ canonical_bytes b
-  canonical_fixed a h = let q : a ≡ arrange b = carried-once h canonical_carries in ap canonical_bytes q ∙ again b
+  canonical_fixed a h = let q : a ≡ arrange b = carried_once h canonical_carries in ap canonical_bytes q ∙ again b
     where
-      carried-once : {r : Res Notebook} {x y : Notebook} → r ≡ ok x → r ≡ ok y → x ≡ y
-      carried-once p q = cc
+      carried_once : {r : Res Notebook} {x y : Notebook} → r ≡ ok x → r ≡ ok y → x ≡ y
+      carried_once p q = cc
 
   -- the counts are the notebook's
   pub check_counts : check_result f ≡ ok (counted b)

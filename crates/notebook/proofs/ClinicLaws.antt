@@ -18,7 +18,7 @@ use Rattle.order.specs.declared.Facts.{Facts}
 use Rattle.order.specs.State.{advance, group_of}
 use Rattle.buffers.specs.Entries.{seven_numbers}
 use Rattle.replies.specs.Replies.{reply_of}
-use Rattle.replies.proofs.Results.{gives-20, gives-result}
+use Rattle.replies.proofs.Results.{gives_20, gives_result}
 use Rattle.notebook.specs.Facts.{facts_of}
 use Rattle.notebook.specs.Notebook.{Notebook, read_file}
 use Rattle.notebook.specs.Index.{Entry, entry_of, entries_of, Listed, clinic_after, clinic_of, listed_from, list_of, entry_numbers, numbers, numbers_of, indexed, index_result}
@@ -186,8 +186,8 @@ numbers_count s b e = omega (arith, numbers_length (listed_from 2 0 (entries_of 
 
 pub seven_a_record : SevenARecord
 seven_a_record s b e d = (
-  λ h. ap reply_of (sym (gives-result d (given s b e) (omega (arith, numbers_count s b e))).answer),
-  λ h. ap reply_of (sym (gives-20 d (given s b e) (omega (arith, numbers_count s b e))).answer),
+  λ h. ap reply_of (sym (gives_result d (given s b e) (omega (arith, numbers_count s b e))).answer),
+  λ h. ap reply_of (sym (gives_20 d (given s b e) (omega (arith, numbers_count s b e))).answer),
 )
 
 module _ (s d d' : List ℕ) (n : ℕ) (v : IndexIn s d d' n) where
@@ -199,45 +199,45 @@ module _ (s d d' : List ℕ) (n : ℕ) (v : IndexIn s d d' n) where
     within = omega (arith, entries_n)
 
     -- the seven numbers of the record i
-    seven-of : (j : ℕ) → j < 7 → number_at d' i j ≡ get_or (entry_numbers (listed_entry 2 0 (entries_of s) i)) j 0
+    seven_of_lem : (j : ℕ) → j < 7 → number_at d' i j ≡ get_or (entry_numbers (listed_entry 2 0 (entries_of s) i)) j 0
     unfolding numbers_of list_of
-    seven-of j g =
+    seven_of_lem j g =
         let size : length (numbers_of s) ≡ 7 * n = numbers_count s v.file v.accepted ∙ ap (λ (k : ℕ). 7 * k) v.records in
         let out : d' ≡ numbers_of s ++ drop (length (numbers_of s)) d =
-        v.left ∙ sym (gives-result d (given s v.file v.accepted) (omega (arith, size, v.room))).output in
+        v.left ∙ sym (gives_result d (given s v.file v.accepted) (omega (arith, size, v.room))).output in
         ap (λ (o : List ℕ). number_at o i j) out ∙ get_or-append (numbers_of s) _ 0 (7 * i + j) (omega (arith, size))
         ∙ listed_numbers (listed_from 2 0 (entries_of s)) i j (omega (arith, listed_length 2 0 (entries_of s), within)) g
         ∙ ap (λ (x : Listed). get_or (entry_numbers x) j 0) (listed_get 2 0 (entries_of s) i within)
 
     number_of : number_at d' i 0 ≡ (entry_at (entries_of s) i).number
     unfolding seven_numbers listed_entry
-    number_of = seven-of 0 (omega arith)
+    number_of = seven_of_lem 0 (omega arith)
 
     group_of_lem : number_at d' i 3 ≡ (entry_at (entries_of s) i).group
     unfolding seven_numbers listed_entry
-    group_of_lem = seven-of 3 (omega arith)
+    group_of_lem = seven_of_lem 3 (omega arith)
 
-    clinic-of : number_at d' i 6 ≡ clinic_of (entry_at (entries_of s) i).number (clinic_after (2 + i) (kept_after 51 2 0 (take i (entries_of s))) (entry_at (entries_of s) i).number)
+    clinic_of_lem : number_at d' i 6 ≡ clinic_of (entry_at (entries_of s) i).number (clinic_after (2 + i) (kept_after 51 2 0 (take i (entries_of s))) (entry_at (entries_of s) i).number)
     unfolding seven_numbers listed_entry
-    clinic-of = seven-of 6 (omega arith)
+    clinic_of_lem = seven_of_lem 6 (omega arith)
 
 pub six_as_before : SixAsBefore
 unfolding listed_entry
 six_as_before s d d' n v i j h g =
-    seven-of s d d' n v i h j (omega arith) ∙ first_six (listed_entry 2 0 (entries_of s) i) j g
+    seven_of_lem s d d' n v i h j (omega arith) ∙ first_six (listed_entry 2 0 (entries_of s) i) j g
     ∙ sym (six_numbers (entries_of s) i j (omega (arith, entries_n s d d' n v)) g)
 
 pub own_line : OwnLine
 unfolding clinic_after clinic_of in_group
 own_line s d d' n v i h e =
     let m : (entry_at (entries_of s) i).number ≡ 51 = sym (number_of s d d' n v i h) ∙ e in
-    clinic-of s d d' n v i h ∙ rw m (omega arith)
+    clinic_of_lem s d d' n v i h ∙ rw m (omega arith)
 
 pub none_outside : NoneOutside
 unfolding clinic_of
 none_outside s d d' n v i h e =
     let m : in_group (entry_at (entries_of s) i).number ≡ false = ap in_group (sym (number_of s d d' n v i h)) ∙ e in
-    clinic-of s d d' n v i h ∙ rw m
+    clinic_of_lem s d d' n v i h ∙ rw m
 
 pub clinic_of_group : ClinicOfGroup
 unfolding list_of listed_entry clinic_of
@@ -258,7 +258,7 @@ clinic_of_group s d d' n v i h e = go (last_stands 51 y.group 2 0 (take (suc i) 
     shown : number_at d' i 6 ≡ last_line 51 y.group 2 0 (take (suc i) all)
     shown =
         let low : i < length all = omega (arith, size) in
-        clinic-of s d d' n v i h ∙ sym (ap (λ (x : Listed). x.clinic) (listed_get 2 0 all i low)) ∙ index_clinic s v.file v.accepted i low ∙ rw inside
+        clinic_of_lem s d d' n v i h ∙ sym (ap (λ (x : Listed). x.clinic) (listed_get 2 0 all i low)) ∙ index_clinic s v.file v.accepted i low ∙ rw inside
 
     go : ((last_line 51 y.group 2 0 (take (suc i) all) ≡ 0) × ((x : ℕ) → Stands 51 y.group x 2 (take (suc i) all) → ⊥))
         ⊎ Stands 51 y.group (last_line 51 y.group 2 0 (take (suc i) all)) 2 (take (suc i) all) → NoneYet d' i ⊎ OfGroup d' i

@@ -76,15 +76,15 @@ module _ (f : List ℕ) (b : Notebook) (e : read_file f ≡ ok b) where
       omega (
         arith,
         ap length c,
-        flat-front t.front t.behind,
+        flat_front t.front t.behind,
         lines_short t.lines,
         length-append (head_row b.provider) (flat (t.front ++ t.behind)),
         length-append (head_row b.provider) (flat (record_rows b.records)),
       )
     where
-      flat-front : (xs ys : List (List ℕ)) → length (flat xs) ≤ length (flat (xs ++ ys))
-      flat-front [] ys = omega arith
-      flat-front (x ∷ xs) ys = omega (arith, length-append x (flat xs), length-append x (flat (xs ++ ys)), flat-front xs ys)
+      flat_front : (xs ys : List (List ℕ)) → length (flat xs) ≤ length (flat (xs ++ ys))
+      flat_front [] ys = omega arith
+      flat_front (x ∷ xs) ys = omega (arith, length-append x (flat xs), length-append x (flat (xs ++ ys)), flat_front xs ys)
 
   pub written_small : length (write_file b) ≤ 65536
   written_small = omega (arith, written_short, carried.small)

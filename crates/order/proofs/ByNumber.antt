@@ -289,18 +289,18 @@ module _ (s : State) (r : Facts) where
 
   -- Such a record, by the part that the place is in, from what the code's calls answer: l of `lacking`, g of a good record.
   module _ (o : Bool) (lacks : Bool → Bool) {l : Bool} {good g k : ℕ} (p : l ≡ lacking (before_of s)) (q : g ≡ good) where
-    pub closing-rp : {b : Bool} → b ≡ in_rp s.place → b ≡ true
+    pub closing_rp : {b : Bool} → b ≡ in_rp s.place → b ≡ true
         → k ≡ cond (lacks (s.provider && not s.had.had301 || s.provider && l)) 14 g → k ≡ closing o lacks good
-    closing-rp i t e = simp (e, p, q, sym i ∙ t)
+    closing_rp i t e = simp (e, p, q, sym i ∙ t)
 
-    pub closing-group : {b f h : Bool} {m : ℕ} → b ≡ in_rp s.place → b ≡ false → f ≡ in_front s.place → h ≡ in_rest s.place
+    pub closing_group : {b f h : Bool} {m : ℕ} → b ≡ in_rp s.place → b ≡ false → f ≡ in_front s.place → h ≡ in_rest s.place
         → (f || h) ≡ true → m ≡ cond (lacks (s.provider && l)) 14 g → k ≡ cond (s.provider && eqb s.place 51) 13 m
         → k ≡ closing o lacks good
-    closing-group i u j v t w e = simp (e, w, p, q, sym i ∙ u, rw (j, v) at t)
+    closing_group i u j v t w e = simp (e, w, p, q, sym i ∙ u, rw (j, v) at t)
 
-    pub closing-else : {b f h : Bool} {m : ℕ} → b ≡ in_rp s.place → b ≡ false → f ≡ in_front s.place → h ≡ in_rest s.place
+    pub closing_else : {b f h : Bool} {m : ℕ} → b ≡ in_rp s.place → b ≡ false → f ≡ in_front s.place → h ≡ in_rest s.place
         → (f || h) ≡ false → m ≡ cond (lacks no1) 14 g → k ≡ cond o m 13 → k ≡ closing o lacks good
-    closing-else i u j v t w e = simp (e, w, q, sym i ∙ u, rw (j, v) at t)
+    closing_else i u j v t w e = simp (e, w, q, sym i ∙ u, rw (j, v) at t)
 
   pub of_5 : r.number ≡ 5
       → refusal_of s r ≡ closing (in_head s.place) (λ b. b) (cond (not (eqb s.groups 0) && ltb s.day r.day) 16 0)

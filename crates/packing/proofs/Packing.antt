@@ -48,12 +48,12 @@ module _ {A : Type 0} (len : A → ℕ) (o : ℕ → ℕ) (c : ℕ) where
 
   module _ (up : (i j : ℕ) → i ≤ j → o i ≤ o j) where
     -- what does not fit an empty piece fits no later one
-    pub pack-stuck : (k : ℕ) (r : A) (rs : List A) → c < o k + len r → pack len o c k (o k) (r ∷ rs) ≡ none
-    pack-stuck k r rs h = pack_none len o c k (o k) r rs h (omega (arith, up k (suc k) (omega arith)))
+    pub pack_stuck : (k : ℕ) (r : A) (rs : List A) → c < o k + len r → pack len o c k (o k) (r ∷ rs) ≡ none
+    pack_stuck k r rs h = pack_none len o c k (o k) r rs h (omega (arith, up k (suc k) (omega arith)))
 
-    pack-open : (k u : ℕ) (r : A) (rs : List A) → c < u + len r
+    pack_open : (k u : ℕ) (r : A) (rs : List A) → c < u + len r
         → pack len o c k u (r ∷ rs) ≡ map (λ xs. [] ∷ xs) (pack len o c (suc k) (o (suc k)) (r ∷ rs))
-    pack-open k u r rs h = go (leb (o (suc k) + len r) c) refl
+    pack_open k u r rs h = go (leb (o (suc k) + len r) c) refl
       where
         twice : (m : Option (List (List A))) → map (λ xs. [] ∷ put r xs) m ≡ map (λ xs. [] ∷ xs) (map (put r) m)
         twice none = refl
@@ -68,16 +68,16 @@ module _ {A : Type 0} (len : A → ℕ) (o : ℕ → ℕ) (c : ℕ) where
             ∙ ap (map (λ xs. [] ∷ xs)) (sym (pack_stay len o c (suc k) (o (suc k)) r rs l))
         go false e =
             let l : c < o (suc k) + len r = leb-false _ _ e in
-            pack_none len o c k u r rs h l ∙ ap (map (λ xs. [] ∷ xs)) (sym (pack-stuck (suc k) r rs l))
+            pack_none len o c k u r rs h l ∙ ap (map (λ xs. [] ∷ xs)) (sym (pack_stuck (suc k) r rs l))
 
     -- a run fits and the next thing does not: the run is the piece's
-    pub pack-run : (k u : ℕ) (rs : List A) (t : A) (ts : List A) → u + total len rs ≤ c → c < u + total len rs + len t
+    pub pack_run : (k u : ℕ) (rs : List A) (t : A) (ts : List A) → u + total len rs ≤ c → c < u + total len rs + len t
         → pack len o c k u (rs ++ t ∷ ts) ≡ map (λ xs. rs ∷ xs) (pack len o c (suc k) (o (suc k)) (t ∷ ts))
     unfolding total put
-    pack-run k u [] t ts h g = pack-open k u t ts (omega arith)
-    pack-run k u (r ∷ rs) t ts h g =
+    pack_run k u [] t ts h g = pack_open k u t ts (omega arith)
+    pack_run k u (r ∷ rs) t ts h g =
         pack_stay len o c k u r (rs ++ t ∷ ts) (omega arith)
-        ∙ ap (map (put r)) (pack-run k (u + len r) rs t ts (omega arith) (omega arith))
+        ∙ ap (map (put r)) (pack_run k (u + len r) rs t ts (omega arith) (omega arith))
         ∙ twice (pack len o c (suc k) (o (suc k)) (t ∷ ts))
       where
         twice : (m : Option (List (List A))) → map (put r) (map (λ xs. rs ∷ xs) m) ≡ map (λ xs. (r ∷ rs) ∷ xs) m

@@ -114,32 +114,32 @@ module _ (l : List ℕ) {at c : ℕ} (h : at ≤ length l) (p : c ≡ find_from 
       unread (λ a i. ap (λ (x : List (List ℕ)). mark_of (a ∷ i ∷ x)) (cut_n ∙ ap (λ (x : List (List ℕ)). part l at c ∷ x) (items_out l (c + 1) (omega arith))))
 
   module _ (q : c < length l) {d : ℕ} (r : d ≡ find_from 0x2c l (c + 1)) where
-    pub k-low : c + 1 ≤ d
-    k-low = omega (arith, r, find_low 0x2c l (c + 1))
+    pub k_low : c + 1 ≤ d
+    k_low = omega (arith, r, find_low 0x2c l (c + 1))
 
-    pub k-high : d ≤ length l
-    k-high = omega (arith, r, find_high 0x2c l (c + 1) (omega arith))
+    pub k_high : d ≤ length l
+    k_high = omega (arith, r, find_high 0x2c l (c + 1) (omega arith))
 
-    cut-k : items_from l at ≡ part l at c ∷ part l (c + 1) d ∷ items_from l (d + 1)
-    cut-k = cut_n ∙ ap (λ (x : List (List ℕ)). part l at c ∷ x) (item_cut l (c + 1) (omega arith) r)
+    cut_k : items_from l at ≡ part l at c ∷ part l (c + 1) d ∷ items_from l (d + 1)
+    cut_k = cut_n ∙ ap (λ (x : List (List ℕ)). part l at c ∷ x) (item_cut l (c + 1) (omega arith) r)
 
     pub numbers_more : d < length l → NumbersIs l at Unread
     numbers_more t =
-        unread (λ a i. ap (λ (x : List (List ℕ)). mark_of (a ∷ i ∷ x)) (cut-k ∙ ap (λ (x : List (List ℕ)). part l at c ∷ part l (c + 1) d ∷ x) (items_from_lem l (d + 1) (omega arith))))
+        unread (λ a i. ap (λ (x : List (List ℕ)). mark_of (a ∷ i ∷ x)) (cut_k ∙ ap (λ (x : List (List ℕ)). part l at c ∷ part l (c + 1) d ∷ x) (items_from_lem l (d + 1) (omega arith))))
 
     module _ (t : length l ≤ d) where
       four : (a i : List ℕ)
           → mark_of (a ∷ i ∷ items_from l at) ≡ cond (same a t911 && valid_id i) (marked i (number (part l at c)) (number (part l (c + 1) d))) none
       four a i =
-          ap (λ (x : List (List ℕ)). mark_of (a ∷ i ∷ x)) (cut-k ∙ ap (λ (x : List (List ℕ)). part l at c ∷ part l (c + 1) d ∷ x) (items_out l (d + 1) (omega arith)))
+          ap (λ (x : List (List ℕ)). mark_of (a ∷ i ∷ x)) (cut_k ∙ ap (λ (x : List (List ℕ)). part l at c ∷ part l (c + 1) d ∷ x) (items_out l (d + 1) (omega arith)))
 
       module _ {n : ℕ} (u : n ≡ short_value (take (c - at) (drop at l))) where
-        pub numbers-n : 999 < n → NumbersIs l at Unread
-        numbers-n v = record { is = λ a i. four a i ∙ rw (short_none (part l at c) u v); most = tt }
+        pub numbers_n : 999 < n → NumbersIs l at Unread
+        numbers_n v = record { is = λ a i. four a i ∙ rw (short_none (part l at c) u v); most = tt }
 
         module _ (v : n ≤ 999) {k : ℕ} (w₀ : k ≡ short_value (take (length l - (c + 1)) (drop (c + 1) l))) where
           w : k ≡ short_value (part l (c + 1) d)
-          w = let z : length l ≡ d = omega (arith, k-high, t) in w₀ ∙ ap (λ (x : ℕ). short_value (part l (c + 1) x)) z
+          w = let z : length l ≡ d = omega (arith, k_high, t) in w₀ ∙ ap (λ (x : ℕ). short_value (part l (c + 1) x)) z
 
           pub numbers-k : 999 < k → NumbersIs l at Unread
           numbers-k x = record { is = λ a i. four a i ∙ rw (short_some (part l at c) u v, short_none (part l (c + 1) d) w x); most = tt }
@@ -147,7 +147,7 @@ module _ (l : List ℕ) {at c : ℕ} (h : at ≤ length l) (p : c ≡ find_from 
           pub numbers-read : k ≤ 999 → NumbersIs l at (Read n k)
           numbers-read x = record { is = λ a i. four a i ∙ rw (short_some (part l at c) u v, short_some (part l (c + 1) d) w x); most = (v, x) }
 
-pub ruleset numbers_laws = (n_low, n_high, numbers_one, k-low, k-high, numbers_more, numbers-n, numbers-k, numbers-read)
+pub ruleset numbers_laws = (n_low, n_high, numbers_one, k_low, k_high, numbers_more, numbers_n, numbers-k, numbers-read)
 
 -- ---- a record 911
 
@@ -180,26 +180,26 @@ module _ (l : List ℕ) {a : ℕ} (p : a ≡ find_from 0x2c l 0) where
     unfolding t911
     first = q
 
-    pub mark-no-911 : not x ≡ true → MarkIs l Unread
-    mark-no-911 t = lost (ap mark_of cut_a ∙ mark_other (part l 0 a) (items_from l (a + 1)) (sym first ∙ not-true x t))
+    pub mark_no_911 : not x ≡ true → MarkIs l Unread
+    mark_no_911 t = lost (ap mark_of cut_a ∙ mark_other (part l 0 a) (items_from l (a + 1)) (sym first ∙ not-true x t))
 
     module _ (t : not x ≡ false) {b : ℕ} (r : b ≡ find_from 0x2c l (a + 1)) where
-      pub id-low : a + 1 ≤ b
-      id-low = omega (arith, r, find_low 0x2c l (a + 1))
+      pub id_low : a + 1 ≤ b
+      id_low = omega (arith, r, find_low 0x2c l (a + 1))
 
-      pub id-high : b ≤ length l
-      id-high = omega (arith, r, find_high 0x2c l (a + 1) (omega arith))
+      pub id_high : b ≤ length l
+      id_high = omega (arith, r, find_high 0x2c l (a + 1) (omega arith))
 
-      cut-b : items_of l ≡ part l 0 a ∷ part l (a + 1) b ∷ items_from l (b + 1)
-      cut-b = cut_a ∙ ap (λ (x : List (List ℕ)). part l 0 a ∷ x) (item_cut l (a + 1) (omega arith) r)
+      cut_b : items_of l ≡ part l 0 a ∷ part l (a + 1) b ∷ items_from l (b + 1)
+      cut_b = cut_a ∙ ap (λ (x : List (List ℕ)). part l 0 a ∷ x) (item_cut l (a + 1) (omega arith) r)
 
-      pub mark-two : length l ≤ b → MarkIs l Unread
-      mark-two u = lost (ap mark_of (cut-b ∙ ap (λ (x : List (List ℕ)). part l 0 a ∷ part l (a + 1) b ∷ x) (items_out l (b + 1) (omega arith))))
+      pub mark_two : length l ≤ b → MarkIs l Unread
+      mark_two u = lost (ap mark_of (cut_b ∙ ap (λ (x : List (List ℕ)). part l 0 a ∷ part l (a + 1) b ∷ x) (items_out l (b + 1) (omega arith))))
 
       module _ (u : b < length l) {y : Bool} (v : y ≡ valid_id (take (b - (a + 1)) (drop (a + 1) l))) where
-        pub mark-id : not y ≡ true → MarkIs l Unread
-        mark-id w =
-            lost (ap mark_of cut-b ∙ mark_no_id (part l 0 a) (part l (a + 1) b) (items_from l (b + 1)) (sym first ∙ not-false x t) (sym v ∙ not-true y w))
+        pub mark_id : not y ≡ true → MarkIs l Unread
+        mark_id w =
+            lost (ap mark_of cut_b ∙ mark_no_id (part l 0 a) (part l (a + 1) b) (items_from l (b + 1)) (sym first ∙ not-false x t) (sym v ∙ not-true y w))
 
         module _ (w : not y ≡ false) {m : Numbers} (z : NumbersIs l (b + 1) m) where
           a-is : a ≡ 3
@@ -207,7 +207,7 @@ module _ (l : List ℕ) {a : ℕ} (p : a ≡ find_from 0x2c l 0) where
               omega (arith, part_length l 0 a (omega arith) (omega arith), ap length (same_true (part l 0 a) (57 ∷ 49 ∷ 49 ∷ []) (sym q ∙ not-false x t)))
 
           b-is : b ≡ 18
-          b-is = omega (arith, a-is, id-low, part_length l (a + 1) b id-low id-high, id_length (part l (a + 1) b) (sym v ∙ not-false y w))
+          b-is = omega (arith, a-is, id_low, part_length l (a + 1) b id_low id_high, id_length (part l (a + 1) b) (sym v ∙ not-false y w))
 
           pub mark-read : MarkIs l m
           unfolding read_mark
@@ -216,7 +216,7 @@ module _ (l : List ℕ) {a : ℕ} (p : a ≡ find_from 0x2c l 0) where
               let i : valid_id (part l (a + 1) b) ≡ true = sym v ∙ not-false y w in
               let s : part l (a + 1) b ≡ part l 4 18 = ap₂ (λ (x y : ℕ). part l (x + 1) y) a-is b-is in
               record {
-                is = ap mark_of cut-b ∙ (z.is (part l 0 a) (part l (a + 1) b) ∙ rw (g, i) (ap (λ (x : List ℕ). as_mark x m) s));
+                is = ap mark_of cut_b ∙ (z.is (part l 0 a) (part l (a + 1) b) ∙ rw (g, i) (ap (λ (x : List ℕ). as_mark x m) s));
                 most = z.most;
                 reaches = go m;
               }
@@ -225,4 +225,4 @@ module _ (l : List ℕ) {a : ℕ} (p : a ≡ find_from 0x2c l 0) where
               go (Read n k) = omega (arith, b-is)
               go Unread = tt
 
-pub ruleset read_laws = (mark_item, mark_one, mark-no-911, id-low, id-high, mark-two, mark-id, mark-read)
+pub ruleset read_laws = (mark_item, mark_one, mark_no_911, id_low, id_high, mark_two, mark_id, mark-read)

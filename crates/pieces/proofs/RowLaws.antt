@@ -140,22 +140,22 @@ module _ (r : List ℕ) {x : Heading} (p : x ≡ heading_of r) where
     no_head = rw (heading_not r p q true, heading_not r p q false)
 
     module _ {z : Bool} (w : z ≡ is_line r) where
-      pub kind-body : z ≡ true → KindIs r Body
-      kind-body v = record { is = no_head ∙ rw (sym w ∙ v) }
+      pub kind_body : z ≡ true → KindIs r Body
+      kind_body v = record { is = no_head ∙ rw (sym w ∙ v) }
 
       module _ (v : z ≡ false) where
-        no_line : kind_of r ≡ no_line r
-        no_line = no_head ∙ rw (sym w ∙ v)
+        no_line_lem : kind_of r ≡ no_line r
+        no_line_lem = no_head ∙ rw (sym w ∙ v)
 
-        pub kind-empty : length r ≡ 0 → KindIs r Broken
-        kind-empty h = record { is = no_line ∙ go r h }
+        pub kind_empty : length r ≡ 0 → KindIs r Broken
+        kind_empty h = record { is = no_line_lem ∙ go r h }
           where
             go : (r : List ℕ) → length r ≡ 0 → no_line r ≡ broken
             go [] h = refl
             go (a ∷ r) h = absurd (omega arith)
 
-        pub kind-other : (length r ≡ 0 → ⊥) → (get_or r 0 0 ≡ 0x1a → ⊥) → KindIs r Broken
-        kind-other h g = record { is = no_line ∙ go r h g }
+        pub kind_other : (length r ≡ 0 → ⊥) → (get_or r 0 0 ≡ 0x1a → ⊥) → KindIs r Broken
+        kind_other h g = record { is = no_line_lem ∙ go r h g }
           where
             go : (r : List ℕ) → (length r ≡ 0 → ⊥) → (get_or r 0 0 ≡ 0x1a → ⊥)
                 → no_line r ≡ broken
@@ -164,7 +164,7 @@ module _ (r : List ℕ) {x : Heading} (p : x ≡ heading_of r) where
 
         module _ (g : get_or r 0 0 ≡ 0x1a) where
           pub kind_end : length r ≡ 1 → KindIs r End
-          kind_end h = record { is = no_line ∙ go r g h }
+          kind_end h = record { is = no_line_lem ∙ go r g h }
             where
               go : (r : List ℕ) → get_or r 0 0 ≡ 0x1a → length r ≡ 1
                   → no_line r ≡ end
@@ -174,7 +174,7 @@ module _ (r : List ℕ) {x : Heading} (p : x ≡ heading_of r) where
 
           module _ (n : length r ≡ 0 → ⊥) (h : length r ≡ 1 → ⊥) where
             after-mark : kind_of r ≡ behind_mark (take (length r - 1) (drop 1 r))
-            after-mark = no_line ∙ go r g n h
+            after-mark = no_line_lem ∙ go r g n h
               where
                 go : (r : List ℕ) → get_or r 0 0 ≡ 0x1a → (length r ≡ 0 → ⊥) → (length r ≡ 1 → ⊥)
                     → no_line r
@@ -190,4 +190,4 @@ module _ (r : List ℕ) {x : Heading} (p : x ≡ heading_of r) where
               pub kind-broken : c ≡ Other → KindIs r Broken
               kind-broken j = record { is = after-mark ∙ rw (heading_not (take (length r - 1) (drop 1 r)) i j true, heading_not (take (length r - 1) (drop 1 r)) i j false) }
 
-pub ruleset kind_laws = (kind_head, kind-body, kind-empty, kind-other, kind_end, kind_end_head, kind-broken)
+pub ruleset kind_laws = (kind_head, kind_body, kind_empty, kind_other, kind_end, kind_end_head, kind-broken)

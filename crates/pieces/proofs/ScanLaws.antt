@@ -159,8 +159,8 @@ module _ (s : List ℕ) (at : ℕ) {i : ℕ} (p : i ≡ at + length (text (drop 
     row_is : part s at (i + 2) ≡ part s at i ++ line_end
     row_is = ap (take (i + 2 - at)) bytes ∙ take_at (part s at i ++ line_end) (drop (i + 2) s) (i + 2 - at) size
 
-    pub text-row : RowAt s at (i + 2)
-    text-row = record {
+    pub text_row : RowAt s at (i + 2)
+    text_row = record {
       more = omega (arith, p);
       inside = omega arith;
       cut = whole.cut ∙ ap (λ (x : List ℕ). x ∷ rows (drop (i + 2) s)) (sym row_is);
@@ -168,16 +168,16 @@ module _ (s : List ℕ) (at : ℕ) {i : ℕ} (p : i ≡ at + length (text (drop 
 
     no_head : ((d : Bool) → same (part s at (i + 2)) (head_row d) ≡ false) → RowIs s at (record { end = i + 2; kind = Body })
     no_head f = record {
-      row = text-row;
+      row = text_row;
       kind = record { is = body_is (part s at (i + 2)) (ap is_line row_is ∙ line_is (part s at i) whole.clear) f };
     }
 
-    pub text-long : (i + 2 - at ≡ 13 → ⊥) → RowIs s at (record { end = i + 2; kind = Body })
-    text-long n =
+    pub text_long : (i + 2 - at ≡ 13 → ⊥) → RowIs s at (record { end = i + 2; kind = Body })
+    text_long n =
         no_head (λ d. sym (same_length (part s at (i + 2)) (head_row d) (λ e. n (omega (arith, size, ap length row_is, e, head_length d)))))
 
-    pub text-other : (get_or s at 0 ≡ 0x4a → ⊥) → RowIs s at (record { end = i + 2; kind = Body })
-    text-other n = no_head (λ d. go d (same (part s at (i + 2)) (head_row d)) refl)
+    pub text_other : (get_or s at 0 ≡ 0x4a → ⊥) → RowIs s at (record { end = i + 2; kind = Body })
+    text_other n = no_head (λ d. go d (same (part s at (i + 2)) (head_row d)) refl)
       where
         first : (d : Bool) → get_or (head_row d) 0 0 ≡ 0x4a
         first d = ap (λ (l : List ℕ). get_or l 0 0) (heading_bytes d)
@@ -191,4 +191,4 @@ module _ (s : List ℕ) (at : ℕ) {i : ℕ} (p : i ≡ at + length (text (drop 
         go d false e = refl
         go d true e = absurd (n (sym front ∙ (ap (λ (l : List ℕ). get_or l 0 0) (same_true (part s at (i + 2)) (head_row d) e) ∙ first d)))
 
-pub ruleset text_laws = (row_any, text_low, text_high, text-row, text-long, text-other)
+pub ruleset text_laws = (row_any, text_low, text_high, text_row, text_long, text_other)

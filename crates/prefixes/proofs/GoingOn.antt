@@ -26,7 +26,7 @@ use Rattle.prefixes.specs.Prefixes.{late}
 use Rattle.verdict.proofs.Computed.{Fn, taut, In, every, every_at, at_each, agree, member_in, among}
 use Rattle.verdict.proofs.Machine.{accepts, Core, before, asked, next, taken, runs, step, finish, core_of, next_core}
 use Rattle.verdict.proofs.Steps.{st, front_places, bf, drug_places, to401, to501, to_end, rp_over, may_close}
-use Rattle.verdict.proofs.Steps.{at_end_lem, at_11, at_201, at_301, at-411}
+use Rattle.verdict.proofs.Steps.{at_end_lem, at_11, at_201, at_301, at_411}
 use Rattle.verdict.proofs.Backwards.{places, split, known, told, details_of}
 
 -- an implication that is computed at each place
@@ -72,7 +72,7 @@ module _ (d : ℕ) (e : Bool) (k : ℕ) (f i : Bool) (c : Bool) where
   pub by_411 : {p : ℕ} (v : ℕ) (u : Bool) → In p to501
       → runs (st true p d e k f i v u c) (rec 411 plain ∷ []) ≡ (rp_over true p u && may_close true 411 e (eqb k 4) f true (eqb v 0) u)
   by_411 {p} v u m =
-      step (st true p d e k f i v u c) (rec 411 plain) [] (at-411 true d e k f i v u c plain m)
+      step (st true p d e k f i v u c) (rec 411 plain) [] (at_411 true d e k f i v u c plain m)
       ∙ ap (λ y. rp_over true p u && y) (finish (st true 411 d e k f true v u c) ∙ at_end_lem true d e k f true v u c (member_in 411 to_end refl))
 
   -- a 301 before them
@@ -153,23 +153,23 @@ module _ (p : ℕ) (d : ℕ) (e : Bool) (k : ℕ) (f i : Bool) (v : ℕ) (u c : 
   }
 
   pub complete : In p (55 ∷ to_end) → Completed (st true p d e k f i v u c)
-  complete m = ⊎_elim (λ m. after_201 (among (55 ∷ 51 ∷ []) refl m)) from-601 (split (55 ∷ []) m)
+  complete m = ⊎_elim (λ m. after_201 (among (55 ∷ 51 ∷ []) refl m)) from_601 (split (55 ∷ []) m)
     where
-      from-5 : In p (15 ∷ 11 ∷ 5 ∷ []) → Completed (st true p d e k f i v u c)
-      from-5 m = ⊎_elim (λ m. after_411 (among (411 ∷ 401 ∷ 391 ∷ 311 ∷ 301 ∷ 15 ∷ 11 ∷ []) refl m)) after_11 (split (15 ∷ 11 ∷ []) m)
+      from_5 : In p (15 ∷ 11 ∷ 5 ∷ []) → Completed (st true p d e k f i v u c)
+      from_5 m = ⊎_elim (λ m. after_411 (among (411 ∷ 401 ∷ 391 ∷ 311 ∷ 301 ∷ 15 ∷ 11 ∷ []) refl m)) after_11 (split (15 ∷ 11 ∷ []) m)
 
-      from-51 : In p front_places → Completed (st true p d e k f i v u c)
-      from-51 m = ⊎_elim (λ m. after_201 (among (55 ∷ 51 ∷ []) refl m)) from-5 (split (51 ∷ []) m)
+      from_51 : In p front_places → Completed (st true p d e k f i v u c)
+      from_51 m = ⊎_elim (λ m. after_201 (among (55 ∷ 51 ∷ []) refl m)) from_5 (split (51 ∷ []) m)
 
-      from-291 : In p (291 ∷ 281 ∷ 201 ∷ 51 ∷ 15 ∷ 11 ∷ 5 ∷ []) → Completed (st true p d e k f i v u c)
-      from-291 m = ⊎_elim after_301 from-51 (split drug_places m)
+      from_291 : In p (291 ∷ 281 ∷ 201 ∷ 51 ∷ 15 ∷ 11 ∷ 5 ∷ []) → Completed (st true p d e k f i v u c)
+      from_291 m = ⊎_elim after_301 from_51 (split drug_places m)
 
-      from-411 : In p to501 → Completed (st true p d e k f i v u c)
-      from-411 m =
-          ⊎_elim (λ m. after_411 (among (411 ∷ 401 ∷ 391 ∷ 311 ∷ 301 ∷ 15 ∷ 11 ∷ []) refl m)) from-291 (split (411 ∷ 401 ∷ 391 ∷ 311 ∷ 301 ∷ []) m)
+      from_411 : In p to501 → Completed (st true p d e k f i v u c)
+      from_411 m =
+          ⊎_elim (λ m. after_411 (among (411 ∷ 401 ∷ 391 ∷ 311 ∷ 301 ∷ 15 ∷ 11 ∷ []) refl m)) from_291 (split (411 ∷ 401 ∷ 391 ∷ 311 ∷ 301 ∷ []) m)
 
-      from-601 : In p to_end → Completed (st true p d e k f i v u c)
-      from-601 m = ⊎_elim at_once from-411 (split (601 ∷ 501 ∷ []) m)
+      from_601 : In p to_end → Completed (st true p d e k f i v u c)
+      from_601 m = ⊎_elim at_once from_411 (split (601 ∷ 501 ∷ []) m)
 
 -- ---- what holds at each place that taken records lead to
 

@@ -166,7 +166,7 @@ provider : (p : ℕ) (g : Bool) (c : Core) → In p places → kept_at p true c.
     → Completed (seen true p g c)
 unfolding in_group unfinished lacking
 provider p true c m k h =
-    let Kept-at : ℕ → Type 0 = λ p. kept_at p true c.had51 c.had301 true (eqb c.rp 0) ≡ true → Completed (seen true p true c) in
+    let Kept_at : ℕ → Type 0 = λ p. kept_at p true c.had51 c.had301 true (eqb c.rp 0) ≡ true → Completed (seen true p true c) in
     ⊎_elim
     (λ m. absurd (false≢true (sym (at_each 3 (λ p f u z. kept_at p true f u true z) (λ p f u z. false) refl m c.had51 c.had301 (eqb c.rp 0)) ∙ k)))
     (ahead p c) (split (701 ∷ 55 ∷ to_end) m)
@@ -205,9 +205,9 @@ too_late_lem true p false c m k h rs e =
     let x = at_each 6 (λ p e q f i z u. kept_at p true f u false z && (in_group p && late (bf true p e q false f i z u false))
     ⇒ member group_places p && lost_at p e q f i z u)
     (λ p e q f i z u. true) refl m c.had11 (eqb c.schedule 4) c.had51 c.had411 (eqb c.rp 0) c.had301 in
-    let lostNow : Bool = lost_at p c.had11 (eqb c.schedule 4) c.had51 c.had411 (eqb c.rp 0) c.had301 in
-    let y = both (member group_places p) lostNow
-    (so (kept_at p true c.had51 c.had301 false (eqb c.rp 0) && too_late (before (seen true p false c))) (member group_places p && lostNow) x
+    let lost_now : Bool = lost_at p c.had11 (eqb c.schedule 4) c.had51 c.had411 (eqb c.rp 0) c.had301 in
+    let y = both (member group_places p) lost_now
+    (so (kept_at p true c.had51 c.had301 false (eqb c.rp 0) && too_late (before (seen true p false c))) (member group_places p && lost_now) x
     (rw (k, h))) in
     lost rs p (member_in p group_places y.0) c.day c.had11 c.schedule c.had51 c.had411 c.rp c.had301 (not c.no_doctor) y.1
     (ap (λ (s : Core). runs s rs) (inside_is p c) ∙ e)

@@ -17,7 +17,7 @@ use Rattle.prefixes.specs.Prefixes.{late}
 use Rattle.verdict.proofs.Computed.{Fn, In, Each, each, every, every_at, at_each, agree, member_in}
 use Rattle.verdict.proofs.Machine.{Core, runs, finish}
 use Rattle.verdict.proofs.Steps.{st, bf, to401, to411, to501, to601, to_end, rp_places, drug_places, rp_over, may_close, treats}
-use Rattle.verdict.proofs.Steps.{at_end_lem, at_5, at-701, at-55, at_201, at-401, at-411, at-501, at-601}
+use Rattle.verdict.proofs.Steps.{at_end_lem, at_5, at_701, at_55, at_201, at_401, at_411, at_501, at_601}
 use Rattle.verdict.proofs.Backwards.{numbers, first_or, known, details_of, took}
 use Rattle.prefixes.proofs.GoingOn.{so}
 
@@ -99,7 +99,7 @@ module _ (rs : List Facts) (ih : Lost rs) (p : ℕ) (m : In p group_places) (d :
   lost_701 h =
       let t = took now (rec 701 b) rs h in
       let q = narrow 701 to_end refl t.follows in
-      clash t.good (at-701 true d e k f i v u c b q) (cant_close e k f i v u l q)
+      clash t.good (at_701 true d e k f i v u c b q) (cant_close e k f i v u l q)
 
   -- after a 5 nothing is too late
   lost_11 : Refused 11
@@ -125,7 +125,7 @@ module _ (rs : List Facts) (ih : Lost rs) (p : ℕ) (m : In p group_places) (d :
   lost_55 h =
       let t = took now (rec 55 b) rs h in
       let q = narrow 55 to401 refl t.follows in
-      let x = both (in_rp p ⇒ c) (not (treats k) && not (in_rp p && not u)) (sym (at-55 true d e k f i v u c b q) ∙ t.good) in
+      let x = both (in_rp p ⇒ c) (not (treats k) && not (in_rp p && not u)) (sym (at_55 true d e k f i v u c b q) ∙ t.good) in
       let y = both (not (treats k)) (not (in_rp p && not u)) x.1 in
       ih 55 (member_in 55 group_places refl) d e k f i v u true
       (keeps 55 to401 (λ x e q f i z u. not (in_rp x && not u)) (λ i. i) (λ u. u) refl q y.1) t.rest
@@ -183,7 +183,7 @@ module _ (rs : List Facts) (ih : Lost rs) (p : ℕ) (m : In p group_places) (d :
   lost_401 h =
       let t = took now (rec 401 b) rs h in
       let q = narrow 401 to411 refl t.follows in
-      let x = sym (at-401 true d e k f i v u c b q) ∙ t.good in
+      let x = sym (at_401 true d e k f i v u c b q) ∙ t.good in
       ih 401 (member_in 401 group_places refl) d e k f i v u c
       (keeps 401 to411 (λ x e q f i z u. rp_over true x u && (true ⇒ not z)) (λ i. i) (λ u. u) refl q x) t.rest
 
@@ -192,7 +192,7 @@ module _ (rs : List Facts) (ih : Lost rs) (p : ℕ) (m : In p group_places) (d :
   lost_411 h =
       let t = took now (rec 411 b) rs h in
       let q = narrow 411 to501 refl t.follows in
-      let x = sym (at-411 true d e k f i v u c b q) ∙ t.good in
+      let x = sym (at_411 true d e k f i v u c b q) ∙ t.good in
       ih 411 (member_in 411 group_places refl) d e k f true v u c
       (keeps 411 to501 (λ x e q f i z u. rp_over true x u) (λ i. true) (λ u. u) refl q x) t.rest
 
@@ -201,7 +201,7 @@ module _ (rs : List Facts) (ih : Lost rs) (p : ℕ) (m : In p group_places) (d :
   lost_501 h =
       let t = took now (rec 501 b) rs h in
       let q = narrow 501 to601 refl t.follows in
-      let x = sym (at-501 true d e k f i v u c b q) ∙ t.good in
+      let x = sym (at_501 true d e k f i v u c b q) ∙ t.good in
       ih 501 (member_in 501 group_places refl) d e k f i v u c
       (keeps 501 to601 (λ x e q f i z u. rp_over true x u) (λ i. i) (λ u. u) refl q x) t.rest
 
@@ -210,7 +210,7 @@ module _ (rs : List Facts) (ih : Lost rs) (p : ℕ) (m : In p group_places) (d :
   lost_601 h =
       let t = took now (rec 601 b) rs h in
       let q = narrow 601 to_end refl t.follows in
-      let x = sym (at-601 true d e k f i v u c b q) ∙ t.good in
+      let x = sym (at_601 true d e k f i v u c b q) ∙ t.good in
       ih 601 (member_in 601 group_places refl) d e k f i v u c
       (keeps 601 to_end (λ x e q f i z u. rp_over true x u) (λ i. i) (λ u. u) refl q x) t.rest
 

@@ -99,7 +99,7 @@ line_good d l e =
     let rec : record_from (h ∷ ws) ≡ record_from (h ∷ ss) = ap (λ (vs : List Value). record { number = (table_row h).number; values = vs }) w.same in
     let s' : Sound d h ws = record { listed = s.listed; no_mark = s.no_mark; count = w.count; items = w.again; paired = ap pairs rec ∙ s.paired } in
     let f : line_fault d (joined h ws) ≡ 0 =
-    both_zero (unless (all_chars (joined h ws)) 4) (fault_from d (items_of (joined h ws))) (zero_unless (all_chars (joined h ws)) 4 (chars_joined h ws cp.0 (chars-all ws w.fine)))
+    both_zero (unless (all_chars (joined h ws)) 4) (fault_from d (items_of (joined h ws))) (zero_unless (all_chars (joined h ws)) 4 (chars_joined h ws cp.0 (chars_all ws w.fine)))
     (subst (λ (x : List (List ℕ)). fault_from d x ≡ 0) (sym back) (no_fault d h ws s')) in
     let n : length (joined h ws) ≤ length l =
     omega (arith, joined_length h ws, joined_length h ss, ap length p.joins, w.short) in
@@ -120,9 +120,9 @@ line_good d l e =
     commas [] f = tt
     commas (w ∷ ws) (f, fs) = (f.1, commas ws fs)
 
-    chars-all : (ws : List (List ℕ)) → All Fine ws → All AllChars ws
-    chars-all [] f = tt
-    chars-all (w ∷ ws) (f, fs) = (f.0, chars-all ws fs)
+    chars_all : (ws : List (List ℕ)) → All Fine ws → All AllChars ws
+    chars_all [] f = tt
+    chars_all (w ∷ ws) (f, fs) = (f.0, chars_all ws fs)
 
 -- what is read has no fault, and is the line's record
 pub read_is : (d : Bool) (l : List ℕ) (r : Record) → read_line d l ≡ ok r → (line_fault d l ≡ 0) × (record_of l ≡ r)

@@ -26,7 +26,7 @@ use Rattle.scanning.specs.declared.Run.{Run}
 use Rattle.scanning.specs.declared.Told.{Told}
 use Rattle.scanning.specs.Scans.{ScanOf, RunOf, RunEnds, Bytes, Counted, Finished, ToldOf}
 use Rattle.characters.proofs.BytesLaws.{one_first, bytes_on, bytes_most}
-use Rattle.scanning.proofs.TextLaws.{one_char, no_comma, lead_from_81, trail_from_40, lead_no_one, kept, Scanned, scan_start, scan-comma, scan-more, scan-stop, scan-bad, scan_end}
+use Rattle.scanning.proofs.TextLaws.{one_char, no_comma, lead_from_81, trail_from_40, lead_no_one, kept, Scanned, scan_start, scan_comma, scan_more, scan_stop, scan_bad, scan_end}
 use Rattle.characters.proofs.CharLaws.{chars_clean, pair_parts}
 use Rattle.characters.proofs.ScriptLaws.{never_one}
 
@@ -204,22 +204,22 @@ module _ {s : List ℕ} {from last i o h k e : ℕ} (w : Running s from last i o
     pub fits_one : Fits w64 (o + 1)
     fits_one = omega (arith, few_one, w.ends)
 
-    pub fits-hiragana : Fits w64 (h + 2)
-    fits-hiragana = omega (arith, few_hiragana, w.ends)
+    pub fits_hiragana : Fits w64 (h + 2)
+    fits_hiragana = omega (arith, few_hiragana, w.ends)
 
-    pub fits-katakana : Fits w64 (k + 2)
-    fits-katakana = omega (arith, few_katakana, w.ends)
+    pub fits_katakana : Fits w64 (k + 2)
+    fits_katakana = omega (arith, few_katakana, w.ends)
 
-    pub fits-either : Fits w64 (e + 2)
-    fits-either = omega (arith, few_either, w.ends)
+    pub fits_either : Fits w64 (e + 2)
+    fits_either = omega (arith, few_either, w.ends)
 
   -- x: the character at i, before the last byte
   module _ (n : i < last) {x : Char} (q : x ≡ char_of (get_or s i 0 ∷ get_or s (i + 1) 0 ∷ [])) where
-    two-left : i + 1 < length s
-    two-left = omega (arith, w.ends)
+    two_left : i + 1 < length s
+    two_left = omega (arith, w.ends)
 
-    pub running-one : x ≡ One → (get_or s i 0 ≡ 0x2c → ⊥) → Running s from last (i + 1) (o + 1) h k e
-    running-one c z =
+    pub running_one : x ≡ One → (get_or s i 0 ≡ 0x2c → ⊥) → Running s from last (i + 1) (o + 1) h k e
+    running_one c z =
         let l : i < length s = omega (arith, w.ends) in
         let a : is_one (get_or s i 0) ≡ true = one_is_lem (get_or s i 0) (get_or s (i + 1) 0) (sym q ∙ c) in
         record {
@@ -238,17 +238,17 @@ module _ {s : List ℕ} {from last i o h k e : ℕ} (w : Running s from last i o
       pair : (is_one (get_or s i 0) ≡ false) × (pair_script (get_or s i 0) (get_or s (i + 1) 0) ≡ c)
       pair = two_is (get_or s i 0) (get_or s (i + 1) 0) c f (sym q ∙ t)
 
-      pair-run : RunOf s from (i + 2)
-      pair-run = run_pair w.run two-left (ap is_char pair.1 ∙ g)
+      pair_run : RunOf s from (i + 2)
+      pair_run = run_pair w.run two_left (ap is_char pair.1 ∙ g)
 
       more : (p : Char → Bool) → bytes_of p (part s from (i + 2)) ≡ bytes_of p (part s from i) + cond (p c) 2 0
-      more p = more_two p c w.run two-left pair
+      more p = more_two p c w.run two_left pair
 
-    pub running-hiragana : x ≡ Hiragana → Running s from last (i + 2) o (h + 2) k e
-    running-hiragana t =
+    pub running_hiragana : x ≡ Hiragana → Running s from last (i + 2) o (h + 2) k e
+    running_hiragana t =
         let d = more Hiragana (λ z. true≢false (ap is_one_byte z)) refl t in
         record {
-          run = pair-run Hiragana (λ z. true≢false (ap is_one_byte z)) refl t;
+          run = pair_run Hiragana (λ z. true≢false (ap is_one_byte z)) refl t;
           ends = w.ends;
           counted = record {
             one = kept_as w.counted.one (d is_one_byte);
@@ -258,11 +258,11 @@ module _ {s : List ℕ} {from last i o h k e : ℕ} (w : Running s from last i o
           };
         }
 
-    pub running-katakana : x ≡ Katakana → Running s from last (i + 2) o h (k + 2) e
-    running-katakana t =
+    pub running_katakana : x ≡ Katakana → Running s from last (i + 2) o h (k + 2) e
+    running_katakana t =
         let d = more Katakana (λ z. true≢false (ap is_one_byte z)) refl t in
         record {
-          run = pair-run Katakana (λ z. true≢false (ap is_one_byte z)) refl t;
+          run = pair_run Katakana (λ z. true≢false (ap is_one_byte z)) refl t;
           ends = w.ends;
           counted = record {
             one = kept_as w.counted.one (d is_one_byte);
@@ -272,11 +272,11 @@ module _ {s : List ℕ} {from last i o h k e : ℕ} (w : Running s from last i o
           };
         }
 
-    pub running-either : x ≡ Either → Running s from last (i + 2) o h k (e + 2)
-    running-either t =
+    pub running_either : x ≡ Either → Running s from last (i + 2) o h k (e + 2)
+    running_either t =
         let d = more Either (λ z. true≢false (ap is_one_byte z)) refl t in
         record {
-          run = pair-run Either (λ z. true≢false (ap is_one_byte z)) refl t;
+          run = pair_run Either (λ z. true≢false (ap is_one_byte z)) refl t;
           ends = w.ends;
           counted = record {
             one = kept_as w.counted.one (d is_one_byte);
@@ -286,11 +286,11 @@ module _ {s : List ℕ} {from last i o h k e : ℕ} (w : Running s from last i o
           };
         }
 
-    pub running-other : x ≡ Other → Running s from last (i + 2) o h k e
-    running-other t =
+    pub running_other : x ≡ Other → Running s from last (i + 2) o h k e
+    running_other t =
         let d = more Other (λ z. true≢false (ap is_one_byte z)) refl t in
         record {
-          run = pair-run Other (λ z. true≢false (ap is_one_byte z)) refl t;
+          run = pair_run Other (λ z. true≢false (ap is_one_byte z)) refl t;
           ends = w.ends;
           counted = record {
             one = kept_as w.counted.one (d is_one_byte);
@@ -300,9 +300,9 @@ module _ {s : List ℕ} {from last i o h k e : ℕ} (w : Running s from last i o
           };
         }
 
-    pub running-bad : x ≡ Bad → RunEnds s i
+    pub running_bad : x ≡ Bad → RunEnds s i
     unfolding char_at
-    running-bad t = record { holds = λ _. inr (ap char_of (two_on s i 0 two-left) ∙ sym q ∙ t) }
+    running_bad t = record { holds = λ _. inr (ap char_of (two_on s i 0 two_left) ∙ sym q ∙ t) }
 
   pub running_comma : get_or s i 0 ≡ 0x2c → RunEnds s i
   running_comma c = record { holds = λ _. inl c }
@@ -349,7 +349,7 @@ pub running_end : {s : List ℕ} {from last i o h k e : ℕ} {r : Run} → Runni
     → RunOf s from r.end × (RunEnds s r.end × Counted s from r.end r.scripts)
 running_end {from = from} w f = let t = f.holds from w.run w.counted in (t.0, (t.1, t.2))
 
-pub ruleset run_laws = (run_none, counted_none, running_none, running_start, running_run, running_counted, running-one, running-hiragana, running-katakana, running-either, running-other, running-bad, running_comma, running_end, last_ready, fits_one, fits-hiragana, fits-katakana, fits-either)
+pub ruleset run_laws = (run_none, counted_none, running_none, running_start, running_run, running_counted, running_one, running_hiragana, running_katakana, running_either, running_other, running_bad, running_comma, running_end, last_ready, fits_one, fits_hiragana, fits_katakana, fits_either)
 
 -- ---- a scan over a run
 
@@ -451,8 +451,8 @@ module _ {s : List ℕ} {i o h k e : ℕ} (v : Telling s i o h k e) where
     next : (p : Char → Bool) → get_or s i 0 ≡ 0x2c → bytes_of p (drop i s) ≡ cond (p One) 1 0 + bytes_of p (drop (i + 1) s)
     next p c = ap (bytes_of p) (drop_step s i 0 z) ∙ one_first p (get_or s i 0) (drop (i + 1) s) (rw c)
 
-    pub telling-comma : get_or s i 0 ≡ 0x2c → Telling s (i + 1) (o + 1) h k e
-    telling-comma c = record {
+    pub telling_comma : get_or s i 0 ≡ 0x2c → Telling s (i + 1) (o + 1) h k e
+    telling_comma c = record {
       left = v.left ∙ ap all_chars (drop_step s i 0 z) ∙ one_char (get_or s i 0) (drop (i + 1) s) (rw c);
       high = omega arith;
       one = omega (arith, v.one, next is_one_byte c);
@@ -461,9 +461,9 @@ module _ {s : List ℕ} {i o h k e : ℕ} (v : Telling s i o h k e) where
       either = omega (arith, v.either, next is_either c);
     }
 
-    pub telling-stuck : (t : Scripts) → RunEnds s i → (get_or s i 0 ≡ 0x2c → ⊥) → ToldOf s (record { good = false; scripts = t })
+    pub telling_stuck : (t : Scripts) → RunEnds s i → (get_or s i 0 ≡ 0x2c → ⊥) → ToldOf s (record { good = false; scripts = t })
     unfolding char_at
-    telling-stuck t x n = record {
+    telling_stuck t x n = record {
       chars = ⊎_elim (λ c. absurd (n c)) (λ b. sym (v.left ∙ ap all_chars (drop_step s i 0 z) ∙ bad_chars (get_or s i 0) (drop (i + 1) s) (ap char_of (sym (drop_step s i 0 z)) ∙ b))) (x.holds z);
       bytes = λ e. absurd (false≢true e);
     }
@@ -483,24 +483,24 @@ module _ {s : List ℕ} {i o h k e : ℕ} (v : Telling s i o h k e) {r : Run} (w
   sum_either = let t = telling_run v w c in omega (arith, most t is_either t.either)
 
   pub sum_comma : r.end < length s → get_or s r.end 0 ≡ 0x2c → Fits w64 (o + r.scripts.one + 1)
-  sum_comma n d = let t = telling-comma (telling_run v w c) n d in omega (arith, most t is_one_byte t.one)
+  sum_comma n d = let t = telling_comma (telling_run v w c) n d in omega (arith, most t is_one_byte t.one)
 
-pub ruleset telling_laws = (telling_start, telling_over, telling_run, telling-comma, sum_one, sum_hiragana, sum_katakana, sum_either, sum_comma)
+pub ruleset telling_laws = (telling_start, telling_over, telling_run, telling_comma, sum_one, sum_hiragana, sum_katakana, sum_either, sum_comma)
 
 -- ---- the ways through scan_text, each after a run
 
 module _ {s : List ℕ} {at : ℕ} {a₀ a : List ℕ} {i e : ℕ} {good : Bool} {n : ℕ} (v : Scanned s at a₀ a i good n) (w : RunOf s i e) where
   pub run_comma : e < length s → get_or s e 0 ≡ 0x2c → n < 16 → Scanned s at a₀ (set a n (e - at)) (e + 1) good (n + 1)
-  run_comma h c k = scan-comma (run_scanned v w) h c k
+  run_comma h c k = scan_comma (run_scanned v w) h c k
 
   pub run_more : e < length s → get_or s e 0 ≡ 0x2c → 16 ≤ n → Scanned s at a₀ a (e + 1) good (n + 1)
-  run_more h c k = scan-more (run_scanned v w) h c k
+  run_more h c k = scan_more (run_scanned v w) h c k
 
   pub run_stop : e < length s → {x : Bool} → x ≡ is_stop (get_or s e 0) → x ≡ true → ScanOf s at a (record { end = e; good = good; commas = n })
-  run_stop h p t = scan-stop (run_scanned v w) h p t
+  run_stop h p t = scan_stop (run_scanned v w) h p t
 
   pub run_bad : e < length s → RunEnds s e → (get_or s e 0 ≡ 0x2c → ⊥) → {x : Bool} → x ≡ is_stop (get_or s e 0) → x ≡ false → Scanned s at a₀ a (e + 1) false n
-  run_bad h z c p f = ⊎_elim (λ k. absurd (c k)) (λ b. scan-bad (run_scanned v w) h b p f) (z.holds h)
+  run_bad h z c p f = ⊎_elim (λ k. absurd (c k)) (λ b. scan_bad (run_scanned v w) h b p f) (z.holds h)
 
 pub ruleset pass_laws = (scan_start, scan_end, run_scanned, run_comma, run_more, run_stop, run_bad)
 

@@ -153,21 +153,21 @@ module _ {s : List ℕ} {at : ℕ} {a₀ a : List ℕ} {i : ℕ} {good : Bool} {
   scan_end h = done (rw (drop_end s i h))
 
   module _ (h : i < length s) where
-    now-at : drop i s ≡ get_or s i 0 ∷ drop (i + 1) s
-    now-at = drop_step s i 0 h
+    now_at : drop i s ≡ get_or s i 0 ∷ drop (i + 1) s
+    now_at = drop_step s i 0 h
 
     -- a byte of text, with its commas
-    byte-on : is_stop (get_or s i 0) ≡ false → (length (text (drop i s)) ≡ 1 + length (text (drop (i + 1) s))) × (comma_count (text (drop i s)) ≡ cond (eqb (get_or s i 0) 0x2c) 1 0 + comma_count (text (drop (i + 1) s)))
-    byte-on e = rw now-at (simp e (omega arith), simp e)
+    byte_on : is_stop (get_or s i 0) ≡ false → (length (text (drop i s)) ≡ 1 + length (text (drop (i + 1) s))) × (comma_count (text (drop i s)) ≡ cond (eqb (get_or s i 0) 0x2c) 1 0 + comma_count (text (drop (i + 1) s)))
+    byte_on e = rw now_at (simp e (omega arith), simp e)
 
     one_on : {a' : List ℕ} → is_one (get_or s i 0) ≡ true → (m : ℕ) → cond (eqb (get_or s i 0) 0x2c) 1 0 ≡ m → m ≤ 1
         → kept a' (n + m) (commas_from (i + 1 - at) (text (drop (i + 1) s))) ≡ kept a₀ 0 (commas_from 0 (text (drop at s))) → length a' ≡ 16 → Scanned s at a₀ a' (i + 1) good (n + m)
     one_on o m e k t z =
-        let w : Leaves (drop i s) (drop (i + 1) s) 1 = rw now-at (one_text (get_or s i 0) (drop (i + 1) s) o) in
+        let w : Leaves (drop i s) (drop (i + 1) s) 1 = rw now_at (one_text (get_or s i 0) (drop (i + 1) s) o) in
         record {
           ends = omega (arith, v.ends, w.size);
           chars = v.chars ∙ ap (λ (b : Bool). good && b) w.chars;
-          commas = omega (arith, v.commas, (byte-on (one_go (get_or s i 0) o)).1, e);
+          commas = omega (arith, v.commas, (byte_on (one_go (get_or s i 0) o)).1, e);
           few = omega (arith, v.few);
           places = t;
           size = z;
@@ -179,66 +179,66 @@ module _ {s : List ℕ} {at : ℕ} {a₀ a : List ℕ} {i : ℕ} {good : Bool} {
         → commas_from (i - at) (text (drop i s)) ≡ cond (eqb (get_or s i 0) 0x2c) ((i - at) ∷ commas_from (i + 1 - at) (text (drop (i + 1) s))) (commas_from (i + 1 - at) (text (drop (i + 1) s)))
     places_on e =
         let z : suc (i - at) ≡ i + 1 - at = omega (arith, v.few) in
-        rw now-at (simp e (ap (λ (k : ℕ). cond (eqb (get_or s i 0) 0x2c) ((i - at) ∷ commas_from k (text (drop (i + 1) s))) (commas_from k (text (drop (i + 1) s)))) z))
+        rw now_at (simp e (ap (λ (k : ℕ). cond (eqb (get_or s i 0) 0x2c) ((i - at) ∷ commas_from k (text (drop (i + 1) s))) (commas_from k (text (drop (i + 1) s)))) z))
 
-    plain-on : is_stop (get_or s i 0) ≡ false → eqb (get_or s i 0) 0x2c ≡ false → kept a n (commas_from (i + 1 - at) (text (drop (i + 1) s))) ≡ kept a₀ 0 (commas_from 0 (text (drop at s)))
-    plain-on e z = ap (kept a n) (sym (places_on e ∙ rw z)) ∙ v.places
+    plain_on : is_stop (get_or s i 0) ≡ false → eqb (get_or s i 0) 0x2c ≡ false → kept a n (commas_from (i + 1 - at) (text (drop (i + 1) s))) ≡ kept a₀ 0 (commas_from 0 (text (drop at s)))
+    plain_on e z = ap (kept a n) (sym (places_on e ∙ rw z)) ∙ v.places
 
-    comma-one : get_or s i 0 ≡ 0x2c → is_one (get_or s i 0) ≡ true
-    comma-one e = rw e
+    comma_one : get_or s i 0 ≡ 0x2c → is_one (get_or s i 0) ≡ true
+    comma_one e = rw e
 
-    comma-on : is_one (get_or s i 0) ≡ true → eqb (get_or s i 0) 0x2c ≡ true
+    comma_on : is_one (get_or s i 0) ≡ true → eqb (get_or s i 0) 0x2c ≡ true
         → kept a n ((i - at) ∷ commas_from (i + 1 - at) (text (drop (i + 1) s))) ≡ kept a₀ 0 (commas_from 0 (text (drop at s)))
-    comma-on o z = ap (kept a n) (sym (places_on (one_go (get_or s i 0) o) ∙ rw z)) ∙ v.places
+    comma_on o z = ap (kept a n) (sym (places_on (one_go (get_or s i 0) o) ∙ rw z)) ∙ v.places
 
-    pub scan-comma : get_or s i 0 ≡ 0x2c → n < 16 → Scanned s at a₀ (set a n (i - at)) (i + 1) good (n + 1)
-    scan-comma e k =
-        let w : (is_one (get_or s i 0) ≡ true) × (eqb (get_or s i 0) 0x2c ≡ true) = (comma-one e, eq-eqb (get_or s i 0) 0x2c e) in
+    pub scan_comma : get_or s i 0 ≡ 0x2c → n < 16 → Scanned s at a₀ (set a n (i - at)) (i + 1) good (n + 1)
+    scan_comma e k =
+        let w : (is_one (get_or s i 0) ≡ true) × (eqb (get_or s i 0) 0x2c ≡ true) = (comma_one e, eq-eqb (get_or s i 0) 0x2c e) in
         let x : 16 - n ≡ suc (16 - (n + 1)) = omega arith in
         let y : n + 1 ≡ suc n = add-one n in
         one_on w.0 1 (rw w.1) (omega arith)
         (ap (λ (j : ℕ). sets (set a n (i - at)) j (take (16 - (n + 1)) (commas_from (i + 1 - at) (text (drop (i + 1) s))))) y
-        ∙ ap (λ (j : ℕ). sets a n (take j ((i - at) ∷ commas_from (i + 1 - at) (text (drop (i + 1) s))))) (sym x) ∙ comma-on w.0 w.1)
+        ∙ ap (λ (j : ℕ). sets a n (take j ((i - at) ∷ commas_from (i + 1 - at) (text (drop (i + 1) s))))) (sym x) ∙ comma_on w.0 w.1)
         (simp length-set v.size)
 
-    pub scan-more : get_or s i 0 ≡ 0x2c → 16 ≤ n → Scanned s at a₀ a (i + 1) good (n + 1)
-    scan-more e k =
-        let w : (is_one (get_or s i 0) ≡ true) × (eqb (get_or s i 0) 0x2c ≡ true) = (comma-one e, eq-eqb (get_or s i 0) 0x2c e) in
+    pub scan_more : get_or s i 0 ≡ 0x2c → 16 ≤ n → Scanned s at a₀ a (i + 1) good (n + 1)
+    scan_more e k =
+        let w : (is_one (get_or s i 0) ≡ true) × (eqb (get_or s i 0) 0x2c ≡ true) = (comma_one e, eq-eqb (get_or s i 0) 0x2c e) in
         let x : 16 - n ≡ 0 = omega arith in
         let y : 16 - (n + 1) ≡ 0 = omega arith in
         one_on w.0 1 (rw w.1) (omega arith)
         (ap (λ (j : ℕ). sets a (n + 1) (take j (commas_from (i + 1 - at) (text (drop (i + 1) s))))) y
-        ∙ ap (λ (j : ℕ). sets a n (take j ((i - at) ∷ commas_from (i + 1 - at) (text (drop (i + 1) s))))) (sym x) ∙ comma-on w.0 w.1)
+        ∙ ap (λ (j : ℕ). sets a n (take j ((i - at) ∷ commas_from (i + 1 - at) (text (drop (i + 1) s))))) (sym x) ∙ comma_on w.0 w.1)
         v.size
 
     -- x is what is_stop said
-    pub scan-stop : {x : Bool} → x ≡ is_stop (get_or s i 0) → x ≡ true → ScanOf s at a (record { end = i; good = good; commas = n })
-    scan-stop p t = done (rw now-at (simp (sym p ∙ t)))
+    pub scan_stop : {x : Bool} → x ≡ is_stop (get_or s i 0) → x ≡ true → ScanOf s at a (record { end = i; good = good; commas = n })
+    scan_stop p t = done (rw now_at (simp (sym p ∙ t)))
 
     -- a byte that begins no character and is no comma
-    bad-on : is_one (get_or s i 0) ≡ false → is_stop (get_or s i 0) ≡ false → char_at s i ≡ Bad → Scanned s at a₀ a (i + 1) false n
+    bad_on : is_one (get_or s i 0) ≡ false → is_stop (get_or s i 0) ≡ false → char_at s i ≡ Bad → Scanned s at a₀ a (i + 1) false n
     unfolding char_at
-    bad-on o t e =
-        let f : all_chars (text (drop i s)) ≡ false = rw now-at (bad_text (get_or s i 0) (drop (i + 1) s) t (ap char_of (sym now-at) ∙ e)) in
-        let z : eqb (get_or s i 0) 0x2c ≡ false = no-one-comma (get_or s i 0) o in
-        let w = byte-on t in
+    bad_on o t e =
+        let f : all_chars (text (drop i s)) ≡ false = rw now_at (bad_text (get_or s i 0) (drop (i + 1) s) t (ap char_of (sym now_at) ∙ e)) in
+        let z : eqb (get_or s i 0) 0x2c ≡ false = no_one_comma (get_or s i 0) o in
+        let w = byte_on t in
         record {
           ends = omega (arith, v.ends, w.0);
           chars = v.chars ∙ ap (λ (b : Bool). good && b) f ∙ and-false good;
           commas = v.commas ∙ ap (λ (k : ℕ). n + k) (w.1 ∙ rw z (zero-add (comma_count (text (drop (i + 1) s)))));
           few = omega (arith, v.few);
-          places = plain-on t z;
+          places = plain_on t z;
           size = v.size;
           first = v.first;
         }
       where
-        no-one-comma : (a : ℕ) → is_one a ≡ false → eqb a 0x2c ≡ false
-        no-one-comma a o = ne_eqb a 0x2c (λ e. true≢false (sym (rw e) ∙ o))
+        no_one_comma : (a : ℕ) → is_one a ≡ false → eqb a 0x2c ≡ false
+        no_one_comma a o = ne_eqb a 0x2c (λ e. true≢false (sym (rw e) ∙ o))
 
     -- a byte that begins no character, where the run ends
-    pub scan-bad : {z : Bool} → char_at s i ≡ Bad → z ≡ is_stop (get_or s i 0) → z ≡ false → Scanned s at a₀ a (i + 1) false n
+    pub scan_bad : {z : Bool} → char_at s i ≡ Bad → z ≡ is_stop (get_or s i 0) → z ≡ false → Scanned s at a₀ a (i + 1) false n
     unfolding char_at
-    scan-bad e r g = bad-on (no_one (get_or s i 0) (drop (i + 1) s) (ap char_of (sym now-at) ∙ e)) (sym r ∙ g) e
+    scan_bad e r g = bad_on (no_one (get_or s i 0) (drop (i + 1) s) (ap char_of (sym now_at) ∙ e)) (sym r ∙ g) e
       where
         no_one : (a : ℕ) (l : List ℕ) → char_of (a ∷ l) ≡ Bad → is_one a ≡ false
         no_one a [] e = one-go₁ (is_one a) e
@@ -252,4 +252,4 @@ module _ {s : List ℕ} {at : ℕ} {a₀ a : List ℕ} {i : ℕ} {good : Bool} {
             one-go₂ true e = cc
             one-go₂ false e = refl
 
-pub ruleset scan_laws = (scan_start, scan-comma, scan-more, scan-stop, scan-bad, scan_end)
+pub ruleset scan_laws = (scan_start, scan_comma, scan_more, scan_stop, scan_bad, scan_end)

@@ -96,13 +96,13 @@ module _ {u id : List ℕ} {at : ℕ} (g : Given u at id) where
   pub first_decides : {r x : Bool} → r ≡ same (part u (at + 6) (at + 6 + 8)) (part id 6 14) → r ≡ true → x ≡ same (part u at (at + 8)) (part id 0 8) → x ≡ same here id
   first_decides {r} {x} p q e = go x e
     where
-      last-same : part here 6 14 ≡ part id 6 14
-      last-same = sym last_part ∙ same_true (part u (at + 6) (at + 6 + 8)) (part id 6 14) (sym p ∙ q)
+      last_same : part here 6 14 ≡ part id 6 14
+      last_same = sym last_part ∙ same_true (part u (at + 6) (at + 6 + 8)) (part id 6 14) (sym p ∙ q)
 
       go : (x : Bool) → x ≡ same (part u at (at + 8)) (part id 0 8) → x ≡ same here id
       go true h =
           let e : part here 0 8 ≡ part id 0 8 = sym first_part_lem ∙ same_true (part u at (at + 8)) (part id 0 8) (sym h) in
-          let w : here ≡ id = covered here id (length-take-le 14 (drop at u) (omega (arith, length-drop at u, g.inside))) g.ident e last-same in
+          let w : here ≡ id = covered here id (length-take-le 14 (drop at u) (omega (arith, length-drop at u, g.inside))) g.ident e last_same in
           sym (ap (λ (y : List ℕ). same y id) w ∙ same_refl id)
       go false h = differs (same here id) refl
         where

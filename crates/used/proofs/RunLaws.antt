@@ -35,15 +35,15 @@ module _ {id u : List ℕ} {i : ℕ} (v : Left id u i) where
         let n : (length u - i) / 14 ≡ suc ((length u - (i + 14)) / 14) = omega (arith, v.whole, v.start, h) in
         ap (λ (k : ℕ). first_i_ds k (drop i u)) n ∙ ap (λ (t : List ℕ). take 14 (drop i u) ∷ first_i_ds ((length u - (i + 14)) / 14) t) (drop-drop 14 i u)
 
-    pub run-given : length id ≡ 14 → Given u i id
-    run-given e = record { inside = omega (arith, v.whole, v.start); ident = e }
+    pub run_given : length id ≡ 14 → Given u i id
+    run_given e = record { inside = omega (arith, v.whole, v.start); ident = e }
 
     module _ {x : Bool} (q : x ≡ same (take 14 (drop i u)) id) where
-      pub run-found : x ≡ true → false ≡ unused id u
-      run-found t = answer id u true v.whole (v.left ∙ ap (one_is id) more ∙ rw (sym q ∙ t))
+      pub run_found : x ≡ true → false ≡ unused id u
+      run_found t = answer id u true v.whole (v.left ∙ ap (one_is id) more ∙ rw (sym q ∙ t))
 
-      pub run-go : x ≡ false → Left id u (i + 14)
-      run-go t = record {
+      pub run_go : x ≡ false → Left id u (i + 14)
+      run_go t = record {
         inside = omega (arith, v.whole, v.start);
         whole = v.whole;
         start = omega (arith, v.start);
@@ -54,4 +54,4 @@ module _ {id u : List ℕ} {i : ℕ} (v : Left id u i) where
   unfolding first_i_ds
   run_out h = answer id u false v.whole (v.left ∙ (let z : (length u - i) / 14 ≡ 0 = omega (arith, h) in rw z))
 
-pub ruleset run_laws = (run_start, other_length, run-given, run-found, run-go, run_out)
+pub ruleset run_laws = (run_start, other_length, run_given, run_found, run_go, run_out)

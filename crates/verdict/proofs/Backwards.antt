@@ -339,16 +339,16 @@ module _ (rs : List Facts) (ih : Shaped rs) (s : Core) (p : ℕ) (m : In p place
     begun : eqb b.rp (v_at p v + 1) ≡ true → FromRp (v_at p v + 1) (c_at p c) (rec 201 b ∷ rs)
     begun e = subst (λ w. FromRp w (c_at p c) (rec 201 b ∷ rs)) (eqb-true _ _ e) (begin_rp b (eq-eqb b.rp b.rp refl) x)
 
-    in-rp-201 : In p rp_places → Rest p (v_at p v) (c_at p c) (rec 201 b ∷ rs)
-    in-rp-201 q =
+    in_rp_201 : In p rp_places → Rest p (v_at p v) (c_at p c) (rec 201 b ∷ rs)
+    in_rp_201 q =
         ⊎_elim (λ e. let w = both (in_drugs p) (eqb b.rp (v_at p v)) e in
         to_drugs (v_at p v) (c_at p c) _ (drug_place q w.0)
         (subst (λ w. FromDrugs w (c_at p c) (rec 201 b ∷ rs)) (eqb-true _ _ w.1) (add_drug b (eq-eqb b.rp b.rp refl) x)))
         (λ e. to_later (v_at p v) (c_at p c) _ q (add_rp (begun e)))
         (either (in_drugs p && eqb b.rp (v_at p v)) (eqb b.rp (v_at p v + 1)) z)
 
-    first-201 : In p front_places → Rest p (v_at p v) (c_at p c) (rec 201 b ∷ rs)
-    first-201 q =
+    first_201 : In p front_places → Rest p (v_at p v) (c_at p c) (rec 201 b ∷ rs)
+    first_201 q =
         let e = or_second (in_drugs p && eqb b.rp (v_at p v)) (eqb b.rp (v_at p v + 1))
         (at_each 1 (λ p a. in_drugs p && a) (λ p a. false) refl q (eqb b.rp (v_at p v))) z in
         to_prescriptions (v_at p v) (c_at p c) _ q
@@ -365,7 +365,7 @@ module _ (rs : List Facts) (ih : Shaped rs) (s : Core) (p : ℕ) (m : In p place
       first_or
       (λ p. (in_drugs p && eqb b.rp (v_at p v) || eqb b.rp (v_at p v + 1)) ≡ true
       → (eqb b.rp (v_at p v + 1) ≡ true → FromRp (v_at p v + 1) (c_at p c) (rec 201 b ∷ rs)) → Rest p (v_at p v) (c_at p c) (rec 201 b ∷ rs))
-      (λ z f. f z) (λ q z f. ⊎_elim (in-rp-201 x z) (first-201 x z) (split rp_places q)) (before_n 201 (55 ∷ to401) refl m t.follows) z (begun x z)
+      (λ z f. f z) (λ q z f. ⊎_elim (in_rp_201 x z) (first_201 x z) (split rp_places q)) (before_n 201 (55 ∷ to401) refl m t.follows) z (begun x z)
 
   step_281 : Step 281
   unfolding may_follow value_wrong

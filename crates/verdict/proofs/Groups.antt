@@ -19,8 +19,8 @@ use Rattle.grammar.specs.Grammar.{schedule_of, usage_named, all_named, names, on
 use Rattle.verdict.proofs.Computed.{taut, In, here, there, at_each, among}
 use Rattle.verdict.proofs.Machine.{before, taken, runs, step, finish, accepts, core_of, machine_core}
 use Rattle.verdict.proofs.Steps.{st, hd, front_places, to401, to411, to501, to601, to_end, head_places, rp_over, lacks, may_close, treats, one_stood}
-use Rattle.verdict.proofs.Steps.{at_end_lem, at_5, at-701, at_11, at-15, at-51, at-55, at-401, at-411, at-501, at-601}
-use Rattle.verdict.proofs.Steps.{head_end, head-1, head-2, head-3, head-4, head-5, head-701}
+use Rattle.verdict.proofs.Steps.{at_end_lem, at_5, at_701, at_11, at_15, at_51, at_55, at_401, at_411, at_501, at_601}
+use Rattle.verdict.proofs.Steps.{head_end, head_1, head_2, head_3, head_4, head_5, head_701}
 use Rattle.verdict.proofs.Prescriptions.{Behind, rp_read, plain_read, later_read, usages}
 
 -- ---- after the prescriptions
@@ -38,14 +38,14 @@ module _ (o : Bool) (d : ℕ) (K : Bool) where
   any_601 : (rs : List Facts) → Closes to_end rs → (bs : List Details) → Closes to_end (any_of 601 bs rs)
   any_601 rs h [] p m e k f i v u c = h p m e k f i v u c
   any_601 rs h (b ∷ bs) p m e k f i v u c =
-      step (st o p d e k f i v u c) (rec 601 b) _ (at-601 o d e k f i v u c b m)
+      step (st o p d e k f i v u c) (rec 601 b) _ (at_601 o d e k f i v u c b m)
       ∙ ap (λ y. rp_over o p u && y) (any_601 rs h bs 601 here e k f i v u c)
       ∙ over p u (lacks e (eqb k 4) f i (eqb v 0))
 
   any_501 : (rs : List Facts) → Closes to_end rs → (bs : List Details) → Closes to601 (any_of 501 bs rs)
   any_501 rs h [] p m e k f i v u c = h p (there m) e k f i v u c
   any_501 rs h (b ∷ bs) p m e k f i v u c =
-      step (st o p d e k f i v u c) (rec 501 b) _ (at-501 o d e k f i v u c b m)
+      step (st o p d e k f i v u c) (rec 501 b) _ (at_501 o d e k f i v u c b m)
       ∙ ap (λ y. rp_over o p u && y) (any_501 rs h bs 501 here e k f i v u c)
       ∙ over p u (lacks e (eqb k 4) f i (eqb v 0))
 
@@ -53,7 +53,7 @@ module _ (o : Bool) (d : ℕ) (K : Bool) where
       → runs (st o p d e k f i v u c) (any_of 411 bs rs) ≡ (may_close o p e (eqb k 4) f (not (none_of bs) || i) (eqb v 0) u && K)
   any_411 rs h [] p m e k f i v u c = h p (there m) e k f i v u c
   any_411 rs h (b ∷ bs) p m e k f i v u c =
-      step (st o p d e k f i v u c) (rec 411 b) _ (at-411 o d e k f i v u c b m)
+      step (st o p d e k f i v u c) (rec 411 b) _ (at_411 o d e k f i v u c b m)
       ∙ ap (λ y. rp_over o p u && y) (any_411 rs h bs 411 here e k f true v u c)
       ∙ ap (λ z. rp_over o p u && (may_close o 411 e (eqb k 4) f z (eqb v 0) u && K)) (or-true (not (none_of bs)))
       ∙ over p u (lacks e (eqb k 4) f true (eqb v 0))
@@ -73,7 +73,7 @@ module _ (o : Bool) (d : ℕ) (K : Bool) (g : Group) (rs : List Facts) (h : Clos
       ∙ ap (λ z. may_close o p e (eqb k 4) f z (eqb v 0) u && K) (or-false has411)
       ∙ taut 3 (λ o z x. x) (λ o z x. (o ⇒ (z ⇒ true)) && x) refl o (eqb v 0) (may_close o p e (eqb k 4) f has411 (eqb v 0) u && K)
   any_401 (y ∷ ys) p m e k f v u c =
-      step (st o p d e k f false v u c) (rec 401 y) _ (at-401 o d e k f false v u c y m)
+      step (st o p d e k f false v u c) (rec 401 y) _ (at_401 o d e k f false v u c y m)
       ∙ ap (λ z. (rp_over o p u && (o ⇒ not (eqb v 0))) && z) (any_401 ys 401 here e k f v u c)
       ∙ taut 7 (λ o z a x l y K. ((o ⇒ not (a || x)) && (o ⇒ not z)) && ((o ⇒ (z ⇒ y)) && ((o ⇒ not l) && K)))
       (λ o z a x l y K. (o ⇒ (z ⇒ false)) && ((o ⇒ not (a || x || l)) && K)) refl
@@ -120,7 +120,7 @@ module _ (o : Bool) (d : ℕ) (K : Bool) (g : Group) (rs : List Facts) (h : Clos
       o (usage_named o k x.usage) (stands x.usage) (all_named o k ps) (each301 ps) e (eqb k 4) f (treats k) K
   prescriptions_read (with_doctors b x ls) w p m e k f =
       let w2 = both (one_value 1 x) (values_from 2 (later_ones ls)) w in
-      step (st o p d e k f false 0 false false) (rec 55 b) _ (at-55 o d e k f false 0 false false b (among to401 refl m) ∙ no-rp-yet)
+      step (st o p d e k f false 0 false false) (rec 55 b) _ (at_55 o d e k f false 0 false false b (among to401 refl m) ∙ no_rp_yet)
       ∙ guarded (o ⇒ not (treats k)) _ _ (λ t.
       rp_read o d e k f false 0 false true (usages o d e k f false (later_ones ls) && (owed e k f && K)) (later_records ls (rest_records g rs)) x w2.0
       (later_read o d e k f false (owed e k f && K) (rest_records g rs) t (behind_rp e k f true) ls 1 refl w2.1) 55 here)
@@ -128,8 +128,8 @@ module _ (o : Bool) (d : ℕ) (K : Bool) (g : Group) (rs : List Facts) (h : Clos
       (λ p o n s m x e q f t K. ((n && m) && (o ⇒ e && ((s && x) && ((t ⇒ false) && ((q ⇒ f) && ((eqb p 51 ⇒ true) && true)))))) && K) refl m
       o (usage_named o k x.usage) (stands x.usage) (all_named o k (later_ones ls)) (each301 (later_ones ls)) e (eqb k 4) f (treats k) K
     where
-      no-rp-yet : ((in_rp p ⇒ false) && (o ⇒ not (treats k) && not (in_rp p && true))) ≡ (o ⇒ not (treats k))
-      no-rp-yet = at_each 2 (λ p o t. (in_rp p ⇒ false) && (o ⇒ not t && not (in_rp p && true))) (λ p o t. o ⇒ not t) refl m o (treats k)
+      no_rp_yet : ((in_rp p ⇒ false) && (o ⇒ not (treats k) && not (in_rp p && true))) ≡ (o ⇒ not (treats k))
+      no_rp_yet = at_each 2 (λ p o t. (in_rp p ⇒ false) && (o ⇒ not t && not (in_rp p && true))) (λ p o t. o ⇒ not t) refl m o (treats k)
 
   -- ---- the front of a group
 
@@ -142,7 +142,7 @@ module _ (o : Bool) (d : ℕ) (K : Bool) (g : Group) (rs : List Facts) (h : Clos
       prescriptions_read x w p (there m) e k false
       ∙ ap (λ a. (all_named o k (rps x) && (o ⇒ asks e k false a true x)) && K) (at_each 0 (λ p. eqb p 51) (λ p. false) refl m)
   read_51 x w (some b) p m e k =
-      step (st o p d e k false false 0 false false) (rec 51 b) _ (at-51 o d e k false false 0 false false b m)
+      step (st o p d e k false false 0 false false) (rec 51 b) _ (at_51 o d e k false false 0 false false b m)
       ∙ ap (λ z. (o ⇒ not (treats k)) && z) (prescriptions_read x w 51 here e k true)
       ∙ taut 10 (λ o t n e s y q r z K. (o ⇒ not t) && ((n && (o ⇒ e && (s && ((t ⇒ y) && ((q ⇒ true) && (r && z)))))) && K))
       (λ o t n e s y q r z K. (n && (o ⇒ e && (s && ((t ⇒ false) && ((q ⇒ true) && (r && z)))))) && K) refl
@@ -153,7 +153,7 @@ module _ (o : Bool) (d : ℕ) (K : Bool) (g : Group) (rs : List Facts) (h : Clos
       → runs (st o p d e k false false 0 false false) (opt 15 r15 (opt 51 r51 (prescriptions_records x (rest_records g rs)))) ≡ whole e k r51 x
   read_15 x w r51 none p m e k = read_51 x w r51 p (there m) e k
   read_15 x w r51 (some b) p m e k =
-      step (st o p d e k false false 0 false false) (rec 15 b) _ (at-15 o d e k false false 0 false false b m) ∙ read_51 x w r51 15 here e k
+      step (st o p d e k false false 0 false false) (rec 15 b) _ (at_15 o d e k false false 0 false false b m) ∙ read_51 x w r51 15 here e k
 
   read_11 : (x : Prescriptions) → values_from 1 (rps x) ≡ true → (r51 r15 r11 : Option Details)
       → runs (st o 5 d false 0 false false 0 false false) (opt 11 r11 (opt 15 r15 (opt 51 r51 (prescriptions_records x (rest_records g rs)))))
@@ -200,7 +200,7 @@ only_701 (b ∷ bs) = step (hd false 701) (rec 701 b) _ refl ∙ only_701 bs
 last_read : (o : Bool) (d : ℕ) (zs : List Details) → Closes o d true to_end (any_of 701 zs [])
 last_read o d [] p m e k f i v u c = finish (st o p d e k f i v u c) ∙ at_end_lem o d e k f i v u c m ∙ sym (and-true (may_close o p e (eqb k 4) f i (eqb v 0) u))
 last_read o d (z ∷ zs) p m e k f i v u c =
-    step (st o p d e k f i v u c) (rec 701 z) _ (at-701 o d e k f i v u c z m)
+    step (st o p d e k f i v u c) (rec 701 z) _ (at_701 o d e k f i v u c z m)
     ∙ ap (λ x. may_close o p e (eqb k 4) f i (eqb v 0) u && x) (more_701 o d e k f i v u c zs)
 
 -- not newer is at most as new
@@ -246,12 +246,12 @@ groups_head : (o : Bool) (zs : List Details) (gs : List Group) → all_of values
     → runs (hd o p) (groups_records gs (any_of 701 zs [])) ≡ (one_stood o p && head_good o gs)
 groups_head o [] [] w p m =
     finish (hd o p) ∙ head_end o m ∙ ap (λ x. one_stood o p && x) (taut 1 (λ o. not o) (λ o. (o ⇒ false) && true) refl o)
-groups_head true (z ∷ zs) [] w p m = step (hd true p) (rec 701 z) _ (head-701 true z m)
+groups_head true (z ∷ zs) [] w p m = step (hd true p) (rec 701 z) _ (head_701 true z m)
 groups_head false (z ∷ zs) [] w p m =
-    step (hd false p) (rec 701 z) _ (head-701 false z m ∙ and-true (one_stood false p)) ∙ ap (λ x. one_stood false p && x) (only_701 zs)
+    step (hd false p) (rec 701 z) _ (head_701 false z m ∙ and-true (one_stood false p)) ∙ ap (λ x. one_stood false p && x) (only_701 zs)
 groups_head o zs (g ∷ gs) w p m =
     let w2 = both (values g) (all_of values gs) w in
-    step (hd o p) (rec 5 g.r5) _ (head-5 o g.r5 m)
+    step (hd o p) (rec 5 g.r5) _ (head_5 o g.r5 m)
     ∙ ap (λ x. one_stood o p && x)
     (group_read o g.r5.day (groups_good o g.r5.day gs) (groups_records gs (any_of 701 zs [])) (groups_read o zs gs w2.1 g.r5.day) g w2.0
     ∙ taut 2 (λ o x. x) (λ o x. (o ⇒ true) && x) refl o (first_good o (g ∷ gs)))
@@ -262,21 +262,21 @@ behind_head t = groups_records t.groups (any_of 701 t.r701s [])
 tree_read : (o : Bool) (t : Tree) → all_of values t.groups ≡ true → runs (hd o 0) (records t) ≡ ((o || stands t.r1) && head_good o t.groups)
 tree_read o t w = by t.r1
   where
-    from-4 : (p : ℕ) → In p head_places → runs (hd o p) (any_of 4 t.r4s (behind_head t)) ≡ (one_stood o p && head_good o t.groups)
-    from-4 = any_head o 4 _ (head_good o t.groups) _ refl (λ p m b l. step (hd o p) (rec 4 b) l (head-4 o b m)) (groups_head o t.r701s t.groups w)
+    from_4 : (p : ℕ) → In p head_places → runs (hd o p) (any_of 4 t.r4s (behind_head t)) ≡ (one_stood o p && head_good o t.groups)
+    from_4 = any_head o 4 _ (head_good o t.groups) _ refl (λ p m b l. step (hd o p) (rec 4 b) l (head_4 o b m)) (groups_head o t.r701s t.groups w)
         t.r4s
 
-    from-3 : (p : ℕ) → In p (3 ∷ 2 ∷ 1 ∷ 0 ∷ []) → runs (hd o p) (any_of 3 t.r3s (any_of 4 t.r4s (behind_head t))) ≡ (one_stood o p && head_good o t.groups)
-    from-3 = any_head o 3 _ (head_good o t.groups) _ refl (λ p m b l. step (hd o p) (rec 3 b) l (head-3 o b m)) (λ p m. from-4 p (there m)) t.r3s
+    from_3 : (p : ℕ) → In p (3 ∷ 2 ∷ 1 ∷ 0 ∷ []) → runs (hd o p) (any_of 3 t.r3s (any_of 4 t.r4s (behind_head t))) ≡ (one_stood o p && head_good o t.groups)
+    from_3 = any_head o 3 _ (head_good o t.groups) _ refl (λ p m b l. step (hd o p) (rec 3 b) l (head_3 o b m)) (λ p m. from_4 p (there m)) t.r3s
 
-    from-2 : (p : ℕ) → In p (2 ∷ 1 ∷ 0 ∷ [])
+    from_2 : (p : ℕ) → In p (2 ∷ 1 ∷ 0 ∷ [])
         → runs (hd o p) (any_of 2 t.r2s (any_of 3 t.r3s (any_of 4 t.r4s (behind_head t)))) ≡ (one_stood o p && head_good o t.groups)
-    from-2 = any_head o 2 _ (head_good o t.groups) _ refl (λ p m b l. step (hd o p) (rec 2 b) l (head-2 o b m)) (λ p m. from-3 p (there m)) t.r2s
+    from_2 = any_head o 2 _ (head_good o t.groups) _ refl (λ p m b l. step (hd o p) (rec 2 b) l (head_2 o b m)) (λ p m. from_3 p (there m)) t.r2s
 
     by : (r1 : Option Details)
         → runs (hd o 0) (opt 1 r1 (any_of 2 t.r2s (any_of 3 t.r3s (any_of 4 t.r4s (behind_head t))))) ≡ ((o || stands r1) && head_good o t.groups)
-    by none = from-2 0 (there (there here))
-    by (some b) = step (hd o 0) (rec 1 b) _ (head-1 o b here) ∙ from-2 1 (there here)
+    by none = from_2 0 (there (there here))
+    by (some b) = step (hd o 0) (rec 1 b) _ (head_1 o b here) ∙ from_2 1 (there here)
 
 -- ---- in the words of the grammar
 

@@ -15,7 +15,7 @@ use Rattle.grammar.specs.Grammar.{Details, Drug, Usage, Prescription, Later, rec
 use Rattle.grammar.specs.Grammar.{all_of, stands, ◌⇒◌, later_ones, name_asked, usage_named, all_named, valued, drug_valued, usage_valued, one_value, values_from, each301}
 use Rattle.verdict.proofs.Computed.{taut, In, here, there, every_at, among}
 use Rattle.verdict.proofs.Machine.{runs, step}
-use Rattle.verdict.proofs.Steps.{st, rp_places, drug_places, to401, treats, at-55, at_201, at-281, at-291, at_301, at-311, at-391}
+use Rattle.verdict.proofs.Steps.{st, rp_places, drug_places, to401, treats, at_55, at_201, at_281, at_291, at_301, at_311, at_391}
 
 -- any ns, none of which changes more than the place
 pub any_on : (Q : ℕ → List Facts → Bool) (n : ℕ) (xs : List ℕ) (g : Details → Bool) (W : Bool) (rs : List Facts)
@@ -49,7 +49,7 @@ module _ (o : Bool) (d : ℕ) (e : Bool) (k : ℕ) (f i : Bool) where
       → (p : ℕ) → In p rp_places → runs (st o p d e k f i v u c) (any_of 391 bs rs) ≡ ((o ⇒ u) && W)
   notes v u c W rs h bs g p m =
       any_on (λ p l. runs (st o p d e k f i v u c) l) 391 _ (valued v) ((o ⇒ u) && W) rs
-      (λ p m b l x. step (st o p d e k f i v u c) (rec 391 b) l (at-391 o d e k f i v u c b m ∙ x)) (λ p m. h p m u) bs g p m
+      (λ p m b l x. step (st o p d e k f i v u c) (rec 391 b) l (at_391 o d e k f i v u c b m ∙ x)) (λ p m. h p m u) bs g p m
 
   usage_read : (v : ℕ) (c W : Bool) (rs : List Facts) → Behind v c W rs → (y : Option Usage) → usage_valued v y ≡ true
       → (bs : List Details) → all_of (valued v) bs ≡ true → (p : ℕ) → In p drug_places
@@ -61,7 +61,7 @@ module _ (o : Bool) (d : ℕ) (e : Bool) (k : ℕ) (f i : Bool) where
       step (st o p d e k f i v false c) (rec 301 y.r301) _ (at_301 o d e k f i v false c y.r301 m ∙ ap (λ x. named && x) w2.0 ∙ and_same named)
       ∙ ap (λ x. named && x)
       (any_on (λ p l. runs (st o p d e k f i v true c) l) 311 _ (valued v) ((o ⇒ true) && W) (any_of 391 bs rs)
-      (λ p m b l x. step (st o p d e k f i v true c) (rec 311 b) l (at-311 o d e k f i v true c b m ∙ x))
+      (λ p m b l x. step (st o p d e k f i v true c) (rec 311 b) l (at_311 o d e k f i v true c b m ∙ x))
       (λ p m. notes v true c W rs h bs g p (among rp_places refl m))
       y.r311s w2.1 301 (there here))
 
@@ -71,9 +71,9 @@ module _ (o : Bool) (d : ℕ) (e : Bool) (k : ℕ) (f i : Bool) where
       → runs (st o 201 d e k f i v false c) (any_of 281 xs (any_of 291 bs rs)) ≡ W
   one_drug v c W rs h xs bs g g2 =
       any_on (λ p l. runs (st o p d e k f i v false c) l) 281 _ (valued v) W (any_of 291 bs rs)
-      (λ p m b l x. step (st o p d e k f i v false c) (rec 281 b) l (at-281 o d e k f i v false c b m ∙ x))
+      (λ p m b l x. step (st o p d e k f i v false c) (rec 281 b) l (at_281 o d e k f i v false c b m ∙ x))
       (λ p m. any_on (λ p l. runs (st o p d e k f i v false c) l) 291 _ (valued v) W rs
-      (λ p m b l x. step (st o p d e k f i v false c) (rec 291 b) l (at-291 o d e k f i v false c b m ∙ x)) h bs g2 p (there m))
+      (λ p m b l x. step (st o p d e k f i v false c) (rec 291 b) l (at_291 o d e k f i v false c b m ∙ x)) h bs g2 p (there m))
       xs g 201 (there here)
 
   more_drugs : (v : ℕ) (c W : Bool) (rs : List Facts) → ((p : ℕ) → In p drug_places → runs (st o p d e k f i v false c) rs ≡ W)
@@ -143,7 +143,7 @@ module _ (o : Bool) (d : ℕ) (e : Bool) (k : ℕ) (f i : Bool) where
       → runs (st o p d e k f i v u true) (opt 55 r (rp_records x rs)) ≡ ((o ⇒ u) && (usages (x ∷ ps) && W))
   under_55 x ps v u W rs t g h none p m = joined x ps v u true W rs g h p m
   under_55 x ps v u W rs t g h (some b) p m =
-      step (st o p d e k f i v u true) (rec 55 b) _ (at-55 o d e k f i v u true b (among to401 refl m))
+      step (st o p d e k f i v u true) (rec 55 b) _ (at_55 o d e k f i v u true b (among to401 refl m))
       ∙ ap (λ y. ((in_rp p ⇒ true) && (o ⇒ not (treats k) && not (in_rp p && not u))) && y) (rp_read v u true (usages ps && W) rs x g h 55 here)
       ∙ rw (in_rp_lem m) (so o u (treats k) (usage_named o k x.usage) (stands x.usage) (all_named o k ps) (each301 ps) t)
     where

@@ -172,9 +172,9 @@ module _ {p : ℕ} (o : Bool) (d : ℕ) (e : Bool) (k : ℕ) (f i : Bool) (v : �
         ∙ at_each 5 (λ p o y z u l. sound (lk o p y (treats k) z u c) (ask 5 (eqb b.rp v) (eqb b.rp (v + 1)) l b.named (material b)))
         (λ p o y z u l. may_close_by o p y u && not l) refl m o (lacks e (eqb k 4) f i (eqb v 0)) (eqb v 0) u (ltb d b.day)
 
-    pub at-701 : In p to_end → taken (st o p d e k f i v u c) (rec 701 b) ≡ may_close o p e (eqb k 4) f i (eqb v 0) u
+    pub at_701 : In p to_end → taken (st o p d e k f i v u c) (rec 701 b) ≡ may_close o p e (eqb k 4) f i (eqb v 0) u
     unfolding order_refusal pair_broken misplaced missing value_wrong newer_group may_follow in_group continues closes_rp lacking
-    at-701 m =
+    at_701 m =
         701-lacked o p e (eqb k 4) (treats k) f i (eqb v 0) u c (eqb b.rp v) (eqb b.rp (v + 1)) (ltb d b.day) b.named (material b)
         ∙ at_each 4 (λ p o y z u. sound (lk o p y (treats k) z u c) (asking 701 d v b)) (λ p o y z u. may_close_by o p y u) refl m
         o (lacks e (eqb k 4) f i (eqb v 0)) (eqb v 0) u
@@ -184,19 +184,19 @@ module _ {p : ℕ} (o : Bool) (d : ℕ) (e : Bool) (k : ℕ) (f i : Bool) (v : �
     unfolding order_refusal pair_broken misplaced missing value_wrong newer_group may_follow in_group continues closes_rp lacking
     at_11 m = at_each 1 (λ p o. sound (bf o p e (eqb k 4) (treats k) f i (eqb v 0) u c) (asking 11 d v b)) (λ p o. true) refl m o
 
-    pub at-15 : In p (11 ∷ 5 ∷ []) → taken (st o p d e k f i v u c) (rec 15 b) ≡ true
+    pub at_15 : In p (11 ∷ 5 ∷ []) → taken (st o p d e k f i v u c) (rec 15 b) ≡ true
     unfolding order_refusal pair_broken misplaced missing value_wrong newer_group may_follow in_group continues closes_rp lacking
-    at-15 m = at_each 1 (λ p o. sound (bf o p e (eqb k 4) (treats k) f i (eqb v 0) u c) (asking 15 d v b)) (λ p o. true) refl m o
+    at_15 m = at_each 1 (λ p o. sound (bf o p e (eqb k 4) (treats k) f i (eqb v 0) u c) (asking 15 d v b)) (λ p o. true) refl m o
 
-    pub at-51 : In p (15 ∷ 11 ∷ 5 ∷ []) → taken (st o p d e k f i v u c) (rec 51 b) ≡ (o ⇒ not (treats k))
+    pub at_51 : In p (15 ∷ 11 ∷ 5 ∷ []) → taken (st o p d e k f i v u c) (rec 51 b) ≡ (o ⇒ not (treats k))
     unfolding order_refusal pair_broken misplaced missing value_wrong newer_group may_follow in_group continues closes_rp lacking
-    at-51 m =
+    at_51 m =
         at_each 2 (λ p o t. sound (bf o p e (eqb k 4) t f i (eqb v 0) u c) (asking 51 d v b)) (λ p o t. o ⇒ not t) refl m
         o (treats k)
 
-    pub at-55 : In p to401 → taken (st o p d e k f i v u c) (rec 55 b) ≡ ((in_rp p ⇒ c) && (o ⇒ not (treats k) && not (in_rp p && not u)))
+    pub at_55 : In p to401 → taken (st o p d e k f i v u c) (rec 55 b) ≡ ((in_rp p ⇒ c) && (o ⇒ not (treats k) && not (in_rp p && not u)))
     unfolding order_refusal pair_broken misplaced missing value_wrong newer_group may_follow in_group continues closes_rp lacking
-    at-55 m =
+    at_55 m =
         at_each 4 (λ p o t u c. sound (bf o p e (eqb k 4) t f i (eqb v 0) u c) (asking 55 d v b))
         (λ p o t u c. (in_rp p ⇒ c) && (o ⇒ not t && not (in_rp p && not u))) refl m o (treats k) u c
 
@@ -228,25 +228,25 @@ module _ {p : ℕ} (o : Bool) (d : ℕ) (e : Bool) (k : ℕ) (f i : Bool) (v : �
           at_each 2 (λ p o s. sound (bf o p e (eqb k 4) (treats k) f i (eqb v 0) u c)
           (ask n s (eqb b.rp (v + 1)) (ltb d b.day) b.named (material b))) (λ p o s. s) w m o (eqb b.rp v)
 
-    pub at-281 : In p (281 ∷ 201 ∷ []) → taken (st o p d e k f i v u c) (rec 281 b) ≡ eqb b.rp v
+    pub at_281 : In p (281 ∷ 201 ∷ []) → taken (st o p d e k f i v u c) (rec 281 b) ≡ eqb b.rp v
     unfolding order_refusal pair_broken misplaced missing value_wrong newer_group may_follow in_group continues closes_rp lacking
-    at-281 = at_value 281 (281 ∷ 201 ∷ []) refl
+    at_281 = at_value 281 (281 ∷ 201 ∷ []) refl
 
-    pub at-291 : In p drug_places → taken (st o p d e k f i v u c) (rec 291 b) ≡ eqb b.rp v
+    pub at_291 : In p drug_places → taken (st o p d e k f i v u c) (rec 291 b) ≡ eqb b.rp v
     unfolding order_refusal pair_broken misplaced missing value_wrong newer_group may_follow in_group continues closes_rp lacking
-    at-291 = at_value 291 drug_places refl
+    at_291 = at_value 291 drug_places refl
 
-    pub at-311 : In p (311 ∷ 301 ∷ []) → taken (st o p d e k f i v u c) (rec 311 b) ≡ eqb b.rp v
+    pub at_311 : In p (311 ∷ 301 ∷ []) → taken (st o p d e k f i v u c) (rec 311 b) ≡ eqb b.rp v
     unfolding order_refusal pair_broken misplaced missing value_wrong newer_group may_follow in_group continues closes_rp lacking
-    at-311 = at_value 311 (311 ∷ 301 ∷ []) refl
+    at_311 = at_value 311 (311 ∷ 301 ∷ []) refl
 
-    pub at-391 : In p rp_places → taken (st o p d e k f i v u c) (rec 391 b) ≡ eqb b.rp v
+    pub at_391 : In p rp_places → taken (st o p d e k f i v u c) (rec 391 b) ≡ eqb b.rp v
     unfolding order_refusal pair_broken misplaced missing value_wrong newer_group may_follow in_group continues closes_rp lacking
-    at-391 = at_value 391 rp_places refl
+    at_391 = at_value 391 rp_places refl
 
-    pub at-401 : In p to411 → taken (st o p d e k f i v u c) (rec 401 b) ≡ (rp_over o p u && (o ⇒ not (eqb v 0)))
+    pub at_401 : In p to411 → taken (st o p d e k f i v u c) (rec 401 b) ≡ (rp_over o p u && (o ⇒ not (eqb v 0)))
     unfolding order_refusal pair_broken misplaced missing value_wrong newer_group may_follow in_group continues closes_rp lacking
-    at-401 m =
+    at_401 m =
         at_each 3 (λ p o z u. sound (bf o p e (eqb k 4) (treats k) f i z u c) (asking 401 d v b))
         (λ p o z u. rp_over o p u && (o ⇒ not z)) refl m o (eqb v 0) u
 
@@ -257,17 +257,17 @@ module _ {p : ℕ} (o : Bool) (d : ℕ) (e : Bool) (k : ℕ) (f i : Bool) (v : �
       at_rest w m =
           at_each 2 (λ p o u. sound (bf o p e (eqb k 4) (treats k) f i (eqb v 0) u c) (asking n d v b)) (λ p o u. rp_over o p u) w m o u
 
-    pub at-411 : In p to501 → taken (st o p d e k f i v u c) (rec 411 b) ≡ rp_over o p u
+    pub at_411 : In p to501 → taken (st o p d e k f i v u c) (rec 411 b) ≡ rp_over o p u
     unfolding order_refusal pair_broken misplaced missing value_wrong newer_group may_follow in_group continues closes_rp lacking
-    at-411 = at_rest 411 to501 refl
+    at_411 = at_rest 411 to501 refl
 
-    pub at-501 : In p to601 → taken (st o p d e k f i v u c) (rec 501 b) ≡ rp_over o p u
+    pub at_501 : In p to601 → taken (st o p d e k f i v u c) (rec 501 b) ≡ rp_over o p u
     unfolding order_refusal pair_broken misplaced missing value_wrong newer_group may_follow in_group continues closes_rp lacking
-    at-501 = at_rest 501 to601 refl
+    at_501 = at_rest 501 to601 refl
 
-    pub at-601 : In p to_end → taken (st o p d e k f i v u c) (rec 601 b) ≡ rp_over o p u
+    pub at_601 : In p to_end → taken (st o p d e k f i v u c) (rec 601 b) ≡ rp_over o p u
     unfolding order_refusal pair_broken misplaced missing value_wrong newer_group may_follow in_group continues closes_rp lacking
-    at-601 = at_rest 601 to_end refl
+    at_601 = at_rest 601 to_end refl
 
 -- ---- before the groups, and after them
 
@@ -286,27 +286,27 @@ module _ {p : ℕ} (o : Bool) where
       at_head : every (λ p. agree 1 (λ o. taken (hd o p) (rec n b)) (λ o. one_stood o p)) xs ≡ true → In p xs → taken (hd o p) (rec n b) ≡ one_stood o p
       at_head w m = at_each 1 (λ p o. taken (hd o p) (rec n b)) (λ p o. one_stood o p) w m o
 
-    pub head-2 : In p (2 ∷ 1 ∷ 0 ∷ []) → taken (hd o p) (rec 2 b) ≡ one_stood o p
+    pub head_2 : In p (2 ∷ 1 ∷ 0 ∷ []) → taken (hd o p) (rec 2 b) ≡ one_stood o p
     unfolding order_refusal pair_broken misplaced missing value_wrong newer_group may_follow in_group continues closes_rp lacking
-    head-2 = at_head 2 (2 ∷ 1 ∷ 0 ∷ []) refl
+    head_2 = at_head 2 (2 ∷ 1 ∷ 0 ∷ []) refl
 
-    pub head-3 : In p (3 ∷ 2 ∷ 1 ∷ 0 ∷ []) → taken (hd o p) (rec 3 b) ≡ one_stood o p
+    pub head_3 : In p (3 ∷ 2 ∷ 1 ∷ 0 ∷ []) → taken (hd o p) (rec 3 b) ≡ one_stood o p
     unfolding order_refusal pair_broken misplaced missing value_wrong newer_group may_follow in_group continues closes_rp lacking
-    head-3 = at_head 3 (3 ∷ 2 ∷ 1 ∷ 0 ∷ []) refl
+    head_3 = at_head 3 (3 ∷ 2 ∷ 1 ∷ 0 ∷ []) refl
 
-    pub head-4 : In p head_places → taken (hd o p) (rec 4 b) ≡ one_stood o p
+    pub head_4 : In p head_places → taken (hd o p) (rec 4 b) ≡ one_stood o p
     unfolding order_refusal pair_broken misplaced missing value_wrong newer_group may_follow in_group continues closes_rp lacking
-    head-4 = at_head 4 head_places refl
+    head_4 = at_head 4 head_places refl
 
-    pub head-5 : In p head_places → taken (hd o p) (rec 5 b) ≡ one_stood o p
+    pub head_5 : In p head_places → taken (hd o p) (rec 5 b) ≡ one_stood o p
     unfolding order_refusal pair_broken misplaced missing value_wrong newer_group may_follow in_group continues closes_rp lacking
-    head-5 = at_head 5 head_places refl
+    head_5 = at_head 5 head_places refl
 
-    pub head-1 : In p (0 ∷ []) → taken (hd o p) (rec 1 b) ≡ true
+    pub head_1 : In p (0 ∷ []) → taken (hd o p) (rec 1 b) ≡ true
     unfolding order_refusal pair_broken misplaced missing value_wrong newer_group may_follow in_group continues closes_rp lacking
-    head-1 m = at_each 1 (λ p o. taken (hd o p) (rec 1 b)) (λ p o. true) refl m o
+    head_1 m = at_each 1 (λ p o. taken (hd o p) (rec 1 b)) (λ p o. true) refl m o
 
     -- a 701 before any group
-    pub head-701 : In p head_places → taken (hd o p) (rec 701 b) ≡ (one_stood o p && not o)
+    pub head_701 : In p head_places → taken (hd o p) (rec 701 b) ≡ (one_stood o p && not o)
     unfolding order_refusal pair_broken misplaced missing value_wrong newer_group may_follow in_group continues closes_rp lacking
-    head-701 m = at_each 1 (λ p o. taken (hd o p) (rec 701 b)) (λ p o. one_stood o p && not o) refl m o
+    head_701 m = at_each 1 (λ p o. taken (hd o p) (rec 701 b)) (λ p o. one_stood o p && not o) refl m o

@@ -1,6 +1,6 @@
 use borrow.Author.Rules.{rules}
 use native.Mathlib.Omega.{arith}
-use Rattle.answers.proofs.Lines.{none_wrote, one-wrote, two-wrote, three-wrote}
+use Rattle.answers.proofs.Lines.{none_wrote, one_wrote, two_wrote, three_wrote}
 use Rattle.answers.proofs.put_numbers.Statement.{statement}
 use Rattle.answers.proofs.put_numbers.Tie as tie
 use Rattle.answers.proofs.put_numbers.Reads as reads
@@ -21,7 +21,7 @@ same_length c = search rules
 returns-2 : tie.Need-returns-2
 returns-2 c =
     let s = c.before.before.before.before.before.before.before.args in
-    (one-wrote s.a s.b s.c c.before.before.before.put-number.ensures.0 s.count (omega arith) (omega arith), search rules)
+    (one_wrote s.a s.b s.c c.before.before.before.put-number.ensures.0 s.count (omega arith) (omega arith), search rules)
 
 put-number-requires-2 : tie.Need-put-number-requires-2
 put-number-requires-2 c κs = search rules
@@ -32,7 +32,7 @@ same-length-2 c = search rules
 returns-3 : tie.Need-returns-3
 returns-3 c =
     let s = c.before.before.before.before.before.before.before.before.before.before.before.before.args in (
-      two-wrote s.a s.b s.c c.before.before.before.before.before.before.before.before.put-number.ensures.0
+      two_wrote s.a s.b s.c c.before.before.before.before.before.before.before.before.put-number.ensures.0
           c.before.before.before.put-number2.ensures.0 s.count (omega arith) (omega arith),
       search rules,
     )
@@ -46,7 +46,7 @@ same-length-3 c = search rules
 returns-4 : tie.Need-returns-4
 returns-4 c =
     let s = c.before.before.before.before.before.before.before.before.before.before.before.before.before.before.before.before.args in (
-      three-wrote s.a s.b s.c
+      three_wrote s.a s.b s.c
           c.before.before.before.before.before.before.before.before.before.before.before.before.put-number.ensures.0
           c.before.before.before.before.before.before.before.put-number2.ensures.0 s.count (omega arith)
           c.before.before.put-number3.ensures.0,

@@ -1,18 +1,16 @@
 use Rattle.std.proofs.Common.{rules}
 use Rattle.eras.specs.Day.{leap}
+use borrow.Author.Tests.{eq-eqb, ne_eqb}
 use Rattle.calendar.proofs.is_leap.Goals as goal
 
--- OLD: simp (eq-eqb _ _ c.before.if1.true, ne_eqb _ _ c.if2.true)
 pub returns-then-y-ne0 : goal.returns-then-y-ne0
 unfolding leap
-returns-then-y-ne0 c = search rules
+returns-then-y-ne0 c = simp (eq-eqb _ _ c.if-y-eq0.true, ne_eqb _ _ c.if-y-ne0.true)
 
--- OLD: simp (eq-eqb _ _ c.before.if1.true, eq-eqb _ _ c.if2.false)
 pub returns-else-y-ne0 : goal.returns-else-y-ne0
 unfolding leap
-returns-else-y-ne0 c = search rules
+returns-else-y-ne0 c = simp (eq-eqb _ _ c.if-y-eq0.true, eq-eqb _ _ c.if-y-ne0.false)
 
--- OLD: simp (ne_eqb _ _ c.if1.false)
 pub returns-else-y-eq0 : goal.returns-else-y-eq0
 unfolding leap
-returns-else-y-eq0 c = search rules
+returns-else-y-eq0 c = simp (ne_eqb _ _ c.if-y-eq0.false)

@@ -1,6 +1,6 @@
 use borrow.Author.Rules.{rules}
-use Rattle.checking.proofs.OpenLaws.{zeros_size, opening-behind}
-use Rattle.canonical.proofs.WholeLaws.{into_laws, into-room}
+use Rattle.checking.proofs.OpenLaws.{zeros_size, opening_behind}
+use Rattle.canonical.proofs.WholeLaws.{into_laws, into_room}
 use Rattle.canonical.proofs.canonical_into.Statement.{statement}
 use Rattle.canonical.proofs.canonical_into.Tie as tie
 use Rattle.canonical.proofs.canonical_into.Reads as reads
@@ -22,7 +22,7 @@ item-codes-requires : tie.Need-item-codes-requires
 item-codes-requires c κs = search rules
 
 write-records-requires : tie.Need-write-records-requires
-write-records-requires c κs = (search rules, (search (rules, zeros_size), (search (rules, opening-behind), search (rules, into-room))))
+write-records-requires c κs = (search rules, (search (rules, zeros_size), (search (rules, opening_behind), search (rules, into_room))))
 
 returns : tie.Need-returns
 returns c = search (rules, into_laws)

@@ -1,5 +1,5 @@
 use borrow.Author.Rules.{rules}
-use Rattle.canonical.proofs.FileLaws.{finish_laws, finish-small}
+use Rattle.canonical.proofs.FileLaws.{finish_laws, finish_small}
 use Rattle.canonical.proofs.finish.Statement.{statement}
 use Rattle.canonical.proofs.finish.Tie as tie
 use Rattle.canonical.proofs.finish.Reads as reads
@@ -20,7 +20,7 @@ put-all-requires : tie.Need-put-all-requires
 put-all-requires c κs = search (rules, finish_laws)
 
 close-requires : tie.Need-close-requires
-close-requires c κs = (search rules, search (rules, finish-small))
+close-requires c κs = (search rules, search (rules, finish_small))
 
 same_length : tie.Need-same-length
 same_length c = search rules

@@ -1,5 +1,5 @@
 use borrow.Author.Rules.{rules}
-use Rattle.canonical.proofs.PassLaws.{pass_laws, pass-lies, pass-spellable, pass-ready}
+use Rattle.canonical.proofs.PassLaws.{pass_laws, pass_lies, pass_spellable, pass_ready}
 use Rattle.canonical.proofs.pass_item.Statement.{statement}
 use Rattle.canonical.proofs.pass_item.Tie as tie
 use Rattle.canonical.proofs.pass_item.Reads as reads
@@ -18,7 +18,7 @@ returns : tie.Need-returns
 returns c = search (rules, pass_laws)
 
 respell-requires : tie.Need-respell-requires
-respell-requires c κs = (search (rules, pass-lies), (search (rules, pass-spellable), search (rules, pass-ready)))
+respell-requires c κs = (search (rules, pass_lies), (search (rules, pass_spellable), search (rules, pass_ready)))
 
 same_length : tie.Need-same-length
 same_length c = search rules

@@ -1,6 +1,6 @@
 use borrow.Author.Rules.{rules}
 use Rattle.codes.specs.Codes.{place_of}
-use Rattle.canonical.proofs.LineLaws.{Spotting, spotting_laws, spotting-item, spotting-spellable, spotting-ready}
+use Rattle.canonical.proofs.LineLaws.{Spotting, spotting_laws, spotting_item, spotting_spellable, spotting_ready}
 use Rattle.canonical.proofs.put_items.Statement.{statement}
 use Rattle.canonical.proofs.put_items.Tie as tie
 use Rattle.canonical.proofs.put_items.Reads as reads
@@ -21,7 +21,7 @@ loop-holds : tie.Need-loop-init invariant-loop decreases-loop
 loop-holds c = search (rules, spotting_laws)
 
 pass-item-requires : tie.Need-pass-item-requires invariant-loop decreases-loop
-pass-item-requires c κs = (search rules, (search (rules, spotting-item), (search (rules, spotting-spellable), search (rules, spotting-ready))))
+pass-item-requires c κs = (search rules, (search (rules, spotting_item), (search (rules, spotting_spellable), search (rules, spotting_ready))))
 
 loop-less : tie.Need-loop-smaller invariant-loop decreases-loop
 loop-less c = search (rules, spotting_laws)

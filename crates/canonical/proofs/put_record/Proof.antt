@@ -1,5 +1,5 @@
 use borrow.Author.Rules.{rules}
-use Rattle.canonical.proofs.LineLaws.{record_laws, record-items, record-line, record-ready}
+use Rattle.canonical.proofs.LineLaws.{record_laws, record_items, record_line, record_ready}
 use Rattle.canonical.proofs.put_record.Statement.{statement}
 use Rattle.canonical.proofs.put_record.Tie as tie
 use Rattle.canonical.proofs.put_record.Reads as reads
@@ -7,7 +7,7 @@ use Rattle.canonical.proofs.put_record.Lts as lts
 use Rattle.canonical.proofs.put_items.Reads as put_items_reads
 
 put-items-requires : tie.Need-put-items-requires
-put-items-requires c κs = (search (rules, record-line), (search (rules, record-items), search (rules, record-ready)))
+put-items-requires c κs = (search (rules, record_line), (search (rules, record_items), search (rules, record_ready)))
 
 same_length : tie.Need-same-length
 same_length c = search rules

@@ -1,5 +1,5 @@
 use borrow.Author.Rules.{rules}
-use Rattle.canonical.proofs.RunLaws.{respell_laws, respell-item-room}
+use Rattle.canonical.proofs.RunLaws.{respell_laws, respell_item_room}
 use Rattle.canonical.proofs.respell.Statement.{statement}
 use Rattle.canonical.proofs.respell.Tie as tie
 use Rattle.canonical.proofs.respell.Reads as reads
@@ -42,7 +42,7 @@ part-put-item-end : tie.Need-slice-bounds-put-item-end
 part-put-item-end c = search rules
 
 put-item-requires : tie.Need-put-item-requires
-put-item-requires c κs = (search rules, search (rules, respell-item-room))
+put-item-requires c κs = (search rules, search (rules, respell_item_room))
 
 same_length : tie.Need-same-length
 same_length c = search rules

@@ -2,8 +2,8 @@ use borrow.Author.Rules.{rules}
 use Prim.Native.Nat.{◌-◌}
 use lib.ListN.{length}
 use Rattle.scanning.specs.Scans.{Sixteen}
-use Rattle.checking.proofs.TurnLaws.{turn_size, turn-commas, turn-places}
-use Rattle.canonical.proofs.FileLaws.{Running, running_laws, running_countable, running_closing, running_inside, running_ready, running_reach, running-ended, running-sound, running-room}
+use Rattle.checking.proofs.TurnLaws.{turn_size, turn_commas, turn_places}
+use Rattle.canonical.proofs.FileLaws.{Running, running_laws, running_countable, running_closing, running_inside, running_ready, running_reach, running_ended, running_sound, running_room}
 use Rattle.canonical.proofs.write_records.Statement.{statement}
 use Rattle.canonical.proofs.write_records.Tie as tie
 use Rattle.canonical.proofs.write_records.Reads as reads
@@ -56,7 +56,7 @@ enum-known-after : tie.Need-enum-known-after invariant-loop decreases-loop
 enum-known-after c = search (rules, running_laws)
 
 put-record-requires : tie.Need-put-record-requires invariant-loop decreases-loop
-put-record-requires c κs = (search (rules, running-ended), (search (rules, turn-commas), (search (rules, turn-places), (search (rules, turn_size), (search (rules, running-sound), search (rules, running-room))))))
+put-record-requires c κs = (search (rules, running_ended), (search (rules, turn_commas), (search (rules, turn_places), (search (rules, turn_size), (search (rules, running_sound), search (rules, running_room))))))
 
 add_at : tie.Need-overflow-add-at invariant-loop decreases-loop
 add_at c = search (rules, running_laws)

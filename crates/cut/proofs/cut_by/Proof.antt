@@ -1,5 +1,5 @@
 use borrow.Author.Rules.{rules}
-use Rattle.cut.proofs.FileLaws.{cut-given, cut_laws}
+use Rattle.cut.proofs.FileLaws.{cut_given, cut_laws}
 use Rattle.cut.proofs.cut_by.Statement.{statement}
 use Rattle.cut.proofs.cut_by.Tie as tie
 use Rattle.cut.proofs.cut_by.Reads as reads
@@ -49,7 +49,7 @@ part-cut-bytes-end : tie.Need-slice-bounds-cut-bytes-end
 part-cut-bytes-end c = search (rules, cut_laws)
 
 cut-bytes-requires : tie.Need-cut-bytes-requires
-cut-bytes-requires c κs = search (rules, cut-given)
+cut-bytes-requires c κs = search (rules, cut_given)
 
 same-length-3 : tie.Need-same-length-3
 same-length-3 c = search rules

@@ -1,5 +1,5 @@
 use borrow.Author.Rules.{rules}
-use Rattle.index.proofs.FileLaws.{last_laws, last_written, full-onward, full-less, full-refused, full-room, full-written, onward_midway, onward_line}
+use Rattle.index.proofs.FileLaws.{last_laws, last_written, full_onward, full_less, full_refused, full_room, full_written, onward_midway, onward_line}
 use mathlib.Core.Path.{refl, subst}
 use lib.ListN.{length}
 use Prim.Native.Nat.{ℕ, ◌-◌, ◌<◌}
@@ -81,7 +81,7 @@ index-on-enum-known-after : (t : ℕ) → index_on_lts.Need-enum-known-after (cl
 index-on-enum-known-after t c = search rules
 
 index-on-index-on-requires : (t : ℕ) → index_on_lts.Need-index-on-requires (claims t) (index-on-at t) index_on.Post
-index-on-index-on-requires t c κs = let p = c.before.before.before.before.before.before.before.before.before.before.before.requires in let w = c.before.before.before.before.before.before.read-batch.ensures in let q = c.before.before.before.after.given.1 in (subst (λ (j : ℕ). length c.before.before.before.before.before.before.before.before.before.before.before.args.s.now - c.before.before.before.after.given.0.1.1.0 < j) p.0 (full-less p.1.1.1 w.0 q), (p.1.0, (w.1, full-onward p.1.1.1 w.0 q)))
+index-on-index-on-requires t c κs = let p = c.before.before.before.before.before.before.before.before.before.before.before.requires in let w = c.before.before.before.before.before.before.read-batch.ensures in let q = c.before.before.before.after.given.1 in (subst (λ (j : ℕ). length c.before.before.before.before.before.before.before.before.before.before.before.args.s.now - c.before.before.before.after.given.0.1.1.0 < j) p.0 (full_less p.1.1.1 w.0 q), (p.1.0, (w.1, full_onward p.1.1.1 w.0 q)))
 
 index-on-enum-known-number : (t : ℕ) → index_on_lts.Need-enum-known-number (claims t) (index-on-at t) index_on.Post
 index-on-enum-known-number t c = search rules
@@ -102,7 +102,7 @@ index-on-slice-aggregate-copy-numbers : (t : ℕ) → index_on_lts.Need-slice-ag
 index-on-slice-aggregate-copy-numbers t c = search rules
 
 index-on-copy-numbers-requires-2 : (t : ℕ) → index_on_lts.Need-copy-numbers-requires-2 (claims t) (index-on-at t) index_on.Post
-index-on-copy-numbers-requires-2 t c κs = full-room c.before.before.before.before.before.before.before.before.before.before.before.before.before.before.before.before.before.before.before.before.requires.1.1.1 c.before.before.before.before.before.before.before.before.before.before.before.before.before.before.before.read-batch.ensures.0 c.before.before.before.before.before.before.before.before.before.before.before.before.after.given.1 c.before.before.before.before.before.before.before.before.index_on.ensures c.before.before.before.before.records.given.1
+index-on-copy-numbers-requires-2 t c κs = full_room c.before.before.before.before.before.before.before.before.before.before.before.before.before.before.before.before.before.before.before.before.requires.1.1.1 c.before.before.before.before.before.before.before.before.before.before.before.before.before.before.before.read-batch.ensures.0 c.before.before.before.before.before.before.before.before.before.before.before.before.after.given.1 c.before.before.before.before.before.before.before.before.index_on.ensures c.before.before.before.before.records.given.1
 
 index-on-returns-2 : (t : ℕ) → index_on_lts.Need-returns-2 (claims t) (index-on-at t) index_on.Post
 index-on-returns-2 t c = search (rules, last_laws)
@@ -117,13 +117,13 @@ index-on-same-length-2 : (t : ℕ) → index_on_lts.Need-same-length-2 (claims t
 index-on-same-length-2 t c = search rules
 
 index-on-returns-4 : (t : ℕ) → index_on_lts.Need-returns-4 (claims t) (index-on-at t) index_on.Post
-index-on-returns-4 t c = full-refused c.before.before.before.before.before.before.before.before.before.before.before.before.before.before.before.before.before.requires.1.1.1 c.before.before.before.before.before.before.before.before.before.before.before.before.read-batch.ensures.0 c.before.before.before.before.before.before.before.before.before.after.given.1 c.before.before.before.before.before.index_on.ensures c.before.number.given.1
+index-on-returns-4 t c = full_refused c.before.before.before.before.before.before.before.before.before.before.before.before.before.before.before.before.before.requires.1.1.1 c.before.before.before.before.before.before.before.before.before.before.before.before.read-batch.ensures.0 c.before.before.before.before.before.before.before.before.before.after.given.1 c.before.before.before.before.before.index_on.ensures c.before.number.given.1
 
 index-on-same-length-3 : (t : ℕ) → index_on_lts.Need-same-length-3 (claims t) (index-on-at t) index_on.Post
 index-on-same-length-3 t c = search rules
 
 index-on-returns-5 : (t : ℕ) → index_on_lts.Need-returns-5 (claims t) (index-on-at t) index_on.Post
-index-on-returns-5 t c = full-written c.before.before.before.before.before.before.before.before.before.before.before.before.before.before.before.before.before.before.before.before.before.before.before.requires.1.1.1 c.before.before.before.before.before.before.before.before.before.before.before.before.before.before.before.before.before.before.read-batch.ensures.0 c.before.before.before.before.before.before.before.before.before.before.before.before.before.before.before.after.given.1 c.before.before.before.before.before.before.before.before.before.before.before.index_on.ensures c.before.before.before.before.before.before.before.records.given.1 c.before.before.copy-numbers2.ensures
+index-on-returns-5 t c = full_written c.before.before.before.before.before.before.before.before.before.before.before.before.before.before.before.before.before.before.before.before.before.before.before.requires.1.1.1 c.before.before.before.before.before.before.before.before.before.before.before.before.before.before.before.before.before.before.read-batch.ensures.0 c.before.before.before.before.before.before.before.before.before.before.before.before.before.before.before.after.given.1 c.before.before.before.before.before.before.before.before.before.before.before.index_on.ensures c.before.before.before.before.before.before.before.records.given.1 c.before.before.copy-numbers2.ensures
 
 pub +index-on-spec : {M : Type 1} → statement M
 +index-on-spec = close μ-index-on λ t. index_on_lts.spec (claims t)

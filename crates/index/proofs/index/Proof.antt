@@ -1,6 +1,6 @@
 use borrow.Author.Rules.{rules}
 use Rattle.checking.proofs.OpenLaws.{zeros_size}
-use Rattle.index.proofs.FileLaws.{index_unopened, index-begins, index-whole}
+use Rattle.index.proofs.FileLaws.{index_unopened, index_begins, index_whole}
 use Rattle.index.proofs.index.Statement.{statement}
 use Rattle.index.proofs.index.Tie as tie
 use Rattle.index.proofs.index.Reads as reads
@@ -26,7 +26,7 @@ new-requires : tie.Need-new-requires
 new-requires c κs = search rules
 
 index-on-requires : tie.Need-index-on-requires
-index-on-requires c κs = search (rules, zeros_size, index-begins)
+index-on-requires c κs = search (rules, zeros_size, index_begins)
 
 returns : tie.Need-returns
 returns c = search (rules, index_unopened)
@@ -35,7 +35,7 @@ same_length : tie.Need-same-length
 same_length c = search rules
 
 returns-2 : tie.Need-returns-2
-returns-2 c = search (rules, index-whole)
+returns-2 c = search (rules, index_whole)
 
 pub index-spec : {M : Type 1} → statement M
 index-spec =

@@ -1,7 +1,7 @@
 use borrow.Author.Rules.{rules}
 use Prim.Native.Nat.{◌-◌}
 use lib.ListN.{length}
-use Rattle.join.proofs.JoinLaws.{set_laws, set_given, set-done}
+use Rattle.join.proofs.JoinLaws.{set_laws, set_given, set_done}
 use Rattle.join.proofs.join_listed.Statement.{statement}
 use Rattle.join.proofs.join_listed.Tie as tie
 use Rattle.join.proofs.join_listed.Reads as reads
@@ -59,7 +59,7 @@ same-length-7 : tie.Need-same-length-7
 same-length-7 c = search rules
 
 returns-2 : tie.Need-returns-2
-returns-2 c = set-done c.before.before.before.before.before.before.before.before.before.before.before.before.before.before.before.before.before.before.before.before.before.before.before.before.before.before.before.before.before.before.before.before.before.before.requires c.before.before.before.before.before.before.before.before.before.before.before.before.before.before.collect.ensures c.before.before.before.before.before.before.before.if1.false c.before.before.join-found.ensures
+returns-2 c = set_done c.before.before.before.before.before.before.before.before.before.before.before.before.before.before.before.before.before.before.before.before.before.before.before.before.before.before.before.before.before.before.before.before.before.before.requires c.before.before.before.before.before.before.before.before.before.before.before.before.before.before.collect.ensures c.before.before.before.before.before.before.before.if1.false c.before.before.join-found.ensures
 
 pub join-listed-spec : {M : Type 1} → statement M
 join-listed-spec =

@@ -1,5 +1,5 @@
 use borrow.Author.Rules.{rules}
-use Rattle.lines.proofs.FindLaws.{slow_laws, slow-commas, slow-places, slow-size}
+use Rattle.lines.proofs.FindLaws.{slow_laws, slow_commas, slow_places, slow_size}
 use Rattle.lines.proofs.slow_line.Statement.{statement}
 use Rattle.lines.proofs.slow_line.Tie as tie
 use Rattle.lines.proofs.slow_line.Reads as reads
@@ -36,7 +36,7 @@ part-number-of-end : tie.Need-slice-bounds-number-of-end
 part-number-of-end c = search (rules, slow_laws)
 
 number-of-requires : tie.Need-number-of-requires
-number-of-requires c κs = (search rules, (search (rules, slow-commas), (search (rules, slow-places), search (rules, slow-size))))
+number-of-requires c κs = (search rules, (search (rules, slow_commas), (search (rules, slow_places), search (rules, slow_size))))
 
 wide-requires : tie.Need-wide-requires
 wide-requires c κs = search rules

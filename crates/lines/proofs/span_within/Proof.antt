@@ -1,5 +1,5 @@
 use borrow.Author.Rules.{rules}
-use Rattle.lines.proofs.SplitLaws.{span_laws, front-inside}
+use Rattle.lines.proofs.SplitLaws.{span_laws, front_inside}
 use native.Mathlib.Omega.{arith}
 use Rattle.lines.proofs.span_within.Statement.{statement}
 use Rattle.lines.proofs.span_within.Tie as tie
@@ -16,7 +16,7 @@ element-copy-out-from : tie.Need-element-copy-out-from
 element-copy-out-from c = search rules
 
 add-from : tie.Need-overflow-add-from
-add-from c = omega (arith, front-inside c.before.requires.0 c.before.args.j c.before.requires.1.0 c.before.requires.1.1)
+add-from c = omega (arith, front_inside c.before.requires.0 c.before.args.j c.before.requires.1.0 c.before.requires.1.1)
 
 mul-to : tie.Need-overflow-mul-to
 mul-to c = search rules

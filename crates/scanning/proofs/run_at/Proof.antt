@@ -3,7 +3,7 @@ use Prim.Native.Nat.{◌-◌}
 use lib.ListN.{length}
 use Prim.Native.Nat.{◌-◌}
 use lib.ListN.{length}
-use Rattle.scanning.proofs.RunLaws.{Running, run_laws, running_run, running_counted, running-one, running-hiragana, running-katakana, running-either, running-other, running-bad, running_end, last_ready}
+use Rattle.scanning.proofs.RunLaws.{Running, run_laws, running_run, running_counted, running_one, running_hiragana, running_katakana, running_either, running_other, running_bad, running_end, last_ready}
 use Rattle.scanning.proofs.run_at.Statement.{statement}
 use Rattle.scanning.proofs.run_at.Tie as tie
 use Rattle.scanning.proofs.run_at.Reads as reads
@@ -54,7 +54,7 @@ loop-less : tie.Need-loop-smaller invariant-loop decreases-loop
 loop-less c = search (rules, run_laws)
 
 loop-again : tie.Need-loop-preserved invariant-loop decreases-loop
-loop-again c = running-one c.before.before.before.before.before.before.before.loop.invariant c.before.before.before.before.before.before.loop-test.true c.before.before.before.Char-of.ensures c.before.enum_told.given.1 c.if2.false
+loop-again c = running_one c.before.before.before.before.before.before.before.loop.invariant c.before.before.before.before.before.before.loop-test.true c.before.before.before.Char-of.ensures c.before.enum_told.given.1 c.if2.false
 
 enum-told-2 : tie.Need-enum-told-2 invariant-loop decreases-loop
 enum-told-2 c = search (rules, run_laws)
@@ -69,7 +69,7 @@ loop-less-2 : tie.Need-loop-smaller-2 invariant-loop decreases-loop
 loop-less-2 c = search (rules, run_laws)
 
 loop-again-2 : tie.Need-loop-preserved-2 invariant-loop decreases-loop
-loop-again-2 c = running-hiragana c.before.before.before.before.before.before.loop.invariant c.before.before.before.before.before.loop-test.true c.before.before.Char-of.ensures c.enum-told2.given.1
+loop-again-2 c = running_hiragana c.before.before.before.before.before.before.loop.invariant c.before.before.before.before.before.loop-test.true c.before.before.Char-of.ensures c.enum-told2.given.1
 
 enum-told-3 : tie.Need-enum-told-3 invariant-loop decreases-loop
 enum-told-3 c = search (rules, run_laws)
@@ -84,7 +84,7 @@ loop-less-3 : tie.Need-loop-smaller-3 invariant-loop decreases-loop
 loop-less-3 c = search (rules, run_laws)
 
 loop-again-3 : tie.Need-loop-preserved-3 invariant-loop decreases-loop
-loop-again-3 c = running-katakana c.before.before.before.before.before.before.loop.invariant c.before.before.before.before.before.loop-test.true c.before.before.Char-of.ensures c.enum-told3.given.1
+loop-again-3 c = running_katakana c.before.before.before.before.before.before.loop.invariant c.before.before.before.before.before.loop-test.true c.before.before.Char-of.ensures c.enum-told3.given.1
 
 enum-told-4 : tie.Need-enum-told-4 invariant-loop decreases-loop
 enum-told-4 c = search (rules, run_laws)
@@ -99,7 +99,7 @@ loop-less-4 : tie.Need-loop-smaller-4 invariant-loop decreases-loop
 loop-less-4 c = search (rules, run_laws)
 
 loop-again-4 : tie.Need-loop-preserved-4 invariant-loop decreases-loop
-loop-again-4 c = running-either c.before.before.before.before.before.before.loop.invariant c.before.before.before.before.before.loop-test.true c.before.before.Char-of.ensures c.enum-told4.given.1
+loop-again-4 c = running_either c.before.before.before.before.before.before.loop.invariant c.before.before.before.before.before.loop-test.true c.before.before.Char-of.ensures c.enum-told4.given.1
 
 enum-told-5 : tie.Need-enum-told-5 invariant-loop decreases-loop
 enum-told-5 c = search (rules, run_laws)
@@ -111,13 +111,13 @@ loop-less-5 : tie.Need-loop-smaller-5 invariant-loop decreases-loop
 loop-less-5 c = search (rules, run_laws)
 
 loop-again-5 : tie.Need-loop-preserved-5 invariant-loop decreases-loop
-loop-again-5 c = running-other c.before.before.before.before.before.before.loop.invariant c.before.before.before.before.before.loop-test.true c.before.before.Char-of.ensures c.enum-told5.given.1
+loop-again-5 c = running_other c.before.before.before.before.before.before.loop.invariant c.before.before.before.before.before.loop-test.true c.before.before.Char-of.ensures c.enum-told5.given.1
 
 enum-told-6 : tie.Need-enum-told-6 invariant-loop decreases-loop
 enum-told-6 c = search (rules, run_laws)
 
 returns-3 : tie.Need-returns-3 invariant-loop decreases-loop
-returns-3 c = (running_run c.before.before.before.before.before.before.loop.invariant, (running-bad c.before.before.before.before.before.before.loop.invariant c.before.before.before.before.before.loop-test.true c.before.before.Char-of.ensures c.enum-told6.given.1, running_counted c.before.before.before.before.before.before.loop.invariant))
+returns-3 c = (running_run c.before.before.before.before.before.before.loop.invariant, (running_bad c.before.before.before.before.before.before.loop.invariant c.before.before.before.before.before.loop-test.true c.before.before.Char-of.ensures c.enum-told6.given.1, running_counted c.before.before.before.before.before.before.loop.invariant))
 
 last-run-requires : tie.Need-last-run-requires invariant-loop decreases-loop
 last-run-requires c κs = last_ready c.before.loop.invariant c.loop-test.false

@@ -3,7 +3,7 @@ use Prim.Native.Nat.{◌-◌}
 use lib.ListN.{length}
 use Prim.Native.Nat.{◌-◌}
 use lib.ListN.{length}
-use Rattle.scanning.proofs.RunLaws.{Telling, telling_laws, telling_run, telling-stuck}
+use Rattle.scanning.proofs.RunLaws.{Telling, telling_laws, telling_run, telling_stuck}
 use Rattle.scanning.proofs.scripts_of.Statement.{statement}
 use Rattle.scanning.proofs.scripts_of.Tie as tie
 use Rattle.scanning.proofs.scripts_of.Reads as reads
@@ -44,7 +44,7 @@ shared-slice-read-if2 : tie.Need-shared-slice-read-if2 invariant-loop decreases-
 shared-slice-read-if2 c = search (rules, telling_laws)
 
 returns : tie.Need-returns invariant-loop decreases-loop
-returns c = telling-stuck (telling_run c.before.before.before.before.before.before.before.before.before.before.loop.invariant c.before.before.before.before.before.before.before.before.run_at.ensures.0 c.before.before.before.before.before.before.before.before.run_at.ensures.1.1) c.before.before.if1.false _ c.before.before.before.before.before.before.before.before.run_at.ensures.1.0 c.if2.true
+returns c = telling_stuck (telling_run c.before.before.before.before.before.before.before.before.before.before.loop.invariant c.before.before.before.before.before.before.before.before.run_at.ensures.0 c.before.before.before.before.before.before.before.before.run_at.ensures.1.1) c.before.before.if1.false _ c.before.before.before.before.before.before.before.before.run_at.ensures.1.0 c.if2.true
 
 add-one-2 : tie.Need-overflow-add-one-2 invariant-loop decreases-loop
 add-one-2 c = search (rules, telling_laws)

@@ -1,28 +1,26 @@
 use Rattle.std.proofs.Common.{rules}
+use Rattle.std.proofs.Common.{arith, sym, ap}
 use Rattle.calendar.specs.Era.{from_era, in_era}
+use Rattle.eras.proofs.Eras.{letter_small}
+use Rattle.eras.specs.declared.Era.{Era}
+use borrow.Author.Tests.{le-leb, lt-leb}
 use Rattle.calendar.proofs.Day.from_era.Goals as goal
 
--- OLD: simp (lt-leb _ _ c.if1.true)
 pub returns-then-n-gt999999 : goal.returns-then-n-gt999999
 unfolding from_era
-returns-then-n-gt999999 c = search rules
+returns-then-n-gt999999 c = simp (lt-leb _ _ c.if-n-gt999999.true)
 
--- OLD: omega (arith, letter_small c.before.before.before.args.letter, ap (λ (e : Era). e.before) c.before.era-by-letter.ensures)
 pub overflow_add-ymd : goal.overflow_add-ymd
-unfolding from_era
-overflow_add-ymd c = search rules
+overflow_add-ymd c = omega (arith, letter_small c.args.letter, ap (λ (e : Era). e.before) c.era_by_letter-e.ensures)
 
--- OLD: simp (le-leb _ _ c.before.before.before.before.if1.false, sym c.before.before.before.era-by-letter.ensures, lt-leb _ _ c.if2.true)
 pub returns-then-ymd-e : goal.returns-then-ymd-e
 unfolding from_era in_era
-returns-then-ymd-e c = search rules
+returns-then-ymd-e c = simp (le-leb _ _ c.if-n-gt999999.false, sym c.era_by_letter-e.ensures, lt-leb _ _ c.if-ymd-e.true)
 
--- OLD: simp (le-leb _ _ c.before.before.before.before.before.before.if1.false, sym c.before.before.before.before.before.era-by-letter.ensures, le-leb _ _ c.before.before.if2.false, lt-leb _ _ c.if3.true)
 pub returns-then-e-ymd : goal.returns-then-e-ymd
 unfolding from_era in_era
-returns-then-e-ymd c = search rules
+returns-then-e-ymd c = simp (le-leb _ _ c.if-n-gt999999.false, sym c.era_by_letter-e.ensures, le-leb _ _ c.if-ymd-e.false, lt-leb _ _ c.if-e-ymd.true)
 
--- OLD: simp (le-leb _ _ c.before.before.before.before.before.before.before.if1.false, sym c.before.before.before.before.before.before.era-by-letter.ensures, le-leb _ _ c.before.before.before.if2.false, le-leb _ _ c.before.if3.false) c.from-gregorian.ensures
 pub returns : goal.returns
 unfolding from_era in_era
-returns c = search rules
+returns c = simp (le-leb _ _ c.if-n-gt999999.false, sym c.era_by_letter-e.ensures, le-leb _ _ c.if-ymd-e.false, le-leb _ _ c.if-e-ymd.false) c.from_gregorian.ensures

@@ -1,5 +1,6 @@
 use Rattle.std.proofs.Common.{rules}
-use Rattle.calendar.proofs.EraForm.{form_laws}
+use Rattle.std.proofs.Common.{arith}
+use Rattle.calendar.proofs.EraForm.{small_of, form_laws}
 use Rattle.calendar.proofs.Day.is_written_form.Goals as goal
 
 pub returns-then-at_last-letter : goal.returns-then-at_last-letter
@@ -8,9 +9,8 @@ returns-then-at_last-letter c = search (rules, form_laws)
 pub returns-then-k-gt999999 : goal.returns-then-k-gt999999
 returns-then-k-gt999999 c = search (rules, form_laws)
 
--- OLD: omega (arith, small_of _ c.before.before.before.before.before.before.before.before.before.before.era-by-letter.ensures, c.before.if2.false)
 pub overflow_add-e : goal.overflow_add-e
-overflow_add-e c = search (rules, form_laws)
+overflow_add-e c = omega (arith, small_of _ c.era_by_letter-e.ensures, c.if-k-gt999999.false)
 
 pub returns-else-k-gt999999 : goal.returns-else-k-gt999999
 returns-else-k-gt999999 c = search (rules, form_laws)

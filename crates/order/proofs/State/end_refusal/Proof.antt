@@ -1,5 +1,5 @@
 -- `State::end_refusal` meets its contract. Assumes nothing.
-use Rattle.order.proofs.ByNumber.{closing-rp, closing-group, closing-else, of_701}
+use Rattle.order.proofs.ByNumber.{closing_rp, closing_group, closing_else, of_701}
 use mathlib.Core.Path.{refl, sym, ◌∙◌}
 use mathlib.Core.Bool.{Bool, ◌&&◌, ◌||◌}
 use lib.Dec.{eqb}
@@ -35,7 +35,7 @@ returns : tie.Need-returns
 returns c =
     let d4 = c.before.before.before.before in let d5 = d4.before in let d8 = d5.before.before.before in
     let d9 = d8.before in let s = d9.args.self in let r = d9.args.r in
-    closing-rp s r (outside s) (missing s) d8.lacking.ensures refl d5.in_rp_lem.ensures d4.if1.true c.pick.ensures
+    closing_rp s r (outside s) (missing s) d8.lacking.ensures refl d5.in_rp_lem.ensures d4.if1.true c.pick.ensures
     ∙ sym (of_701 s r d9.requires)
 
 in-front-requires : tie.Need-in-front-requires
@@ -55,7 +55,7 @@ returns-2 c =
     let d1 = c.before in let d4 = d1.before.before.before in let d5 = d4.before in let d6 = d5.before in
     let d7 = d6.before in let d8 = d7.before in let d11 = d8.before.before.before in let d12 = d11.before in
     let s = d12.args.self in let r = d12.args.r in
-    closing-group s r (outside s) (missing s) d11.lacking.ensures refl d8.in_rp_lem.ensures d7.if1.false d6.in_front_lem.ensures
+    closing_group s r (outside s) (missing s) d11.lacking.ensures refl d8.in_rp_lem.ensures d7.if1.false d6.in_front_lem.ensures
     d5.in-default.ensures d4.if2.true d1.pick2.ensures c.pick3.ensures
     ∙ sym (of_701 s r d12.requires)
 
@@ -73,7 +73,7 @@ returns-3 c =
     let d1 = c.before in let d3 = d1.before.before in let d4 = d3.before in let d5 = d4.before in
     let d6 = d5.before in let d7 = d6.before in let d8 = d7.before in let d11 = d8.before.before.before in
     let d12 = d11.before in let s = d12.args.self in let r = d12.args.r in
-    closing-else s r (outside s) (missing s) d11.lacking.ensures refl d8.in_rp_lem.ensures d7.if1.false d6.in_front_lem.ensures
+    closing_else s r (outside s) (missing s) d11.lacking.ensures refl d8.in_rp_lem.ensures d7.if1.false d6.in_front_lem.ensures
     d5.in-default.ensures d4.if2.false d1.pick4.ensures (rw d3.in_head.ensures at c.pick5.ensures)
     ∙ sym (of_701 s r d12.requires)
 

@@ -1,6 +1,6 @@
 -- `State::group_refusal` meets its contract. Assumes nothing.
 use Rattle.rules.specs.Places.{in_head}
-use Rattle.order.proofs.ByNumber.{closing-rp, closing-group, closing-else, of_5}
+use Rattle.order.proofs.ByNumber.{closing_rp, closing_group, closing_else, of_5}
 use mathlib.Core.Path.{sym, ◌∙◌}
 use Rattle.order.proofs.State.group_refusal.Statement.{statement}
 use Rattle.order.proofs.State.group_refusal.Tie as tie
@@ -29,7 +29,7 @@ returns : tie.Need-returns
 returns c =
     let d4 = c.before.before.before.before in let d5 = d4.before in let d6 = d5.before in let d7 = d6.before in
     let d11 = d7.before.before.before.before in let s = d11.args.self in let r = d11.args.r in
-    closing-rp s r (in_head s.place) (λ b. b) d6.lacking.ensures d7.pick.ensures d5.in_rp_lem.ensures d4.if1.true c.pick2.ensures
+    closing_rp s r (in_head s.place) (λ b. b) d6.lacking.ensures d7.pick.ensures d5.in_rp_lem.ensures d4.if1.true c.pick2.ensures
     ∙ sym (of_5 s r d11.requires)
 
 in-front-requires : tie.Need-in-front-requires
@@ -49,7 +49,7 @@ returns-2 c =
     let d1 = c.before in let d4 = d1.before.before.before in let d5 = d4.before in let d6 = d5.before in
     let d7 = d6.before in let d8 = d7.before in let d9 = d8.before in let d10 = d9.before in
     let d14 = d10.before.before.before.before in let s = d14.args.self in let r = d14.args.r in
-    closing-group s r (in_head s.place) (λ b. b) d9.lacking.ensures d10.pick.ensures d8.in_rp_lem.ensures d7.if1.false d6.in_front_lem.ensures
+    closing_group s r (in_head s.place) (λ b. b) d9.lacking.ensures d10.pick.ensures d8.in_rp_lem.ensures d7.if1.false d6.in_front_lem.ensures
     d5.in-default.ensures d4.if2.true d1.pick3.ensures c.pick4.ensures
     ∙ sym (of_5 s r d14.requires)
 
@@ -67,7 +67,7 @@ returns-3 c =
     let d1 = c.before in let d3 = d1.before.before in let d4 = d3.before in let d5 = d4.before in
     let d6 = d5.before in let d7 = d6.before in let d8 = d7.before in let d9 = d8.before in let d10 = d9.before in
     let d14 = d10.before.before.before.before in let s = d14.args.self in let r = d14.args.r in
-    closing-else s r (in_head s.place) (λ b. b) d9.lacking.ensures d10.pick.ensures d8.in_rp_lem.ensures d7.if1.false d6.in_front_lem.ensures
+    closing_else s r (in_head s.place) (λ b. b) d9.lacking.ensures d10.pick.ensures d8.in_rp_lem.ensures d7.if1.false d6.in_front_lem.ensures
     d5.in-default.ensures d4.if2.false d1.pick5.ensures (rw d3.in_head.ensures at c.pick6.ensures)
     ∙ sym (of_5 s r d14.requires)
 
