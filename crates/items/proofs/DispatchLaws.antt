@@ -18,7 +18,7 @@ use Rattle.calendar.specs.declared.DateRead.TheVariants.{Date, NotADate}
 use Rattle.calendar.specs.declared.Day.{Day}
 use Rattle.calendar.specs.Era.{read_day}
 use Rattle.records.specs.Table.{always, from_provider, optional, required}
-use Rattle.records.specs.Items.{edge, sized, one_width, one_script, is_code, prefecture, seven, postal, is_decimal, number_fault, day_fault, fault}
+use Rattle.records.specs.Items.{edge, sized, is_code, prefecture, seven, postal, is_decimal, number_fault, day_fault, fault}
 use Rattle.records.specs.Records.{item_fault}
 use Rattle.items.specs.Codes.{set_of, kind_of, need_of, item_of}
 use Rattle.items.specs.Ends.{text_form}

@@ -16,7 +16,7 @@ use Rattle.lists.specs.Searching.{part}
 use Rattle.lists.proofs.Tests.{below, below_at}
 use Rattle.lists.proofs.Parts.{part_length, part_none, part_join}
 use Rattle.lists.proofs.Cuts.{drop_step, drop_end, two_on, last_on}
-use Rattle.characters.specs.Cells.{full_row, part_row, allowed, cell_script, is_one, is_lead, trail_script, pair_script, is_char, is_one_byte}
+use Rattle.characters.specs.Cells.{full_row, part_row, allowed, cell_script, is_one, trail_script, pair_script, is_char, is_one_byte}
 use Rattle.characters.specs.declared.Char.{Char}
 use Rattle.characters.specs.declared.Char.TheVariants.{One, Hiragana, Katakana, Either, Other, Bad}
 use Rattle.characters.specs.Text.{all_chars, is_stop, text}
@@ -24,7 +24,7 @@ use Rattle.characters.specs.Scanning.{is_pair, clean, char_of, char_at, bytes_of
 use Rattle.scanning.specs.declared.Scripts.{Scripts}
 use Rattle.scanning.specs.declared.Run.{Run}
 use Rattle.scanning.specs.declared.Told.{Told}
-use Rattle.scanning.specs.Scans.{ScanOf, RunOf, RunEnds, Bytes, Counted, Finished, ToldOf}
+use Rattle.scanning.specs.Scans.{ScanOf, RunOf, RunEnds, Counted, Finished, ToldOf}
 use Rattle.characters.proofs.BytesLaws.{one_first, bytes_on, bytes_most}
 use Rattle.scanning.proofs.TextLaws.{one_char, no_comma, lead_from_81, trail_from_40, lead_no_one, kept, Scanned, scan_start, scan_comma, scan_more, scan_stop, scan_bad, scan_end}
 use Rattle.characters.proofs.CharLaws.{chars_clean, pair_parts}

@@ -15,10 +15,9 @@ use Rattle.lists.specs.Lists.{within}
 use Rattle.lists.proofs.Tests.{both, either, within_below, within_above}
 use Rattle.lists.proofs.Cuts.{drop_step, drop_end}
 use Rattle.characters.specs.Cells.{is_one, pair_script, is_char, is_trail, is_lead}
-use Rattle.characters.specs.declared.Char.{Char}
 use Rattle.characters.specs.declared.Char.TheVariants.{One, Bad}
 use Rattle.characters.specs.Text.{all_chars, is_stop, text}
-use Rattle.characters.specs.Scanning.{is_pair, char_of, char_at, comma_count, commas_from}
+use Rattle.characters.specs.Scanning.{char_of, char_at, comma_count, commas_from}
 use Rattle.scanning.specs.Scans.{Sixteen, ScanOf}
 use Rattle.characters.proofs.CharLaws.{one_go}
 

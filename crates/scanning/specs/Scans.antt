@@ -1,6 +1,6 @@
 -- Vocabulary of the code.
 -- What a scan finds, as the code answers it: the text from a position on, its commas and their places, and what stands where a row begins.
-use Rattle.std.specs.Prelude.{ℕ, ◌+◌, ◌≤◌, ◌<◌, ◌≡◌, Bool, true, false, ◌⊎◌, List, [], ◌∷◌, length, drop, get_or}
+use Rattle.std.specs.Prelude.{ℕ, ◌+◌, ◌≤◌, ◌<◌, ◌≡◌, Bool, true, ◌⊎◌, List, [], ◌∷◌, length, drop, get_or}
 use Rattle.lists.specs.Searching.{part}
 use Rattle.characters.specs.declared.Char.TheVariants.{Bad}
 use Rattle.characters.specs.Text.{all_chars, text}
