@@ -241,6 +241,7 @@ before_owned n l g c w (inr (inl (p, q))) = by (eqb n 5) (eqb n 55) p q
 
 hand_owned : (rs : List Facts) (l : ℕ) (v : Visit) (c a : ℕ) (w : TreeRow) → Among w (hand l v c a rs) → Owned l v.group c w
 unfolding hand after shown
+hand_owned [] l v c a w m = elim m [ ]
 hand_owned (r ∷ rs) l v c a w here =
     first_owned r l v.group (shown r.number (after (l + 1) v r.number)).clinic c (cond (member (281 ∷ 291 ∷ []) r.number) (cond (eqb r.number 5) 0 (cond (eqb r.number 201) (l + 1) a)) 0)
 hand_owned (r ∷ rs) l v c a w (there m) = before_owned r.number l v.group c w (hand_owned rs (l + 1) (after (l + 1) v r.number) _ _ w m)
@@ -265,6 +266,7 @@ doctor_low false false l c h = omega arith
 hand_shares : (rs : List Facts) (l : ℕ) (v : Visit) (c a : ℕ) → c ≤ l → (x y : TreeRow) → Among x (hand l v c a rs) → Among y (hand l v c a rs)
     → x.doctor ≡ y.doctor → (x.doctor ≡ 0 → ⊥) → x.group ≡ y.group
 unfolding hand after shown
+hand_shares [] l v c a h x y m n e z = elim m [ ]
 hand_shares (r ∷ rs) l v c a h x y here here e z = refl
 hand_shares (r ∷ rs) l v c a h x y here (there n) e z =
     first_shares r.number l v.group c y h (hand_owned rs (l + 1) (after (l + 1) v r.number) _ _ y n) e z
