@@ -70,9 +70,9 @@ perm_flat nil = refl
 perm_flat (cons {a = a} {xs = xs} i p) = omega (arith, insert_flat i, perm_flat p, length-append a (flat xs))
 
 -- a permutation of images is the image of a permutation
-insert_unmap : {A B : Type 0} (f : A → B) (a : A) (ys : List A) {b : B} {zs l : List B} → Insert b zs l → f a ≡ b → map f ys ≡ zs
+insert_unmap : {A B : Type 0} (f : A → B) (a : A) {b : B} (ys : List A) {zs l : List B} → Insert b zs l → f a ≡ b → map f ys ≡ zs
     → (m : List A) × (l ≡ map f m) × Insert a ys m
-insert_unmap f a ys {b = b} (here {xs = zs}) p q = (a ∷ ys, (let r : b ∷ zs ≡ f a ∷ map f ys = cc in r), here)
+insert_unmap f a {b = b} ys (here {xs = zs}) p q = (a ∷ ys, (let r : b ∷ zs ≡ f a ∷ map f ys = cc in r), here)
 insert_unmap f a [] (there i) p q = absurd (nil≢cons q)
 insert_unmap {A} f a (y ∷ ys) (there {x = x} {xs = zs} {l = l} i) p q =
     let u : f y ≡ x = head-eq_of_cons-eq q in
@@ -95,3 +95,4 @@ perm_unmap f xs w = unmap f xs w refl
 
 pub perm_one : {A : Type 0} {a : A} {l : List A} → Perm (a ∷ []) l → l ≡ a ∷ []
 perm_one (cons here nil) = refl
+perm_one (cons (there _) p) = elim p [ ]
