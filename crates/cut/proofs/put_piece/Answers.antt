@@ -1,0 +1,15 @@
+use Rattle.std.proofs.Common.{rules}
+use Rattle.cut.proofs.PourLaws.{piece_laws}
+use Rattle.cut.proofs.put_piece.Goals as goal
+
+pub put_all-a-requires : goal.put_all-a-requires
+put_all-a-requires c = search (rules, piece_laws)
+
+pub put_all-b-requires : goal.put_all-b-requires
+put_all-b-requires c = search (rules, piece_laws)
+
+pub put_mark-requires : goal.put_mark-requires
+put_mark-requires c = search (rules, piece_laws)
+
+pub returns : goal.returns
+returns c = search (rules, piece_laws)
