@@ -47,13 +47,14 @@ marked_part {i} {q} e z g p m =
     let s : z ∷ [] ≡ x ∷ [] = chunks_once (z ∷ []) (x ∷ []) (g, tt) (m.good, tt) (ap (λ (t : List ℕ). t ++ []) (p ∙ m.bytes e)) in
     ap (λ (y : Chunk). part_of y.provider y.rows) (head-eq_of_cons-eq s) ∙ m.is
 
-has_part : {i p q : List ℕ} (e : Bool) (zs : List Chunk) {os : List (List ℕ)} → All Good zs → Insert p os (map chunk_bytes zs) → p ≡ q ++ mark e → Marked i q
+has_part : {i q : List ℕ} (e : Bool) (zs : List Chunk) {p : List ℕ} {os : List (List ℕ)} → All Good zs → Insert p os (map chunk_bytes zs) → p ≡ q ++ mark e → Marked i q
     → HasPart i zs
 has_part e (z ∷ zs) (g, t) here h m =
     record { chunk = z; others = zs; found = here; part = m.part; is = marked_part e z g h m; ident = m.ident }
 has_part e (z ∷ zs) (g, t) (there k) h m =
     let r : HasPart _ zs = has_part e zs t k h m in
     record { chunk = r.chunk; others = z ∷ r.others; found = there r.found; part = r.part; is = r.is; ident = r.ident }
+has_part e [] _ k h m = elim k [ ]
 
 -- ---- all parts that are joined have one ID
 
@@ -85,6 +86,7 @@ set_parts {i} (z ∷ []) w h e = go (unmarked z.rows) refl h.found h.is e
     go : (b : Bool) → unmarked z.rows ≡ b → {x : Chunk} {os : List Chunk} {p : Part} → Insert x os (z ∷ []) → part_of x.provider x.rows ≡ some p
         → cond b (some (piece_of z)) (join_parts (all_parts (piece_of z ∷ []))) ≡ some w → FromParts (piece_of z ∷ []) w
     go true u here i e = absurd (no_none (sym (no_part z.provider z.rows u) ∙ i))
+    go true u (there k) i e = elim k [ ]
     go false u f i e = from_parts (piece_of z ∷ []) w e
 set_parts (z ∷ y ∷ zs) w h e = from_parts (map piece_of (z ∷ y ∷ zs)) w e
 
@@ -108,6 +110,7 @@ first_part_lem x xs ps e = go (part_of x.provider x.rows) refl (all_parts xs) re
 -- a part of the set has the ID that all have
 one_of : {j : List ℕ} (zs : List Chunk) (ps : List Part) → all_parts (map piece_of zs) ≡ some ps → All (λ p. p.mark.ident ≡ j) ps
     → {x : Chunk} {os : List Chunk} {p : Part} → Insert x os zs → part_of x.provider x.rows ≡ some p → p.mark.ident ≡ j
+one_of {j} [] ps e a k h = elim k [ ]
 one_of {j} (z ∷ zs) ps e a here h =
     let f : FirstPart (piece_of z) (map piece_of zs) ps = first_part_lem (piece_of z) (map piece_of zs) ps e in
     let b : All (λ p. p.mark.ident ≡ j) (f.part ∷ f.rest) = subst (All (λ p. p.mark.ident ≡ j)) (sym f.is) a in
@@ -135,6 +138,7 @@ split_zs : (zs : List Chunk) {i : List ℕ} → HasPart i zs → All Good zs →
 split_zs zs h g = go zs h.found g
   where
     go : (zs : List Chunk) {x : Chunk} {os : List Chunk} → Insert x os zs → All Good zs → split (flat (map chunk_bytes zs)) ≡ ok (map piece_of zs)
+    go [] i g = elim i [ ]
     go (z ∷ zs) i g = split_bytes z zs g
 
 pub two_ids : {i j a b : List ℕ} (ps : List (List ℕ)) → All OnePiece ps → length (flat ps) ≤ 131072 → (i ≡ j → ⊥)
