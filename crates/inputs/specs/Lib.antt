@@ -1,1 +1,2 @@
 pub mod AtFront
+pub mod Taken
