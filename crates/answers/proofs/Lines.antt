@@ -1,16 +1,9 @@
--- The laws of printing a reply: the digits that io::decimal gives are `decimal`, numbers are written one after another, and a line that is
+-- The laws of printing a reply: the digits that are put from a number's last on are `decimal`, numbers are written one after another, and a line that is
 -- written at a buffer's front is what `Prints` says. Assumes nothing.
-use Prim.Native.Nat.{ℕ, zero, suc, ◌+◌, ◌*◌, ◌-◌, ◌/◌, ◌%◌, ◌^◌, ◌≤◌, ◌<◌}
-use native.Mathlib.Nat.{pow-suc, pow-le-pow_right}
-use native.Mathlib.Omega.{arith}
-use mathlib.Core.Path.{◌≡◌, refl, sym, ap, ◌∙◌}
-use mathlib.Core.List.{List, [], ◌∷◌, ◌++◌, append_assoc}
-use borrow.Author.Tests.{lt-ltb, eq-eqb, ne_eqb}
-use lib.ListN.{length, take, drop}
-use lib.Seq.{take_at}
-use Rattle.io.specs.Counts.{IsPrefixLen}
-use Rattle.io.proofs.Counting.{prefix_len_of_le}
-use Rattle.io.specs.Digits.{last_digits, IsDigitCount}
+use Rattle.std.proofs.Common.{ℕ, zero, suc, ◌+◌, ◌-◌, ◌/◌, ◌%◌, ◌≤◌, ◌<◌, ◌≡◌, refl, sym, ap, ◌∙◌, Bool, true, false, leb, List, [], ◌∷◌, ◌++◌, append_assoc, length, take, drop, set, length-append, length-drop, length-set, take_at, arith, leb-true, leb-false, eq-eqb, ne_eqb}
+use Rattle.std.proofs.lemmas.List.{drop-set}
+use Rattle.inputs.specs.AtFront.{IsPrefixLen}
+use Rattle.inputs.proofs.Bytes.{prefix_len_of_le}
 use Rattle.lists.specs.Lists.{bytes}
 use Rattle.buffers.specs.Buffers.{Wrote}
 use Rattle.buffers.proofs.Runs.{sets_all, then}
@@ -18,31 +11,47 @@ use Rattle.replies.specs.declared.Reply.{Reply}
 use Rattle.printing.specs.Printed.{decimal, spaced, line, printed, Prints}
 use Rattle.printing.proofs.Decimal.{decimal_one, decimal_more, decimal_twenty}
 
--- the fewest digits that hold a number are its digits in decimal
-pub fewest_decimal : (k n : ℕ) → IsDigitCount 10 1 n k → last_digits 10 k n ≡ decimal n
-fewest_decimal zero n f = absurd (omega (arith, f.0))
-fewest_decimal (suc zero) n f =
-    let h : n < 10 = f.1 in
-    let e : n % 10 ≡ n = omega arith in
-    rw (e, lt-ltb n 10 h, decimal_one n (omega arith))
-fewest_decimal (suc (suc k)) n f =
-    let p : n < 10 ^ suc k * 10 = rw pow-suc at f.1 in
-    let o : suc (suc k) - 1 ≡ suc k = omega arith in
-    let o' : suc k - 1 ≡ k = omega arith in
-    let q : 10 ^ k * 10 ≤ n = rw (o, pow-suc) at (f.2 (omega arith)) in
-    let z : 1 ≤ 10 ^ k = pow-le-pow_right {n = 10} (omega arith) {i = 0} {j = k} (omega arith) in
-    let again : last_digits 10 (suc k) (n / 10) ≡ decimal (n / 10)
-    = fewest_decimal (suc k) (n / 10) (omega arith, omega arith, λ _. rw o' (omega arith)) in
-    rw (again, lt-ltb (n % 10) 10 (omega arith), decimal_more n (omega arith))
+-- ---- a number, from its last digit on
 
--- the digits that io::decimal gave
-pub digits_wrote : {d d₁ : List ℕ} {at r : ℕ} (k n : ℕ) {t : List ℕ} → IsDigitCount 10 1 n k → t ≡ last_digits 10 k n → Wrote d d₁ at r t
-    → Wrote d d₁ at r (decimal n)
-digits_wrote k n f e x = rw (e ∙ fewest_decimal k n f) at x
+-- it has a digit
+decimal_some : (n : ℕ) → 1 ≤ length (decimal n)
+decimal_some n = go (leb n 9) refl
+  where
+    go : (x : Bool) → leb n 9 ≡ x → 1 ≤ length (decimal n)
+    go true e = rw (decimal_one n (leb-true n 9 e)) (omega arith)
+    go false e = rw (decimal_more n (leb-false n 9 e), length-append) (omega arith)
 
--- they are at most 20
-pub digits_few : (k n : ℕ) {t : List ℕ} → n ≤ 18446744073709551615 → IsDigitCount 10 1 n k → t ≡ last_digits 10 k n → length t ≤ 20
-digits_few k n h f e = omega (arith, ap length (e ∙ fewest_decimal k n f), decimal_twenty n h)
+-- the digits from an index on are those behind what is left of the number
+pub record Behind (n rest i : ℕ) (text : List ℕ) : Type 0 where
+  pub inside : i ≤ length text
+  pub digits : decimal n ≡ decimal rest ++ drop i text
+
+module _ {n rest i : ℕ} {text : List ℕ} (few : n ≤ 18446744073709551615) (size : length text ≡ 20) (w : Behind n rest i text) where
+  -- there is room for what is left
+  pub behind_room : length (decimal rest) ≤ i
+  behind_room =
+      let a = ap length w.digits ∙ length-append (decimal rest) (drop i text) ∙ ap (λ v. length (decimal rest) + v) (length-drop i text) in
+      omega (arith, decimal_twenty n few, a, w.inside, size)
+
+  pub behind_some : 1 ≤ i
+  behind_some = omega (arith, behind_room, decimal_some rest)
+
+  put_before : (b : ℕ) → drop (i - 1) (set text (i - 1) b) ≡ b ∷ drop i text
+  put_before b =
+      let h : i - 1 < length text = omega (arith, behind_some, w.inside) in
+      let e : i - 1 + 1 ≡ i = omega (arith, behind_some) in
+      drop-set text (i - 1) b h ∙ ap (λ v. b ∷ drop v text) e
+
+  pub behind_more : 9 < rest → Behind n (rest / 10) (i - 1) (set text (i - 1) (48 + rest % 10))
+  behind_more h =
+      let d = w.digits ∙ ap (λ v. v ++ drop i text) (decimal_more rest h) ∙ append_assoc (decimal (rest / 10)) ((48 + rest % 10) ∷ []) (drop i text) in
+      record {
+        inside = omega (arith, w.inside, length-set text (i - 1) (48 + rest % 10));
+        digits = d ∙ ap (λ v. decimal (rest / 10) ++ v) (sym (put_before (48 + rest % 10)));
+      }
+
+  pub behind_all : rest ≤ 9 → drop (i - 1) (set text (i - 1) (48 + rest)) ≡ decimal n
+  behind_all h = put_before (48 + rest) ∙ ap (λ v. v ++ drop i text) (sym (decimal_one rest h)) ∙ sym w.digits
 
 -- ---- numbers, one after another
 

@@ -1,25 +1,45 @@
 // How programs print a reply. `print` makes its line (printing, specs/Printed.antt), and everything that a program prints of a reply is written
-// from there, by one call of io::write_all. That `write` writes the bytes it is given is assumed, as the kit assumes it.
+// from there, by one call of `write_whole`. That the system's `write` writes the bytes that it is given is assumed, as the kit assumes it; for a writer
+// whose bytes are known it is proved (specs/Written.antt).
 #![tactic(auto)]
 
-ghost use Rattle.std.specs.Prelude.{[], ◌∷◌, ◌++◌, ◌+◌, ◌≤◌, length, take};
-ghost use Rattle.io.specs.Counts.{IsPrefixLen};
+ghost use Rattle.std.specs.Prelude.{[], ◌∷◌, ◌++◌, ◌+◌, ◌≤◌, ◌≡◌, length, take, drop, true};
+ghost use Rattle.std.specs.Io.KnownBytes.{Keeps};
+ghost use Rattle.inputs.specs.AtFront.{IsPrefixLen};
 ghost use Rattle.lists.specs.Lists.{bytes};
 ghost use Rattle.buffers.specs.Buffers.{Wrote};
-ghost use Rattle.printing.specs.Printed.{decimal, spaced, line, Prints};
+ghost use Rattle.printing.specs.Printed.{decimal, spaced, line, printed, Prints};
+ghost use Rattle.answers.specs.Written.{Written, WrittenInPart};
 
-use libc::{STDERR_FILENO, STDOUT_FILENO};
 use replies::Reply;
+use std::io::Write;
+
+// A number's digits at the buffer's end; where they begin.
+fn put_digits(text: &mut [u8; 20], n: u64) -> usize
+    ensures in_bounds { result ≤ 20 }
+    ensures digits { drop result text.new ≡ decimal n }
+{
+    let mut i: usize = 20;
+    let mut rest = n;
+    while 9 < rest {
+        i -= 1;
+        text[i] = (48 + rest % 10) as u8;
+        rest /= 10;
+    }
+    i -= 1;
+    text[i] = (48 + rest) as u8;
+    i
+}
 
 // A number, which has at most 20 digits.
-fn put_decimal(out: &mut [u8], at: usize, n: u64) -> usize
+pub fn put_decimal(out: &mut [u8], at: usize, n: u64) -> usize
     requires { at + 20 ≤ length out.old }
     ensures wrote { Wrote out.old out.new at result (decimal n) }
     ensures upper_bound { result ≤ at + 20 }
 {
     let mut text = [0u8; 20];
-    let k = io::decimal(n, &mut text);
-    buffers::put_all(out, at, &text[..k])
+    let from = put_digits(&mut text, n);
+    buffers::put_all(out, at, &text[from..])
 }
 
 // A space and a number.
@@ -108,51 +128,88 @@ pub fn put_entry(
     buffers::put_byte(out, seventh, 0x0A)
 }
 
+// Writes bytes and answers whether all were written. A write that takes nothing ends it, and so does one that fails, also where a signal interrupts
+// it before it takes a byte.
+pub fn write_whole<W: Write>(to: &mut W, bytes: &[u8]) -> bool
+    ensures { Written result (W.contents to.old) (W.contents to.new) bytes.now }
+{
+    let mut done: usize = 0;
+    while done < bytes.len() {
+        match to.write(&bytes[done..]) {
+            Ok(more) => {
+                if more == 0 {
+                    return false;
+                }
+                done += more;
+            }
+            Err(_) => return false,
+        }
+    }
+    true
+}
+
 // Tells a failure on standard error, in one write. Where that fails, nothing is left to tell it by.
-fn write_error_line(word: &[u8], count: usize, k: u64)
+fn write_error_line<E: Write>(err: &mut E, word: &[u8], count: usize, k: u64)
     requires { length word.now ≤ 64 }
+    ensures { WrittenInPart (E.contents err.old) (E.contents err.new)
+        (line (bytes "error " ++ word.now) (take count (k ∷ 0 ∷ 0 ∷ []))) }
 {
     let mut text = [0u8; 144];
     let n = put_error(&mut text, word, count, k);
-    io::write_all(STDERR_FILENO, &text[..n]);
+    write_whole(err, &text[..n]);
 }
 
 // `error WORD`
-pub fn write_error(word: &[u8])
+pub fn write_error<E: Write>(err: &mut E, word: &[u8])
     requires { length word.now ≤ 64 }
+    ensures { WrittenInPart (E.contents err.old) (E.contents err.new) (line (bytes "error " ++ word.now) []) }
 {
-    write_error_line(word, 0, 0);
+    write_error_line(err, word, 0, 0);
 }
 
 // `error WORD K`
-pub fn write_error_at(word: &[u8], k: u64)
+pub fn write_error_at<E: Write>(err: &mut E, word: &[u8], k: u64)
     requires { length word.now ≤ 64 }
+    ensures { WrittenInPart (E.contents err.old) (E.contents err.new) (line (bytes "error " ++ word.now) (k ∷ [])) }
 {
-    write_error_line(word, 1, k);
+    write_error_line(err, word, 1, k);
 }
 
 // Writes bytes to standard output and answers whether all were written; where not, tells it.
-pub fn write_output(bytes: &[u8]) -> bool {
-    let written = io::write_all(STDOUT_FILENO, bytes);
+pub fn write_output<O: Write, E: Write>(out: &mut O, err: &mut E, bytes: &[u8]) -> bool
+    ensures written { Written result (O.contents out.old) (O.contents out.new) bytes.now }
+    ensures silent { result ≡ true → Keeps (E.contents err.old) (E.contents err.new) }
+{
+    let written = write_whole(out, bytes);
     if !written {
-        write_error(b"write");
+        write_error(err, b"write");
     }
     written
 }
 
-// Writes the line of a reply to standard output, or to standard error.
-pub fn write_reply(fd: i32, values: usize, r: Reply) {
+// Writes the line of a reply to standard output; where that fails, tells it.
+pub fn write_reply<O: Write, E: Write>(out: &mut O, err: &mut E, values: usize, r: Reply)
+    ensures { WrittenInPart (O.contents out.old) (O.contents out.new) (printed values r) }
+{
     let mut text = [0u8; 66];
     let n = print(values, r, &mut text);
-    if fd == STDOUT_FILENO {
-        write_output(&text[..n]);
-    } else {
-        io::write_all(fd, &text[..n]);
-    }
+    write_output(out, err, &text[..n]);
+}
+
+// Writes the line of a reply to standard error. Where that fails, nothing is left to tell it by.
+pub fn write_reply_as_error<E: Write>(err: &mut E, values: usize, r: Reply)
+    ensures { WrittenInPart (E.contents err.old) (E.contents err.new) (printed values r) }
+{
+    let mut text = [0u8; 66];
+    let n = print(values, r, &mut text);
+    write_whole(err, &text[..n]);
 }
 
 // A space and a number that is no reply's, to standard output.
-pub fn write_number(n: u64) {
-    io::write_all(STDOUT_FILENO, b" ");
-    io::print_decimal(STDOUT_FILENO, n);
+pub fn write_number<O: Write>(out: &mut O, n: u64)
+    ensures { WrittenInPart (O.contents out.old) (O.contents out.new) (0x20 ∷ decimal n) }
+{
+    let mut text = [0u8; 21];
+    let end = put_number(&mut text, 0, n);
+    write_whole(out, &text[..end]);
 }
