@@ -6,7 +6,7 @@ ghost use Rattle.std.specs.Prelude.{◌≤◌, length};
 ghost use Rattle.id_file.specs.Positions.{Inside, Onward, Passed, MoveRoom, AtFront};
 
 // The bytes of the run, which is at the text's front; or which line, or which ID of a run, is not 14 digits.
-#[derive(Drop)]
+#[derive(Clone, Copy)]
 pub enum Ids {
     Run(usize),
     Bad(usize),
