@@ -1,13 +1,14 @@
 // What stands at a name before it is given to a piece.
-ghost use Rattle.libc.specs.Io.{Ended};
-
 use inputs::Input;
-use libc::{EINVAL, EISDIR, ENOENT, PATH_MAX, SEEK_CUR};
+use std::fs;
+use std::fs::OpenOptions;
+use std::io::{Error, ErrorKind, Read, Seek, SeekFrom};
+use std::rt::Files;
 
 // The error of opening a socket.
 const ENXIO: i32 = 6;
 
-#[derive(Drop)]
+#[derive(Clone, Copy)]
 pub enum Found {
     Nothing,
     SameBytes,
@@ -16,56 +17,45 @@ pub enum Found {
     NoName,
 }
 
-#[derive(Drop)]
+#[derive(Clone, Copy)]
 pub enum Entry {
     Missing,
     Link,
     NoLink,
-    // The name is too long, or what should be its folder is none.
+    // The name is too long or no UTF-8, or what should be its folder is none.
     NoName,
 }
 
-// A name with zeros after it, as C reads it.
-fn ended(name: &[u8]) -> [u8; PATH_MAX]
-    ensures { Ended result }
-{
-    let mut path = io::buffer();
-    let mut i: usize = 0;
-    while i < 4095 {
-        path[i] = lists::byte_at(name, i);
-        i += 1;
+// A link is looked at itself, not what it leads to.
+pub fn entry_at<R: Files>(rt: &R, name: &[u8]) -> Entry {
+    let Ok(path) = std::str::from_utf8(name) else {
+        return Entry::NoName;
+    };
+    match fs::symlink_metadata(rt, path) {
+        Ok(metadata) => link_or_not(metadata.is_symlink()),
+        Err(error) => missing_or_not(error.kind() == ErrorKind::NotFound),
     }
-    path[4095] = 0;
-    path
 }
 
-// A link's text can be read, that of anything else cannot.
-pub fn entry_at(name: &[u8]) -> Entry {
-    if 4095 < name.len() {
-        return Entry::NoName;
+fn link_or_not(link: bool) -> Entry {
+    if link { Entry::Link } else { Entry::NoLink }
+}
+
+fn missing_or_not(missing: bool) -> Entry {
+    if missing {
+        Entry::Missing
+    } else {
+        Entry::NoName
     }
-    let path = ended(name);
-    let mut text = [0u8; 1];
-    if 0 <= libc::readlink(&path, &mut text) {
-        return Entry::Link;
-    }
-    let error = os::errno();
-    if error == ENOENT {
-        return Entry::Missing;
-    }
-    if error == EINVAL {
-        return Entry::NoLink;
-    }
-    Entry::NoName
 }
 
 // One byte more than pieces can have tells a longer file. A pipe, in which reading would wait, has no position.
-fn compare_opened(fd: i32, piece: &[u8]) -> Found {
+fn compare_opened<F: Read + Seek>(file: &mut F, piece: &[u8]) -> Found {
     let mut bytes = [0u8; 131073];
-    if libc::lseek(fd, 0, SEEK_CUR) < 0 {
+    if file.seek(SeekFrom::Current(0)).is_err() {
         return Found::Other;
     }
-    let read = inputs::read_all(fd, &mut bytes);
+    let read = inputs::read_all(file, &mut bytes);
     match read {
         Input::Bytes(n) => compared(lists::same_bytes(&bytes[..n], piece)),
         Input::Failed => Found::Unreadable,
@@ -77,30 +67,30 @@ fn compared(same: bool) -> Found {
 }
 
 // A folder and a socket cannot be opened.
-fn not_opened(error: i32) -> Found {
-    if error == EISDIR || error == ENXIO {
+fn not_opened(error: &Error) -> Found {
+    if error.kind() == ErrorKind::IsADirectory || error.raw_os_error() == Some(ENXIO) {
         return Found::Other;
     }
     Found::Unreadable
 }
 
 // Opened for reading and writing, since opening a pipe for reading alone would wait. Nothing is written.
-fn compare(name: &[u8], piece: &[u8]) -> Found {
-    let fd = os::open_update(name);
-    if fd < 0 {
-        return not_opened(os::errno());
+fn compare<R: Files>(rt: &R, name: &[u8], piece: &[u8]) -> Found {
+    let Ok(path) = std::str::from_utf8(name) else {
+        return Found::NoName;
+    };
+    match OpenOptions::new().read(true).write(true).open(rt, path) {
+        Ok(mut file) => compare_opened(&mut file, piece),
+        Err(error) => not_opened(&error),
     }
-    let found = compare_opened(fd, piece);
-    libc::close(fd);
-    found
 }
 
-pub fn look(name: &[u8], piece: &[u8]) -> Found {
-    let entry = entry_at(name);
+pub fn look<R: Files>(rt: &R, name: &[u8], piece: &[u8]) -> Found {
+    let entry = entry_at(rt, name);
     match entry {
         Entry::Missing => Found::Nothing,
         Entry::Link => Found::Other,
-        Entry::NoLink => compare(name, piece),
+        Entry::NoLink => compare(rt, name, piece),
         Entry::NoName => Found::NoName,
     }
 }

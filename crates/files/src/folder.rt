@@ -1,7 +1,12 @@
 // The folder of a prefix: a name that was taken stays after a failure of the machine only once the folder is synced.
 ghost use Rattle.std.specs.Prelude.{◌≤◌, length};
 
-use libc::EINVAL;
+use std::fs::{File, OpenFile};
+use std::io::Error;
+use std::rt::Files;
+
+// The error of a file system that syncs no folder.
+const EINVAL: i32 = 22;
 
 // Where the name of the folder ends: after the last slash, 0 where there is none.
 fn folder_end(prefix: &[u8]) -> usize
@@ -17,29 +22,26 @@ fn folder_end(prefix: &[u8]) -> usize
     end
 }
 
-fn open(prefix: &[u8]) -> i32 {
+fn open<R: Files>(rt: &R, prefix: &[u8]) -> Option<R::File> {
     let start: usize = 0;
     let end = folder_end(prefix);
     if end == 0 {
-        return os::open_read(b".");
+        return File::open(rt, ".").ok();
     }
-    os::open_read(&prefix[start..end])
+    let name = std::str::from_utf8(&prefix[start..end]).ok()?;
+    File::open(rt, name).ok()
 }
 
-// EINVAL is the answer of a file system that syncs no folder.
-fn is_synced(status: i32) -> bool {
-    if 0 <= status {
-        return true;
-    }
-    os::errno() == EINVAL
+fn is_harmless(error: &Error) -> bool {
+    error.raw_os_error() == Some(EINVAL)
 }
 
-pub fn sync(prefix: &[u8]) -> bool {
-    let fd = open(prefix);
-    if fd < 0 {
+pub fn sync<R: Files>(rt: &R, prefix: &[u8]) -> bool {
+    let Some(folder) = open(rt, prefix) else {
         return false;
+    };
+    match folder.sync_all() {
+        Ok(()) => true,
+        Err(error) => is_harmless(&error),
     }
-    let synced = is_synced(libc::fsync(fd));
-    libc::close(fd);
-    synced
 }

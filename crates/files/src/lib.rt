@@ -12,9 +12,11 @@ mod steps;
 ghost use Rattle.std.specs.Prelude.{◌<◌};
 
 use pieces::piece_end;
+use std::random::RandomSource;
+use std::rt::Files;
 
 // What came of it, with the number of the piece that it is about.
-#[derive(Drop)]
+#[derive(Clone, Copy)]
 pub enum Outcome {
     Done,
     Exists(u64),
@@ -24,7 +26,7 @@ pub enum Outcome {
 }
 
 // What is done with each piece before the next thing is done with any.
-#[derive(Drop)]
+#[derive(Clone, Copy)]
 enum Step {
     Ask,
     Make,
@@ -40,7 +42,8 @@ pub fn failed(outcome: Outcome) -> bool {
     }
 }
 
-fn take_step(
+fn take_step<R: Files + RandomSource>(
+    rt: &R,
     step: Step,
     prefix: &[u8],
     i: usize,
@@ -51,15 +54,16 @@ fn take_step(
     requires { i < 999 }
 {
     match step {
-        Step::Ask => steps::ask(prefix, i, piece, marks),
-        Step::Make => steps::make(prefix, i, piece, marks, letters),
-        Step::Name => steps::name(prefix, i, marks, letters),
-        Step::Remove => steps::remove(prefix, i, marks, letters),
+        Step::Ask => steps::ask(rt, prefix, i, piece, marks),
+        Step::Make => steps::make(rt, prefix, i, piece, marks, letters),
+        Step::Name => steps::name(rt, prefix, i, marks, letters),
+        Step::Remove => steps::remove(rt, prefix, i, marks, letters),
     }
 }
 
 // Takes a step with one piece after another, up to the first that fails. A file is cut in at most 999 pieces.
-fn each_piece(
+fn each_piece<R: Files + RandomSource>(
+    rt: &R,
     step: Step,
     prefix: &[u8],
     pieces: &[u8],
@@ -73,7 +77,7 @@ fn each_piece(
             return Outcome::Unwritten(1000);
         }
         let end = piece_end(pieces, from);
-        let outcome = take_step(step, prefix, i, &pieces[from..end], marks, letters);
+        let outcome = take_step(rt, step, prefix, i, &pieces[from..end], marks, letters);
         if failed(outcome) {
             return outcome;
         }
@@ -83,36 +87,37 @@ fn each_piece(
     Outcome::Done
 }
 
-fn write_asked(
+fn write_asked<R: Files + RandomSource>(
+    rt: &R,
     prefix: &[u8],
     pieces: &[u8],
     marks: &mut [u8; 999],
     letters: &mut [u8; 5994],
 ) -> Outcome {
-    let made = each_piece(Step::Make, prefix, pieces, marks, letters);
+    let made = each_piece(rt, Step::Make, prefix, pieces, marks, letters);
     if failed(made) {
         return made;
     }
-    let named = each_piece(Step::Name, prefix, pieces, marks, letters);
+    let named = each_piece(rt, Step::Name, prefix, pieces, marks, letters);
     if failed(named) {
         return named;
     }
-    if folder::sync(prefix) {
+    if folder::sync(rt, prefix) {
         return Outcome::Done;
     }
     Outcome::Unsynced
 }
 
-pub fn write_pieces(prefix: &[u8], pieces: &[u8]) -> Outcome {
+pub fn write_pieces<R: Files + RandomSource>(rt: &R, prefix: &[u8], pieces: &[u8]) -> Outcome {
     let mut marks = [0u8; 999];
     let mut letters = [0u8; 5994];
-    let asked = each_piece(Step::Ask, prefix, pieces, &mut marks, &mut letters);
+    let asked = each_piece(rt, Step::Ask, prefix, pieces, &mut marks, &mut letters);
     if failed(asked) {
         return asked;
     }
-    let written = write_asked(prefix, pieces, &mut marks, &mut letters);
+    let written = write_asked(rt, prefix, pieces, &mut marks, &mut letters);
     if failed(written) {
-        each_piece(Step::Remove, prefix, pieces, &mut marks, &mut letters);
+        each_piece(rt, Step::Remove, prefix, pieces, &mut marks, &mut letters);
     }
     written
 }

@@ -33,39 +33,33 @@ pub fn of_piece(prefix: &[u8], i: usize, name: &mut [u8]) -> usize
     ensures { result ≤ length name.new }
 {
     let mut digits = [0u8; 20];
-    let n = io::decimal(number(i), &mut digits);
+    let n = answers::put_decimal(&mut digits, 0, number(i));
     let dot = append(name, 0, prefix);
     let at = append(name, dot, b".");
     append(name, at, &digits[..n])
 }
 
-// PREFIX.K.XXXXXX, from which the system makes a temporary name.
-pub fn to_be_made(prefix: &[u8], i: usize, name: &mut [u8]) -> usize
-    requires { i < 999 }
-    ensures { result ≤ length name.new }
-{
-    let at = of_piece(prefix, i, name);
-    append(name, at, b".XXXXXX")
+// The letters and digits of temporary names.
+const SIGNS: &[u8; 62] = b"abcdefghijklmnopqrstuvwxyzABCDEFGHIJKLMNOPQRSTUVWXYZ0123456789";
+
+fn sign(random: u8) -> u8 {
+    SIGNS[random as usize % 62]
 }
 
-// The last six bytes of a temporary name, which the system chose, are kept six to a piece.
-pub fn keep_letters(letters: &mut [u8; 5994], i: usize, name: &[u8])
+// The last six bytes of a piece's temporary name are kept six to a piece.
+pub fn keep_letters(letters: &mut [u8; 5994], i: usize, random: &[u8; 6])
     requires { i < 999 }
 {
-    let n = name.len();
-    if n < 6 {
-        return;
-    }
     let at = i * 6;
-    letters[at] = name[n - 6];
-    letters[at + 1] = name[n - 5];
-    letters[at + 2] = name[n - 4];
-    letters[at + 3] = name[n - 3];
-    letters[at + 4] = name[n - 2];
-    letters[at + 5] = name[n - 1];
+    letters[at] = sign(random[0]);
+    letters[at + 1] = sign(random[1]);
+    letters[at + 2] = sign(random[2]);
+    letters[at + 3] = sign(random[3]);
+    letters[at + 4] = sign(random[4]);
+    letters[at + 5] = sign(random[5]);
 }
 
-// The temporary name that was made.
+// The temporary name, PREFIX.K and the letters.
 pub fn temporary(prefix: &[u8], i: usize, letters: &[u8; 5994], name: &mut [u8]) -> usize
     requires { i < 999 }
     ensures { result ≤ length name.new }

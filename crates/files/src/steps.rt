@@ -4,6 +4,12 @@ ghost use Rattle.std.specs.Prelude.{◌≤◌, ◌<◌, length};
 use crate::asking::{Entry, Found};
 use crate::{Outcome, asking, names};
 use names::number;
+use std::fs;
+use std::fs::{OpenFile, OpenOptions};
+use std::io::{ErrorKind, Result, Write};
+use std::os::unix::fs::OpenOptionsExt;
+use std::random::RandomSource;
+use std::rt::Files;
 
 // Its name has exactly its bytes already, and is left alone.
 const KEPT: u8 = 1;
@@ -15,13 +21,19 @@ const MADE: u8 = 2;
 const NAMED: u8 = 3;
 
 // Asks what stands at the piece's name.
-pub fn ask(prefix: &[u8], i: usize, piece: &[u8], marks: &mut [u8; 999]) -> Outcome
+pub fn ask<R: Files>(
+    rt: &R,
+    prefix: &[u8],
+    i: usize,
+    piece: &[u8],
+    marks: &mut [u8; 999],
+) -> Outcome
     requires { i < 999 }
 {
     let start: usize = 0;
     let mut name = [0u8; 4128];
     let end = names::of_piece(prefix, i, &mut name);
-    let found = asking::look(&name[start..end], piece);
+    let found = asking::look(rt, &name[start..end], piece);
     match found {
         Found::Nothing => Outcome::Done,
         Found::SameBytes => {
@@ -34,35 +46,84 @@ pub fn ask(prefix: &[u8], i: usize, piece: &[u8], marks: &mut [u8; 999]) -> Outc
     }
 }
 
-fn write_and_sync(fd: i32, piece: &[u8]) -> bool {
-    if !io::write_all(fd, piece) {
+// The file is closed here. What the system says to its closing std does not tell; it has been synced before.
+fn fill<F: Write + OpenFile + Drop>(mut file: F, piece: &[u8]) -> bool {
+    if !answers::write_whole(&mut file, piece) {
         return false;
     }
-    0 <= libc::fsync(fd)
+    file.sync_all().is_ok()
 }
 
-fn fill(fd: i32, piece: &[u8]) -> bool {
-    let written = write_and_sync(fd, piece);
-    let closed = libc::close(fd);
-    if closed < 0 {
-        return false;
-    }
-    written
+// A file that is not there yet, which only its owner may read and write.
+fn make_new<R: Files>(rt: &R, name: &[u8]) -> Result<R::File> {
+    let Ok(path) = std::str::from_utf8(name) else {
+        return Err(ErrorKind::InvalidFilename.into());
+    };
+    OpenOptions::new()
+        .read(true)
+        .write(true)
+        .create_new(true)
+        .mode(0o600)
+        .open(rt, path)
 }
 
-// Makes the temporary file, and keeps its name.
-fn create(prefix: &[u8], i: usize, letters: &mut [u8; 5994], name: &mut [u8]) -> i32
+// What came of one try to make a temporary file.
+enum Try<F> {
+    Made(F),
+    // A file has the name already.
+    Taken,
+    Failed,
+}
+
+fn again<F>(taken: bool) -> Try<F> {
+    if taken { Try::Taken } else { Try::Failed }
+}
+
+// One try, with letters of its own.
+fn try_letters<R: Files + RandomSource>(
+    rt: &R,
+    prefix: &[u8],
+    i: usize,
+    letters: &mut [u8; 5994],
+) -> Try<R::File>
     requires { i < 999 }
 {
     let start: usize = 0;
-    let end = names::to_be_made(prefix, i, name);
-    let fd = os::create_temp(&mut name[start..end]);
-    names::keep_letters(letters, i, &name[start..end]);
-    fd
+    let mut random = [0u8; 6];
+    if rt.fill_bytes(&mut random).is_err() {
+        return Try::Failed;
+    }
+    names::keep_letters(letters, i, &random);
+    let mut name = [0u8; 4128];
+    let end = names::temporary(prefix, i, letters, &mut name);
+    match make_new(rt, &name[start..end]) {
+        Ok(file) => Try::Made(file),
+        Err(error) => again(error.kind() == ErrorKind::AlreadyExists),
+    }
+}
+
+// Makes the temporary file, and keeps its name. As many tries as C's mkstemp takes.
+fn create<R: Files + RandomSource>(
+    rt: &R,
+    prefix: &[u8],
+    i: usize,
+    letters: &mut [u8; 5994],
+) -> Option<R::File>
+    requires { i < 999 }
+{
+    for _ in 0..238328 {
+        match try_letters(rt, prefix, i, letters) {
+            Try::Made(file) => return Some(file),
+            Try::Taken => {}
+            Try::Failed => return None,
+        }
+    }
+    None
 }
 
 // Writes the piece to its temporary file.
-pub fn make(
+pub fn make<R: Files + RandomSource>(
+    rt: &R,
     prefix: &[u8],
     i: usize,
     piece: &[u8],
@@ -74,35 +135,45 @@ pub fn make(
     if marks[i] == KEPT {
         return Outcome::Done;
     }
-    let mut name = [0u8; 4128];
-    let fd = create(prefix, i, letters, &mut name);
-    if fd < 0 {
+    let Some(file) = create(rt, prefix, i, letters) else {
         return Outcome::Unwritten(number(i));
-    }
+    };
     marks[i] = MADE;
-    if fill(fd, piece) {
+    if fill(file, piece) {
         return Outcome::Done;
     }
     Outcome::Unwritten(number(i))
 }
 
-fn rename(prefix: &[u8], i: usize, letters: &[u8; 5994], name: &[u8]) -> bool
+fn rename<R: Files>(rt: &R, prefix: &[u8], i: usize, letters: &[u8; 5994], name: &[u8]) -> bool
     requires { i < 999 }
 {
     let start: usize = 0;
     let mut temporary = [0u8; 4128];
     let end = names::temporary(prefix, i, letters, &mut temporary);
-    0 <= os::rename(&temporary[start..end], name)
+    let Ok(from) = std::str::from_utf8(&temporary[start..end]) else {
+        return false;
+    };
+    let Ok(to) = std::str::from_utf8(name) else {
+        return false;
+    };
+    fs::rename(rt, from, to).is_ok()
 }
 
-// The kit's rename takes the place of a file that is there, so the name is asked once more.
-fn rename_if_free(prefix: &[u8], i: usize, letters: &[u8; 5994], name: &[u8]) -> Outcome
+// std's rename takes the place of a file that is there, so the name is asked once more.
+fn rename_if_free<R: Files>(
+    rt: &R,
+    prefix: &[u8],
+    i: usize,
+    letters: &[u8; 5994],
+    name: &[u8],
+) -> Outcome
     requires { i < 999 }
 {
-    let entry = asking::entry_at(name);
+    let entry = asking::entry_at(rt, name);
     match entry {
         Entry::Missing => {
-            if rename(prefix, i, letters, name) {
+            if rename(rt, prefix, i, letters, name) {
                 return Outcome::Done;
             }
             Outcome::Unwritten(number(i))
@@ -114,7 +185,13 @@ fn rename_if_free(prefix: &[u8], i: usize, letters: &[u8; 5994], name: &[u8]) ->
 }
 
 // Gives the temporary file the piece's name.
-pub fn name(prefix: &[u8], i: usize, marks: &mut [u8; 999], letters: &[u8; 5994]) -> Outcome
+pub fn name<R: Files>(
+    rt: &R,
+    prefix: &[u8],
+    i: usize,
+    marks: &mut [u8; 999],
+    letters: &[u8; 5994],
+) -> Outcome
     requires { i < 999 }
 {
     if marks[i] == KEPT {
@@ -123,7 +200,7 @@ pub fn name(prefix: &[u8], i: usize, marks: &mut [u8; 999], letters: &[u8; 5994]
     let start: usize = 0;
     let mut name = [0u8; 4128];
     let end = names::of_piece(prefix, i, &mut name);
-    let outcome = rename_if_free(prefix, i, letters, &name[start..end]);
+    let outcome = rename_if_free(rt, prefix, i, letters, &name[start..end]);
     if crate::failed(outcome) {
         return outcome;
     }
@@ -145,15 +222,23 @@ fn made_name(prefix: &[u8], i: usize, mark: u8, letters: &[u8; 5994], name: &mut
     0
 }
 
-// Removes what was made of the piece.
-pub fn remove(prefix: &[u8], i: usize, marks: &[u8; 999], letters: &[u8; 5994]) -> Outcome
+// Removes what was made of the piece. Where that fails, nothing else can be done.
+pub fn remove<R: Files>(
+    rt: &R,
+    prefix: &[u8],
+    i: usize,
+    marks: &[u8; 999],
+    letters: &[u8; 5994],
+) -> Outcome
     requires { i < 999 }
 {
     let start: usize = 0;
     let mut name = [0u8; 4128];
     let end = made_name(prefix, i, marks[i], letters, &mut name);
     if 0 < end {
-        os::unlink(&name[start..end]);
+        if let Ok(path) = std::str::from_utf8(&name[start..end]) {
+            let _ = fs::remove_file(rt, path);
+        }
     }
     Outcome::Done
 }
