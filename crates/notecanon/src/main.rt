@@ -4,33 +4,32 @@
 #![tactic(auto)]
 
 use inputs::Input;
-use libc::{STDERR_FILENO, STDIN_FILENO};
 
-fn write_file(file: &[u8], bytes: u64) {
+fn write_file(rt: &HostRuntime, file: &[u8], bytes: u64) {
     if bytes <= 65536 {
         let start: usize = 0;
         let end = bytes as usize;
         if end <= file.len() {
-            answers::write_output(&file[start..end]);
+            answers::write_output(&mut rt.stdout(), &mut rt.stderr(), &file[start..end]);
         }
     }
 }
 
-fn answer(file: &[u8]) {
+fn answer(rt: &HostRuntime, file: &[u8]) {
     let mut canonical = [0u8; 65536];
     let r = gateway::notebook_canonical(file, &mut canonical);
     if r.refusal == 0 {
-        write_file(&canonical, r.a);
+        write_file(rt, &canonical, r.a);
     } else {
-        answers::write_reply(STDERR_FILENO, 1, r);
+        answers::write_reply_as_error(&mut rt.stderr(), 1, r);
     }
 }
 
-fn main() {
+fn main(rt: HostRuntime) {
     let mut file = [0u8; 65537];
-    let read = inputs::read_all(STDIN_FILENO, &mut file);
+    let read = inputs::read_all(&mut rt.stdin(), &mut file);
     match read {
-        Input::Bytes(n) => answer(&file[..n]),
-        Input::Failed => answers::write_error(b"read"),
+        Input::Bytes(n) => answer(&rt, &file[..n]),
+        Input::Failed => answers::write_error(&mut rt.stderr(), b"read"),
     }
 }

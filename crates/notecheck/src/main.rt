@@ -4,17 +4,17 @@
 #![tactic(auto)]
 
 use inputs::Input;
-use libc::{STDIN_FILENO, STDOUT_FILENO};
 
-fn main() {
+fn main(rt: HostRuntime) {
     let mut buffer = [0u8; 65537];
-    let read = inputs::read_all(STDIN_FILENO, &mut buffer);
+    let read = inputs::read_all(&mut rt.stdin(), &mut buffer);
     match read {
         Input::Bytes(n) => answers::write_reply(
-            STDOUT_FILENO,
+            &mut rt.stdout(),
+            &mut rt.stderr(),
             3,
             gateway::notebook_check(&buffer[..n]),
         ),
-        Input::Failed => answers::write_error(b"read"),
+        Input::Failed => answers::write_error(&mut rt.stderr(), b"read"),
     }
 }

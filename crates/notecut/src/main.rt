@@ -8,19 +8,32 @@
 #![tactic(auto)]
 
 ghost use Rattle.std.specs.Prelude.{◌≤◌};
+ghost use Rattle.inputs.specs.AtFront.{IsPrefixLen};
 
 use files::Outcome;
 use id_file::Ids;
 use inputs::Input;
-use libc::{STDERR_FILENO, STDIN_FILENO};
 
 // --- the words ---
 
-fn usage() {
-    answers::write_error(b"usage: notecut CAPACITY ID [PREFIX [USED]]");
+fn usage(rt: &HostRuntime) {
+    answers::write_error(
+        &mut rt.stderr(),
+        b"usage: notecut CAPACITY ID [PREFIX [USED]]",
+    );
 }
 
-#[derive(Drop)]
+// How long a word is, which is put at the buffer's front; 0 where it is not there or is longer than the buffer.
+fn word_length(rt: &HostRuntime, number: usize, buf: &mut [u8]) -> usize
+    ensures { IsPrefixLen result buf.new }
+{
+    match inputs::word(rt, number, buf) {
+        Input::Bytes(n) => n,
+        Input::Failed => 0,
+    }
+}
+
+#[derive(Clone, Copy)]
 enum Capacity {
     Bytes(u64),
     Wrong,
@@ -75,67 +88,66 @@ fn capacity_of(word: &[u8]) -> Capacity {
 // --- writing ---
 
 // Whether all is written; where not, tells it.
-fn tell(outcome: Outcome) -> bool {
+fn tell(rt: &HostRuntime, outcome: Outcome) -> bool {
     match outcome {
         Outcome::Done => return true,
-        Outcome::Exists(k) => answers::write_error_at(b"exists", k),
-        Outcome::Unread(k) => answers::write_error_at(b"read", k),
-        Outcome::Unwritten(k) => answers::write_error_at(b"write", k),
-        Outcome::Unsynced => answers::write_error(b"write"),
+        Outcome::Exists(k) => answers::write_error_at(&mut rt.stderr(), b"exists", k),
+        Outcome::Unread(k) => answers::write_error_at(&mut rt.stderr(), b"read", k),
+        Outcome::Unwritten(k) => answers::write_error_at(&mut rt.stderr(), b"write", k),
+        Outcome::Unsynced => answers::write_error(&mut rt.stderr(), b"write"),
     }
     false
 }
 
 // The third word is the prefix. One that is longer than the buffer is longer than any path.
-fn write_pieces(pieces: &[u8], words: usize) -> bool {
+fn write_pieces(rt: &HostRuntime, pieces: &[u8], words: usize) -> bool {
     if words < 4 {
-        return answers::write_output(pieces);
+        return answers::write_output(&mut rt.stdout(), &mut rt.stderr(), pieces);
     }
-    let mut prefix = io::buffer();
-    let n = os::arg(3, &mut prefix);
-    if os::errno() != 0 {
-        return tell(Outcome::Unwritten(1));
-    }
+    let mut prefix = [0u8; 4096];
+    let Input::Bytes(n) = inputs::word(rt, 3, &mut prefix) else {
+        return tell(rt, Outcome::Unwritten(1));
+    };
     if n == 0 {
-        return answers::write_output(pieces);
+        return answers::write_output(&mut rt.stdout(), &mut rt.stderr(), pieces);
     }
-    tell(files::write_pieces(&prefix[..n], pieces))
+    tell(rt, files::write_pieces(rt, &prefix[..n], pieces))
 }
 
 // --- the program ---
 
-fn write_result(out: &[u8], words: usize, r: replies::Reply) {
+fn write_result(rt: &HostRuntime, out: &[u8], words: usize, r: replies::Reply) {
     let bytes = r.b;
     if bytes <= 131072 {
         let start: usize = 0;
         let end = bytes as usize;
         if end <= out.len() {
-            if write_pieces(&out[start..end], words) {
-                answers::write_reply(STDERR_FILENO, 2, r);
+            if write_pieces(rt, &out[start..end], words) {
+                answers::write_reply_as_error(&mut rt.stderr(), 2, r);
             }
         }
     }
 }
 
 // An ID that is longer than the buffer comes as an empty one, which is refused as well.
-fn cut(file: &[u8], capacity: u64, used: &[u8], words: usize) {
-    let mut id = io::buffer();
+fn cut(rt: &HostRuntime, file: &[u8], capacity: u64, used: &[u8], words: usize) {
+    let mut id = [0u8; 4096];
     let mut out = [0u8; 131072];
-    let digits = os::arg(2, &mut id);
+    let digits = word_length(rt, 2, &mut id);
     let r = gateway::notebook_cut(file, capacity, &id[..digits], used, &mut out);
     if r.refusal == 0 {
-        write_result(&out, words, r);
+        write_result(rt, &out, words, r);
     } else {
-        answers::write_reply(STDERR_FILENO, 2, r);
+        answers::write_reply_as_error(&mut rt.stderr(), 2, r);
     }
 }
 
-fn cut_with_ids(file: &[u8], capacity: u64, ids: &mut [u8], words: usize) {
+fn cut_with_ids(rt: &HostRuntime, file: &[u8], capacity: u64, ids: &mut [u8], words: usize) {
     let start: usize = 0;
     let run = id_file::run_of(ids);
     match run {
-        Ids::Run(end) => cut(file, capacity, &ids[start..end], words),
-        Ids::Bad(k) => answers::write_error_at(b"used", k as u64),
+        Ids::Run(end) => cut(rt, file, capacity, &ids[start..end], words),
+        Ids::Bad(k) => answers::write_error_at(&mut rt.stderr(), b"used", k as u64),
     }
 }
 
@@ -146,55 +158,55 @@ fn id_room() -> [u8; 1600001] {
 }
 
 // The fourth word is the file of used IDs.
-fn cut_with_used(file: &[u8], capacity: u64, words: usize) {
+fn cut_with_used(rt: &HostRuntime, file: &[u8], capacity: u64, words: usize) {
     let start: usize = 0;
     let mut ids = id_room();
-    let read = inputs::read_word(4, &mut ids, 0);
+    let read = inputs::read_word(rt, 4, &mut ids, 0);
     match read {
         Input::Bytes(end) => {
             if 1600000 < end {
-                answers::write_error(b"used");
+                answers::write_error(&mut rt.stderr(), b"used");
             } else {
-                cut_with_ids(file, capacity, &mut ids[start..end], words);
+                cut_with_ids(rt, file, capacity, &mut ids[start..end], words);
             }
         }
-        Input::Failed => answers::write_error(b"used"),
+        Input::Failed => answers::write_error(&mut rt.stderr(), b"used"),
     }
 }
 
-fn cut_file(file: &[u8], capacity: u64, words: usize) {
+fn cut_file(rt: &HostRuntime, file: &[u8], capacity: u64, words: usize) {
     if words == 5 {
-        cut_with_used(file, capacity, words);
+        cut_with_used(rt, file, capacity, words);
     } else {
-        cut(file, capacity, b"", words);
+        cut(rt, file, capacity, b"", words);
     }
 }
 
-fn cut_input(capacity: u64, words: usize) {
+fn cut_input(rt: &HostRuntime, capacity: u64, words: usize) {
     let mut file = [0u8; 65537];
-    let read = inputs::read_all(STDIN_FILENO, &mut file);
+    let read = inputs::read_all(&mut rt.stdin(), &mut file);
     match read {
-        Input::Bytes(n) => cut_file(&file[..n], capacity, words),
-        Input::Failed => answers::write_error(b"read"),
+        Input::Bytes(n) => cut_file(rt, &file[..n], capacity, words),
+        Input::Failed => answers::write_error(&mut rt.stderr(), b"read"),
     }
 }
 
-fn cut_with_words(words: usize) {
-    let mut word = io::buffer();
-    let n = os::arg(1, &mut word);
+fn cut_with_words(rt: &HostRuntime, words: usize) {
+    let mut word = [0u8; 4096];
+    let n = word_length(rt, 1, &mut word);
     let capacity = capacity_of(&word[..n]);
     match capacity {
-        Capacity::Bytes(bytes) => cut_input(bytes, words),
-        Capacity::Wrong => usage(),
+        Capacity::Bytes(bytes) => cut_input(rt, bytes, words),
+        Capacity::Wrong => usage(rt),
     }
 }
 
 // The program's own name is among the words.
-fn main() {
-    let words = os::arg_count();
+fn main(rt: HostRuntime) {
+    let words = inputs::word_count(&rt);
     if (3 <= words) & (words <= 5) {
-        cut_with_words(words);
+        cut_with_words(&rt, words);
     } else {
-        usage();
+        usage(&rt);
     }
 }

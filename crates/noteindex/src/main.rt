@@ -7,7 +7,6 @@
 ghost use Rattle.std.specs.Prelude.{◌+◌, ◌≤◌, ◌<◌, length};
 
 use inputs::Input;
-use libc::{STDIN_FILENO, STDOUT_FILENO};
 
 fn wide(n: u32) -> u64 {
     n as u64
@@ -31,7 +30,7 @@ fn put_record(text: &mut [u8], at: usize, entries: &[u32; 57344], number: usize)
 }
 
 // The lines of at most 64 records, by one write.
-fn write_lines(entries: &[u32; 57344], first: usize, end: usize) -> bool
+fn write_lines(rt: &HostRuntime, entries: &[u32; 57344], first: usize, end: usize) -> bool
     requires first_le_end { first ≤ end }
     requires end_bound { end ≤ first + 64 }
     requires end_bound_2 { end ≤ 8192 }
@@ -43,7 +42,7 @@ fn write_lines(entries: &[u32; 57344], first: usize, end: usize) -> bool
         at = put_record(&mut text, at, entries, number);
         number += 1;
     }
-    answers::write_output(&text[..at])
+    answers::write_output(&mut rt.stdout(), &mut rt.stderr(), &text[..at])
 }
 
 // The end of the part that begins with a record: 64 records, or those that are left.
@@ -57,37 +56,37 @@ fn part_end(first: usize, records: usize) -> usize
     first + 64
 }
 
-fn write_entries(entries: &[u32; 57344], records: usize)
+fn write_entries(rt: &HostRuntime, entries: &[u32; 57344], records: usize)
     requires { records ≤ 8192 }
 {
     let mut first: usize = 0;
     while first < records {
         let end = part_end(first, records);
-        if !write_lines(entries, first, end) {
+        if !write_lines(rt, entries, first, end) {
             return;
         }
         first = end;
     }
 }
 
-fn answer(file: &[u8]) {
+fn answer(rt: &HostRuntime, file: &[u8]) {
     let mut entries = [0u32; 57344];
     let r = gateway::notebook_index(file, &mut entries);
     let records = r.a;
     if r.refusal != 0 {
-        answers::write_reply(STDOUT_FILENO, 1, r);
+        answers::write_reply(&mut rt.stdout(), &mut rt.stderr(), 1, r);
         return;
     }
     if records <= 8192 {
-        write_entries(&entries, records as usize);
+        write_entries(rt, &entries, records as usize);
     }
 }
 
-fn main() {
+fn main(rt: HostRuntime) {
     let mut file = [0u8; 65537];
-    let read = inputs::read_all(STDIN_FILENO, &mut file);
+    let read = inputs::read_all(&mut rt.stdin(), &mut file);
     match read {
-        Input::Bytes(n) => answer(&file[..n]),
-        Input::Failed => answers::write_error(b"read"),
+        Input::Bytes(n) => answer(&rt, &file[..n]),
+        Input::Failed => answers::write_error(&mut rt.stderr(), b"read"),
     }
 }

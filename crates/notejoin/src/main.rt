@@ -7,34 +7,33 @@
 ghost use Rattle.inputs.specs.AtFront.{AtFront};
 
 use inputs::Input;
-use libc::{STDERR_FILENO, STDIN_FILENO};
 
 // --- joining ---
 
-fn write_file(file: &[u8], bytes: u64) {
+fn write_file(rt: &HostRuntime, file: &[u8], bytes: u64) {
     if bytes <= 65536 {
         let start: usize = 0;
         let end = bytes as usize;
         if end <= file.len() {
-            answers::write_output(&file[start..end]);
+            answers::write_output(&mut rt.stdout(), &mut rt.stderr(), &file[start..end]);
         }
     }
 }
 
-fn join(pieces: &[u8]) {
+fn join(rt: &HostRuntime, pieces: &[u8]) {
     let mut file = [0u8; 65536];
     let r = gateway::notebook_join(pieces, &mut file);
     if r.refusal == 0 {
-        write_file(&file, r.a);
+        write_file(rt, &file, r.a);
     } else {
-        answers::write_reply(STDERR_FILENO, 1, r);
+        answers::write_reply_as_error(&mut rt.stderr(), 1, r);
     }
 }
 
 // --- reading ---
 
 // Reads until the buffer is full, and tells which file cannot be read.
-fn read_files(words: usize, pieces: &mut [u8]) -> Input
+fn read_files(rt: &HostRuntime, words: usize, pieces: &mut [u8]) -> Input
     ensures { AtFront result pieces.new }
 {
     let mut at: usize = 0;
@@ -43,11 +42,11 @@ fn read_files(words: usize, pieces: &mut [u8]) -> Input
         if pieces.len() <= at {
             return Input::Bytes(at);
         }
-        let read = inputs::read_word(word, pieces, at);
+        let read = inputs::read_word(rt, word, pieces, at);
         match read {
             Input::Bytes(end) => at = end,
             Input::Failed => {
-                answers::write_error_at(b"read", word as u64);
+                answers::write_error_at(&mut rt.stderr(), b"read", word as u64);
                 return Input::Failed;
             }
         }
@@ -58,30 +57,30 @@ fn read_files(words: usize, pieces: &mut [u8]) -> Input
 
 // --- the program ---
 
-fn join_files(words: usize) {
+fn join_files(rt: &HostRuntime, words: usize) {
     let mut pieces = [0u8; 131073];
-    let read = read_files(words, &mut pieces);
+    let read = read_files(rt, words, &mut pieces);
     match read {
-        Input::Bytes(n) => join(&pieces[..n]),
+        Input::Bytes(n) => join(rt, &pieces[..n]),
         Input::Failed => {}
     }
 }
 
-fn join_input() {
+fn join_input(rt: &HostRuntime) {
     let mut pieces = [0u8; 131073];
-    let read = inputs::read_all(STDIN_FILENO, &mut pieces);
+    let read = inputs::read_all(&mut rt.stdin(), &mut pieces);
     match read {
-        Input::Bytes(n) => join(&pieces[..n]),
-        Input::Failed => answers::write_error(b"read"),
+        Input::Bytes(n) => join(rt, &pieces[..n]),
+        Input::Failed => answers::write_error(&mut rt.stderr(), b"read"),
     }
 }
 
 // The program's own name is among the words.
-fn main() {
-    let words = os::arg_count();
+fn main(rt: HostRuntime) {
+    let words = inputs::word_count(&rt);
     if words < 2 {
-        join_input();
+        join_input(&rt);
     } else {
-        join_files(words);
+        join_files(&rt, words);
     }
 }
