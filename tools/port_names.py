@@ -21,11 +21,15 @@ OTHERWISE = {
     "le-leb": "le-leb",
     "drop-drop": "drop-drop",
     "get_or-drop": "get_or-drop",
+    "firstIDs": "first_ids",
+    "knownIDs": "known_ids",
     "length-append": "length-append",
     "eq-eqb": "eq-eqb",
 }
 
-TOKEN = re.compile(r"[^\s(){}\[\].,;:\"«»⟦⟧|λ¬∙→×⊎↔≡≢]+")
+TOKEN = re.compile(r"[^\s(){}\[\].,;:\"`«»⟦⟧|λ¬∙→×⊎↔≡≢]+")
+# what a function, a field or a variable of src/ may be called too
+SNAKE = re.compile(r"^[a-z][a-z0-9_]*$")
 TOP = re.compile(r"^(?:unfoldable |abbrev |unfolding )?(?:pub )?(data |record )?([^\s:(){}.,;]+)(?=\s*[:({])")
 MEMBER = re.compile(r"^ {2,8}(?:pub )?([^\s:(){}.,;]+)\s*(?:\{[^}]*\}|\([^)]*\))*\s*:(?=\s)")
 CONSTRUCTORS = re.compile(r"^ {2,8}([a-zA-Z][^:]*?)\s*:(?=\s)")
@@ -177,7 +181,9 @@ def respell(text, names, in_comments):
     def line(part):
         cut = re.search(r"(?:^|\s)(?:--|//)\s", part)
         at = cut.start() if cut else len(part)
-        return spelled(part[:at], names) + spelled(part[at:], in_comments)
+        # what a comment names in backticks is a name of the code, whatever word it is
+        said = re.sub(r"`[^`]*`", lambda m: spelled(m.group(0), {o: n for o, n in names.items() if not SNAKE.match(o)}), part[at:])
+        return spelled(part[:at], names) + spelled(said, in_comments)
 
     return "\n".join(line(part) for part in text.split("\n"))
 
@@ -217,7 +223,7 @@ def main(argv):
         if os.path.exists(os.path.join(at, old + ".antt")):
             os.rename(os.path.join(at, old + ".antt"), os.path.join(at, new + ".antt"))
     # a snake-case word in src/ is a function, a field or a variable there, and keeps its spelling
-    in_code = {o: n for o, n in names.items() if not re.match(r"^[a-z][a-z0-9_]*$", o)}
+    in_code = {o: n for o, n in names.items() if not SNAKE.match(o)}
     # what documents and tests may mean by the word itself: only names that no English word is
     told = {o: n for o, n in names.items() if re.search(r"[a-z][A-Z]|^[A-Z].*-", o)}
     changed = 0

@@ -1,5 +1,5 @@
 -- Vocabulary of the code.
--- Whether a date is what is written for its day. proofs/EraForm.antt says it so (`form-is`, `form-only`).
+-- Whether a date is what is written for its day. proofs/EraForm.antt says it so (`form_is`, `form_only`).
 use Rattle.std.specs.Prelude.{ℕ, ◌≡◌, Bool, false, List, eqb, get_or}
 use Rattle.eras.specs.Era.{era_on}
 use Rattle.calendar.specs.declared.DateRead.{DateRead}

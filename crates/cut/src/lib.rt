@@ -2,7 +2,7 @@
 // the loops follow. The records of a piece are one run of the file's bytes, and the longest run that fits ends after the last 0Ah within
 // the capacity: `run_end` looks for it from the back, so that a piece costs a row's bytes and not its own. The width of the count is found
 // first, with the count and the total length, so that nothing is written where the answer is a refusal; then the pieces are written.
-// A change of the record 911 moves together: `over` (packing), `markRow` (division), `overhead` and `put_mark`.
+// A change of the record 911 moves together: `over` (packing), `mark_row` (division), `overhead` and `put_mark`.
 #![tactic(auto)]
 
 ghost use Rattle.std.specs.Prelude.{◌≡◌, ◌≤◌, length};

@@ -20,8 +20,8 @@ abbrev pub other_id : List ℕ
 other_id = bytes "20261115000002"
 
 -- the IDs that the second cutting knew: a third one, and the first's
-abbrev pub known_i_ds : List ℕ
-known_i_ds = bytes "20261115000000" ++ ident
+abbrev pub known_ids : List ℕ
+known_ids = bytes "20261115000000" ++ ident
 
 -- an output that is longer than the pieces
 abbrev pub room : List ℕ

@@ -1,4 +1,4 @@
--- The dates of a canonical file are those of its notebook's records, each as `writeDay` has it; and the dates of any file are read as their days. Assumes nothing.
+-- The dates of a canonical file are those of its notebook's records, each as `write_day` has it; and the dates of any file are read as their days. Assumes nothing.
 use Prim.Native.Nat.{ℕ}
 use mathlib.Core.Path.{◌≡◌, refl, sym, ap, ap₂, subst, ◌∙◌}
 use mathlib.Core.Bool.{Bool, true, false}
@@ -99,7 +99,7 @@ all_own : (rs : List Record) → All Own (records_dates rs)
 all_own [] = tt
 all_own (r ∷ rs) = own_then r.values (records_dates rs) (all_own rs)
 
--- what is written for a day is what `writeDay` says
+-- what is written for a day is what `write_day` says
 pub written_is : (n : ℕ) (s : List ℕ) → WrittenFor n s → s ≡ write_day n
 written_is n s w =
     let b = w.notebook in

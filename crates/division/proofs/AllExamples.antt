@@ -26,7 +26,7 @@ use Rattle.notebook.proofs.Accepted.{no_refusal}
 use Rattle.notebook.specs.Same.{arrange}
 use Rattle.notebook.specs.Canonical.{record_rows, write_file, canonical_bytes}
 use Rattle.notebook.proofs.CanonicalLaws.{canonical_same}
-use Rattle.ids.specs.Used.{first_i_ds, ids_in, unused}
+use Rattle.ids.specs.Used.{first_ids, ids_in, unused}
 use Rattle.packing.specs.Packing.{total, put, pack}
 use Rattle.packing.specs.Widths.{over, serves, tries, plan}
 use Rattle.division.specs.Marks.{valid_id, mark_line, mark_row, read_mark}
@@ -51,7 +51,7 @@ unfolding bytes value number spell is_line leap month_length is_real is_day greg
 joins_hold = refl
 
 pub cuts_hold : map (λ (a : Asked). answer_in (cut_result a.file a.capacity a.id a.used) (replicate a.room 0)) asked ≡ their_answers
-unfolding bytes spell is_line value leap month_length is_real is_day gregorian era_of era_on in_era from_era read_day write_day table edge one_width is_decimal sized fault value_of item_fault item_value items_fault items_value row_in table_row pairs t911 record_from fault_from line_fault record_of header in_group may_follow pair_broken misplaced closes_rp lacking missing value_wrong newer_group order_refusal unfinished nothing_yet start had_after advance refusal_of step_of finish_of facts_of step_line closed onward records_from read_rows read_file joined write record_rows arrange write_file canonical_bytes total put pack digit_count over serves tries plan valid_id first_i_ds ids_in unused mark_line mark_row piece_bytes numbered cutting cut_list cut_result answer_in
+unfolding bytes spell is_line value leap month_length is_real is_day gregorian era_of era_on in_era from_era read_day write_day table edge one_width is_decimal sized fault value_of item_fault item_value items_fault items_value row_in table_row pairs t911 record_from fault_from line_fault record_of header in_group may_follow pair_broken misplaced closes_rp lacking missing value_wrong newer_group order_refusal unfinished nothing_yet start had_after advance refusal_of step_of finish_of facts_of step_line closed onward records_from read_rows read_file joined write record_rows arrange write_file canonical_bytes total put pack digit_count over serves tries plan valid_id first_ids ids_in unused mark_line mark_row piece_bytes numbered cutting cut_list cut_result answer_in
 cuts_hold = refl
 
 -- ---- sound lists

@@ -28,7 +28,7 @@ use Rattle.printing.specs.Printed.{digit_list as decimal_digits, decimal as deci
 use Rattle.packing.specs.Packing.{total, put}
 use Rattle.packing.specs.Widths.{Plan, over, serves}
 use Rattle.packing.proofs.Computed.{packed, tried, planned, plan_is}
-use Rattle.ids.specs.Used.{first_i_ds, ids_in, unused}
+use Rattle.ids.specs.Used.{first_ids, ids_in, unused}
 use Rattle.division.specs.Marks.{valid_id, mark_line, mark_row}
 use Rattle.replies.specs.declared.Answer.{Answer}
 use Rattle.replies.specs.declared.Answer.TheVariants.{Done, Refused}
@@ -87,7 +87,7 @@ cut : (n c : ℕ) → Read n → Cut n c (computed c (book n))
 cut n c e = answered (with_notes n) (book n) c e
 
 cuts : Cut 20 69 (Done 6 404 0) × Cut 18 60 (Done 10 547 0) × Cut 18 59 (Refused 18 0) × Cut 2 51 (Done 1 51 0) × Cut 2 50 (Refused 18 0)
-unfolding notes book bytes spell era_on in_era write_day joined header write record_rows arrange write_file canonical_bytes total put packed digit_count over serves tried planned valid_id first_i_ds ids_in unused mark_line mark_row piece_bytes numbered t911
+unfolding notes book bytes spell era_on in_era write_day joined header write record_rows arrange write_file canonical_bytes total put packed digit_count over serves tried planned valid_id first_ids ids_in unused mark_line mark_row piece_bytes numbered t911
 cuts = (cut 20 69 reads.0, cut 18 60 reads.1, cut 18 59 reads.1, cut 2 51 reads.2, cut 2 50 reads.2)
 
 -- ---- ALL CASES

@@ -1,5 +1,5 @@
--- Bytes and pieces are exact inverses: what is put together from pieces is split into them again (`split-bytes`), and what is split is their
--- bytes and nothing else (`split-is`). A chunk is a piece with its 1Ah, if it has one. Assumes nothing.
+-- Bytes and pieces are exact inverses: what is put together from pieces is split into them again (`split_bytes`), and what is split is their
+-- bytes and nothing else (`split_is`). A chunk is a piece with its 1Ah, if it has one. Assumes nothing.
 use Prim.Native.Nat.{ℕ, ◌+◌, ◌≤◌}
 use native.Mathlib.Omega.{arith}
 use mathlib.Core.Path.{◌≡◌, refl, sym, ap, ◌∙◌, subst}

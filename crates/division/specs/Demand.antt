@@ -1,6 +1,6 @@
 -- Promises, to be believed.
 -- DEMAND 3, sentence by sentence, as statements about the definitions that the contracts of the exported calls cite: what the calls reply
--- and what they leave in their outputs. proofs/Promises.antt proves each. A file f is accepted if `readFile f ≡ ok b`; b is the notebook
+-- and what they leave in their outputs. proofs/Promises.antt proves each. A file f is accepted if `read_file f ≡ ok b`; b is the notebook
 -- that it carries.
 use Rattle.std.specs.Prelude.{ℕ, ◌≤◌, ◌<◌, ◌≡◌, ◌↔◌, ◌⊎◌, true, List, [], ◌∷◌, ◌++◌, length, take, drop}
 use Rattle.lists.specs.Lists.{All, Res, ok}

@@ -16,7 +16,7 @@ use Rattle.replies.specs.Results.{Result, writes}
 
 -- ---- one piece without a record 911
 
--- "A record 911 is a line that is 911 or begins with 911 and a comma": records, specs/Records.antt, `isMark`
+-- "A record 911 is a line that is 911 or begins with 911 and a comma": records, specs/Records.antt, `is_mark`
 unfoldable pub unmarked : List (List ℕ) → Bool
 unmarked [] = true
 unmarked (r ∷ rs) = not (is_mark (text r)) && unmarked rs

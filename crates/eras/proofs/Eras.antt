@@ -265,7 +265,7 @@ pub day_named : (n : ℕ) → is_day n ≡ true → Named eras n (era_on n)
 unfolding era_on
 day_named n d = named eras eras_orderly n d
 
--- as `eraOf` names it
+-- as `era_of` names it
 pub letter_names : (n : ℕ) → is_day n ≡ true → era_of (era_on n).letter ≡ era_on n
 unfolding era_of
 letter_names n d = (day_named n d).letter

@@ -1,7 +1,7 @@
 -- A second statement, proved equal.
 -- What is claimed of refusals. Document 01: "Then the first faulty line; within it the lowest number, but 8–11 item by item from the left (F, C, P,
--- D, A, braces, R, W, Q: only 8 and 11)". Names of proofs/FaultLaws.antt have these types: `first-fault`, `lowest-number`, `item-by-item`,
--- `only-form`.
+-- D, A, braces, R, W, Q: only 8 and 11)". Names of proofs/FaultLaws.antt have these types: `first_fault`, `lowest_number`, `item_by_item`,
+-- `only_form`.
 use Rattle.std.specs.Prelude.{ℕ, ◌+◌, ◌≤◌, ◌<◌, ◌≡◌, ◌⊎◌, ◌↔◌, Bool, true, false, cond, not, ◌||◌, List, [], ◌∷◌, ◌++◌, eqb, leb, length}
 use Rattle.lists.specs.Lists.{same, All, refused, unless}
 use Rattle.characters.specs.Text.{all_chars}

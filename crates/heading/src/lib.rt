@@ -1,4 +1,4 @@
-// Line 1 of a file or a piece: its two texts, read and written. Definitions: notebook, specs/Canonical.antt (`headRow`, line 1 with its line
+// Line 1 of a file or a piece: its two texts, read and written. Definitions: notebook, specs/Canonical.antt (`head_row`, line 1 with its line
 // end); specs/Reading.antt. Another line 1 moves together: `header` (records); where its length is another, `over` (packing) and the 13s of `cut`, `join` and
 // `pieces`; where its first byte is, the J of `pieces::row_at`.
 #![tactic(auto)]

@@ -12,18 +12,18 @@ use lib.Seq.{length-take-le, take_at, drop_at}
 use Rattle.lists.specs.Lists.{same, All}
 use Rattle.lists.proofs.Tests.{same_refl, same_true}
 use Rattle.characters.specs.Rows.{flat}
-use Rattle.ids.specs.Used.{first_i_ds, ids_in, one_is, unused}
+use Rattle.ids.specs.Used.{first_ids, ids_in, one_is, unused}
 use Rattle.ids.specs.Runs.{Fourteen, RunOf, InRun, OtherLength}
 
 -- ---- the IDs of a run
 
 -- as many IDs as the length has 14s
-first_run : (n : ℕ) (u : List ℕ) → length u ≡ 14 * n → RunOf u (first_i_ds n u)
-unfolding first_i_ds
+first_run : (n : ℕ) (u : List ℕ) → length u ≡ 14 * n → RunOf u (first_ids n u)
+unfolding first_ids
 first_run zero [] e = record { each = tt; is = refl }
 first_run zero (a ∷ u) e = absurd (omega (arith, e))
 first_run (suc n) u e =
-    let r : RunOf (drop 14 u) (first_i_ds n (drop 14 u)) = first_run n (drop 14 u) (omega (arith, e, length-drop 14 u)) in
+    let r : RunOf (drop 14 u) (first_ids n (drop 14 u)) = first_run n (drop 14 u) (omega (arith, e, length-drop 14 u)) in
     record {
       each = (length-take-le 14 u (omega (arith, e)), r.each);
       is = ap (λ (t : List ℕ). take 14 u ++ t) r.is ∙ take-append-drop 14 u;
@@ -34,20 +34,20 @@ run_length [] h = refl
 run_length (i ∷ is) (h, t) = omega (arith, length-append i (flat is), h, run_length is t)
 
 -- they are the only ones
-first_is_lem : (ids : List (List ℕ)) → All Fourteen ids → first_i_ds (length ids) (flat ids) ≡ ids
-unfolding first_i_ds
+first_is_lem : (ids : List (List ℕ)) → All Fourteen ids → first_ids (length ids) (flat ids) ≡ ids
+unfolding first_ids
 first_is_lem [] h = refl
 first_is_lem (i ∷ is) (h, t) =
     let a : take 14 (i ++ flat is) ≡ i = take_at i (flat is) 14 h in
     let b : drop 14 (i ++ flat is) ≡ flat is = drop_at i (flat is) 14 h in
-    let c : first_i_ds (length is) (drop 14 (i ++ flat is)) ≡ is = ap (first_i_ds (length is)) b ∙ first_is_lem is t in
+    let c : first_ids (length is) (drop 14 (i ++ flat is)) ≡ is = ap (first_ids (length is)) b ∙ first_is_lem is t in
     cc
 
 run_is : {u : List ℕ} {ids : List (List ℕ)} → RunOf u ids → ids_in u ≡ ids
 unfolding ids_in
 run_is {u} {ids} r =
     let n : length u / 14 ≡ length ids = omega (arith, ap length r.is, run_length ids r.each) in
-    ap (λ (k : ℕ). first_i_ds k u) n ∙ ap (first_i_ds (length ids)) (sym r.is) ∙ first_is_lem ids r.each
+    ap (λ (k : ℕ). first_ids k u) n ∙ ap (first_ids (length ids)) (sym r.is) ∙ first_is_lem ids r.each
 
 ids_run : (u : List ℕ) → length u % 14 ≡ 0 → RunOf u (ids_in u)
 unfolding ids_in
@@ -113,5 +113,5 @@ used_exactly id u = (used_is id u, λ h. go h)
 
 -- no ID has been used
 pub none_used : (id : List ℕ) → unused id [] ≡ true
-unfolding unused ids_in first_i_ds
+unfolding unused ids_in first_ids
 none_used id = refl

@@ -1,6 +1,6 @@
 -- Definitions, to be believed.
 -- A run of used IDs without positions: IDs of 14 bytes each, one after another. The promises (cuttings, specs/Cuttings.antt) speak of runs so; that what
--- `unused` (Used.antt) refuses is exactly what document 02 (vii) says with these words is `used-exactly` (proofs/Runs.antt).
+-- `unused` (Used.antt) refuses is exactly what document 02 (vii) says with these words is `used_exactly` (proofs/Runs.antt).
 use Rattle.std.specs.Prelude.{ℕ, ◌*◌, ◌≡◌, List, ◌∷◌, ◌++◌, length}
 use Rattle.lists.specs.Lists.{All}
 use Rattle.characters.specs.Rows.{flat}

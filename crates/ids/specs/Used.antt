@@ -5,13 +5,13 @@ use Rattle.std.specs.Prelude.{ℕ, zero, suc, ◌/◌, ◌%◌, Bool, false, not
 use Rattle.lists.specs.Lists.{same}
 
 -- the first n IDs of a run
-unfoldable pub first_i_ds : ℕ → List ℕ → List (List ℕ)
-first_i_ds zero u = []
-first_i_ds (suc n) u = take 14 u ∷ first_i_ds n (drop 14 u)
+unfoldable pub first_ids : ℕ → List ℕ → List (List ℕ)
+first_ids zero u = []
+first_ids (suc n) u = take 14 u ∷ first_ids n (drop 14 u)
 
 -- "a lent run of 14-byte IDs": all of them
 unfoldable pub ids_in : List ℕ → List (List ℕ)
-ids_in u = first_i_ds (length u / 14) u
+ids_in u = first_ids (length u / 14) u
 
 -- "one of its IDs is the one given"
 abbrev pub one_is : List ℕ → List (List ℕ) → Bool

@@ -204,7 +204,7 @@ comma_here (a ∷ l) j h = go (is_comma a) refl (comma_here l) j h
     go true q i (suc j) h = rw (comma_shift 0 l, get_d_suc (commas_from 0 l) j (omega (arith, count_places 0 l))) (i j (omega arith))
     go false q i j h = rw (comma_shift 0 l, get_d_suc (commas_from 0 l) j (omega (arith, count_places 0 l))) (i j (omega arith))
 
--- ---- the same by `commaAt`
+-- ---- the same by `comma_at`
 
 get_d_any : (ps : List ℕ) (j x y : ℕ) → j < length ps → get_or ps j x ≡ get_or ps j y
 get_d_any [] j x y h = absurd (omega arith)

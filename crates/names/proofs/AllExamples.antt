@@ -1,4 +1,4 @@
--- The files of specs/Examples.antt come out as written there, in every call; and the premises of `Mixed-refused` and `Script-alone` hold of names there. Assumes
+-- The files of specs/Examples.antt come out as written there, in every call; and the premises of `MixedRefused` and `ScriptAlone` hold of names there. Assumes
 -- nothing.
 use Prim.Native.Nat.{ℕ}
 use mathlib.Core.Path.{◌≡◌, refl, sym, ◌∙◌}
@@ -28,7 +28,7 @@ use Rattle.notebook.specs.Check.{count, check_result}
 use Rattle.notebook.specs.Index.{entry_of, entered, entries_from, entries_after_head, entries_of, clinic_after, clinic_of, listed_from, list_of, numbers, numbers_of, index_result}
 use Rattle.notebook.specs.Same.{arrange}
 use Rattle.notebook.specs.Canonical.{record_rows, write_file, canonical_bytes, canonical_file, canonical_result}
-use Rattle.ids.specs.Used.{first_i_ds, ids_in, unused}
+use Rattle.ids.specs.Used.{first_ids, ids_in, unused}
 use Rattle.packing.specs.Packing.{total, put, pack}
 use Rattle.packing.specs.Widths.{over, serves, tries, plan}
 use Rattle.division.specs.Marks.{valid_id, mark_line, read_mark}
@@ -45,7 +45,7 @@ unfolding bytes joined file_after header
 hira_file_lem = refl
 
 pub files_hold : (said_hold said && (visit_holds && (pieces_hold && late_holds))) ≡ true
-unfolding count file_after full_row part_row allowed cell_script trail_script pair_script answer_in seven_numbers entry_of entered entries_from entries_after_head entries_of clinic_after clinic_of listed_from list_of numbers numbers_of bytes value number spell is_line leap month_length is_real is_day gregorian era_of era_on in_era from_era read_day write_day joined table edge one_width one_script is_decimal sized fault value_of seven postal prefecture item_fault item_value items_fault items_value row_in table_row pairs code_pair t911 is_mark record_from fault_from line_fault record_of header write in_group may_follow pair_broken misplaced continues closes_rp lacking missing value_wrong newer_group order_refusal unfinished nothing_yet start had_after advance refusal_of step_of finish_of facts_of step_line closed onward records_from read_rows read_file check_result index_result record_rows arrange write_file canonical_bytes canonical_file canonical_result total put pack digit_count over serves tries plan valid_id first_i_ds ids_in unused mark_line read_mark kind_of broken_from broken_line body_of pieces_in split_rows split piece_file unmarked part_of all_parts agree find_part gather join_pieces joined_file join_file join_result piece_bytes numbered cutting cut_list cut_result group_of drug_of doctor_of rp_of
+unfolding count file_after full_row part_row allowed cell_script trail_script pair_script answer_in seven_numbers entry_of entered entries_from entries_after_head entries_of clinic_after clinic_of listed_from list_of numbers numbers_of bytes value number spell is_line leap month_length is_real is_day gregorian era_of era_on in_era from_era read_day write_day joined table edge one_width one_script is_decimal sized fault value_of seven postal prefecture item_fault item_value items_fault items_value row_in table_row pairs code_pair t911 is_mark record_from fault_from line_fault record_of header write in_group may_follow pair_broken misplaced continues closes_rp lacking missing value_wrong newer_group order_refusal unfinished nothing_yet start had_after advance refusal_of step_of finish_of facts_of step_line closed onward records_from read_rows read_file check_result index_result record_rows arrange write_file canonical_bytes canonical_file canonical_result total put pack digit_count over serves tries plan valid_id first_ids ids_in unused mark_line read_mark kind_of broken_from broken_line body_of pieces_in split_rows split piece_file unmarked part_of all_parts agree find_part gather join_pieces joined_file join_file join_result piece_bytes numbered cutting cut_list cut_result group_of drug_of doctor_of rp_of
 files_hold = refl
 
 -- mixtures: proper, of items, and in no script

@@ -1,4 +1,4 @@
--- A name in one script by its bytes is what `oneScript` asks. Assumes nothing.
+-- A name in one script by its bytes is what `one_script` asks. Assumes nothing.
 use Prim.Native.Nat.{ℕ, ◌<◌}
 use native.Mathlib.Omega.{arith}
 use mathlib.Core.Path.{◌≡◌, refl, sym, ap, ◌∙◌}

@@ -1,6 +1,6 @@
 -- Promises, to be believed.
--- DOCUMENT 02 (viii), one script in kana names, as statements about what the calls reply and leave in their outputs: `Refused-by-all`,
--- `Accepted-in-one-script`, `Mixed-refused`, `Script-alone`. proofs/Promises.antt proves each.
+-- DOCUMENT 02 (viii), one script in kana names, as statements about what the calls reply and leave in their outputs: `RefusedByAll`,
+-- `AcceptedInOneScript`, `MixedRefused`, `ScriptAlone`. proofs/Promises.antt proves each.
 use Rattle.std.specs.Prelude.{ℕ, ◌≤◌, ◌≡◌, Bool, true, false, not, ◌||◌, ◌⊎◌, List, [], ◌∷◌, ◌++◌, map, eqb, length}
 use Rattle.lists.specs.Lists.{All, Res, ok, all}
 use Rattle.characters.specs.Text.{all_chars, is_stop}

@@ -1,6 +1,6 @@
 -- Definitions, to be believed.
 -- A kana name in one script, by its bytes (characters, specs/Scripts.antt) and without the reading of characters. Document 02 (viii).
--- proofs/Scripts.antt shows that it is what `oneScript` asks (records, specs/Items.antt).
+-- proofs/Scripts.antt shows that it is what `one_script` asks (records, specs/Items.antt).
 use Rattle.std.specs.Prelude.{ℕ, ◌≡◌, Bool, true, ◌||◌, List, [], ◌∷◌}
 use Rattle.lists.specs.Lists.{All}
 use Rattle.characters.specs.Cells.{is_one}

@@ -1,6 +1,6 @@
 -- What holds of the sequence in which a canonical file has its records (`arrange`): no other law looks into it. The arranged notebook of an accepted file is
--- that of a file too (`arranged-carries`), of the same length (`arranged-length`) and counts (`arranged-counts`), and arranging again changes nothing
--- (`arranged-again`). `arrange-as-is` is for what rests on the file's own sequence: code that writes records as it reads them, and the fewest
+-- that of a file too (`arranged_carries`), of the same length (`arranged_length`) and counts (`arranged_counts`), and arranging again changes nothing
+-- (`arranged_again`). `arrange_as_is` is for what rests on the file's own sequence: code that writes records as it reads them, and the fewest
 -- pieces. Assumes nothing.
 use Prim.Native.Nat.{ℕ}
 use mathlib.Core.Path.{◌≡◌, refl}

@@ -21,7 +21,7 @@ unfolding canonical_bytes
 again b = ap write_file (arranged_again b)
 
 module _ (f : List ℕ) (b : Notebook) (e : read_file f ≡ ok b) where
-  -- IT IS ACCEPTED, AND CARRIES THE SAME NOTEBOOK (`arranged-again`)
+  -- IT IS ACCEPTED, AND CARRIES THE SAME NOTEBOOK (`arranged_again`)
   pub canonical_carries : read_file (canonical_bytes b) ≡ ok (arrange b)
   unfolding canonical_bytes
   canonical_carries = arranged_carries f b e

@@ -1,4 +1,4 @@
--- The seventh number of an index: what it is without the walk (`index-clinic`), and document 02's sentences over the call's output
+-- The seventh number of an index: what it is without the walk (`index_clinic`), and document 02's sentences over the call's output
 -- (specs/Clinics.antt). Assumes nothing.
 use Prim.Native.Nat.{ℕ, zero, suc, ◌+◌, ◌*◌, ◌≤◌, ◌<◌}
 use native.Mathlib.Nat.{add-zero}

@@ -1,5 +1,5 @@
--- The groups of an accepted file (specs/Groups.antt): what stands before, in and after them (`file-front`, `file-groups`, `file-tail`), how many there are (`file-count`), that
--- their days never rise (`file-days`), and that the index's group ordinals are theirs (`file-ordinals`). All but the days follow from what may
+-- The groups of an accepted file (specs/Groups.antt): what stands before, in and after them (`file_front`, `file_groups`, `file_tail`), how many there are (`file_count`), that
+-- their days never rise (`file_days`), and that the index's group ordinals are theirs (`file_ordinals`). All but the days follow from what may
 -- follow what, tested once over all places and rows of the pattern (`follow`). Assumes nothing.
 use Prim.Native.Nat.{ℕ, ◌+◌, ◌≤◌}
 use native.Mathlib.Omega.{arith}

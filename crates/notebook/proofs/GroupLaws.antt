@@ -1,5 +1,5 @@
 -- The division of a notebook's records into front, groups and tail (specs/Groups.antt) is the only one of its shape: parts put together are the records
--- (`parts_whole`), have the shape (`parts-shaped`), and are found again (`parts-of`). Assumes nothing.
+-- (`parts_whole`), have the shape (`parts_shaped`), and are found again (`parts_of_lem`). Assumes nothing.
 use mathlib.Core.Path.{◌≡◌, refl, ap, ◌∙◌}
 use mathlib.Core.Bool.{Bool, true, false}
 use mathlib.Core.List.{List, [], ◌∷◌, ◌++◌, append_assoc, flatten}

@@ -1,5 +1,5 @@
--- The notebook of an accepted file, written with its records as they stand (`writeFile`): its rows, that they are a file of the notebook
--- (`written-carries`), and that it is no longer than the file (`written-short`). Assumes nothing.
+-- The notebook of an accepted file, written with its records as they stand (`write_file`): its rows, that they are a file of the notebook
+-- (`written_carries`), and that it is no longer than the file (`written_short`). Assumes nothing.
 use Prim.Native.Nat.{ℕ, ◌+◌, ◌≤◌}
 use native.Mathlib.Omega.{arith}
 use native.Mathlib.Nat.{le_refl}

@@ -19,7 +19,7 @@ ended l = l ++ line_end
 abbrev pub head_row : Bool → List ℕ
 head_row provider = ended (header provider)
 
--- a record, each value in its one spelling (records, specs/Items.antt, `writeValue`)
+-- a record, each value in its one spelling (records, specs/Items.antt, `write_value`)
 abbrev pub record_row : Record → List ℕ
 record_row r = ended (write r)
 

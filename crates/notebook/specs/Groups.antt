@@ -1,6 +1,6 @@
 -- A second statement, proved equal.
--- A notebook's records as what stands before its groups (`front`), its groups and its 701s (`tail`): `parts_of` divides them, `recordsOf` puts them
--- together, and no other division has the shape `Shaped` (proofs/GroupLaws.antt). Then what is asked of a group (`groupDay`, `institution`), of the
+-- A notebook's records as what stands before its groups (`front`), its groups and its 701s (`tail`): `parts_of` divides them, `records_of` puts them
+-- together, and no other division has the shape `Shaped` (proofs/GroupLaws.antt). Then what is asked of a group (`group_day`, `institution`), of the
 -- groups (`NewestFirst`) and of a notebook (`person`). Proved equal to what the index and check say are the groups, their ordinals and their days; `institution`
 -- and `person` are held by examples alone until a call rests on them. Document 01, "Order of records", "Index"; 15-106 3.2.7, 3.2.9.
 use Rattle.std.specs.Prelude.{ℕ, ◌+◌, ◌≤◌, ◌≡◌, false, cond, ◌||◌, eqb}

@@ -1,7 +1,7 @@
 -- What the rules come to for each record number: `of-N` is the refusal of a record of number N, in the order in which the code asks, with
--- tests joined as it joins them (`orMember`); a number that stands nowhere is refused by its place (`of_other`). Each goes by the part of the
+-- tests joined as it joins them (`or_member`); a number that stands nowhere is refused by its place (`of_other`). Each goes by the part of the
 -- pattern that the place is in; a place in one part is in no other (`isnt`, `off`). Numbers that are asked the same share a law over where they
--- may stand (`headed`, `fronted`, `kept`, `in-the-rest`, `closes`). Assumes nothing.
+-- may stand (`headed`, `fronted`, `kept`, `in_the_rest_lem`, `closes`). Assumes nothing.
 use Prim.Native.Nat.{ℕ, ◌+◌}
 use mathlib.Core.Path.{◌≡◌, refl, ap, sym, ◌∙◌}
 use mathlib.Core.Logic.{◌⊎◌, inl, inr}

@@ -1,6 +1,6 @@
 -- Laws of the order of records, for callers in place of the definitions' text: what a step says (`taken`, `refused`, `good`), what it
--- keeps (`room`, `next-line`, `provider-kept`), what it hands back (`rp-handed`, `rp-open`, `doctor-handed`), and that no doctor reaches
--- into the next group (`never-into-next`). Assumes nothing.
+-- keeps (`room`, `next_line`, `provider_kept`), what it hands back (`rp_handed`, `rp_open`, `doctor_handed`), and that no doctor reaches
+-- into the next group (`never_into_next`). Assumes nothing.
 use Prim.Native.Nat.{ℕ, ◌+◌, ◌≤◌, ◌<◌}
 use native.Mathlib.Omega.{arith}
 use mathlib.Core.Path.{◌≡◌, refl, ap, sym, ◌∙◌}

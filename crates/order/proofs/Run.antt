@@ -1,4 +1,4 @@
--- A run of records by its steps, for a caller's loop: `run_on` and `run-refused` for one record, `ran-after` and `line_after` for all.
+-- A run of records by its steps, for a caller's loop: `run_on` and `run_refused` for one record, `ran_after` and `line_after` for all.
 -- Assumes nothing.
 use Prim.Native.Nat.{ℕ, ◌+◌}
 use native.Mathlib.Omega.{arith}

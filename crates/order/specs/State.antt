@@ -6,7 +6,7 @@
 -- `Facts`, what the rules look at in a record: its `number`; `rp`, the first item of a 201 to 391; `day`, a 5's day as the number YYYYMMDD;
 -- `schedule`, an 11's fee schedule (third item); `form`, a 301's form (fifth item); `named`, whether a 301 has a usage name. An empty item is 0,
 -- or false, and so is what another record would have.
--- `Had`, what the last group has had, which `inGroup` tells to be open: `had11`, `had51`, `had411`, whether these records; `schedule`, its 11's fee schedule; `rp`, the open RP's value,
+-- `Had`, what the last group has had, which `in_group` tells to be open: `had11`, `had51`, `had411`, whether these records; `schedule`, its 11's fee schedule; `rp`, the open RP's value,
 -- which is also the count of RPs; `had301`, whether that RP its 301; `doctor` and `drug`, the lines of the last 55 and 201. 0 where there is none.
 -- `State`, where the reader is: `provider`, whether the direction is 1; `place`, the number of the last record, and `line`, its line; `groups` and
 -- `drugs`, how many 5s and 201s so far; `day`, the last 5's; `had`, of the open group.

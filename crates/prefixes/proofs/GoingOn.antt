@@ -1,5 +1,5 @@
 -- Records that complete a group of direction 1 where nothing is too late (`complete`), and what holds at each place that taken records lead to
--- (`kept-after`): computed tests over places, numbers and answers. Assumes nothing.
+-- (`kept_after_lem`): computed tests over places, numbers and answers. Assumes nothing.
 use Prim.Native.Nat.{ℕ, ◌+◌, ◌≤◌, ◌<◌}
 use native.Mathlib.Omega.{arith}
 use mathlib.Core.Path.{◌≡◌, refl, ap, sym, ◌∙◌, subst}

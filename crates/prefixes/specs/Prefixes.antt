@@ -2,7 +2,7 @@
 -- The lines before a refused one: something can follow them so that the file is accepted, exactly unless a record that direction 1 asks for can
 -- no longer come. Document 01 gives such a fault at the line that closes the part ("a record required in the part that this line or the end
 -- closes"), which may stand lines after the place where it became too late. Names of proofs/PrefixLaws.antt have the types: `goes_on` over
--- records, `lines-go-on` over bytes.
+-- records, `lines_go_on` over bytes.
 use Rattle.std.specs.Prelude.{ℕ, ◌+◌, ◌≤◌, ◌<◌, ◌≡◌, ◌↔◌, Bool, false, not, ◌&&◌, ◌||◌, List, [], ◌∷◌, ◌++◌, map, eqb, length}
 use Rattle.lists.specs.Lists.{member, ok, refused}
 use Rattle.records.specs.Records.{Record, header}

@@ -1,5 +1,5 @@
--- What `decimal` writes, without the bound of its definition (`decimal-digits`); how long it is (`decimal-short`); and that it writes a number below
--- 1,000 as `spell` does, in which canonical files and records 911 have theirs (`decimal-spell`). Assumes nothing.
+-- What `decimal` writes, without the bound of its definition (`decimal_digits_lem`); how long it is (`decimal_short`); and that it writes a number below
+-- 1,000 as `spell` does, in which canonical files and records 911 have theirs (`decimal_spell`). Assumes nothing.
 use Prim.Native.Nat.{ℕ, zero, suc, ◌+◌, ◌*◌, ◌/◌, ◌%◌, ◌^◌, ◌≤◌, ◌<◌}
 use native.Mathlib.Nat.{pow-suc}
 use native.Mathlib.Omega.{arith}

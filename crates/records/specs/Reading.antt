@@ -1,5 +1,5 @@
 -- A second statement, proved equal.
--- A line read to a record or to its fault: `lineFault` and `recordOf` in one, for statements about lines that are read.
+-- A line read to a record or to its fault: `line_fault` and `record_of` in one, for statements about lines that are read.
 use Rattle.std.specs.Prelude.{ℕ, Bool, cond, List, eqb}
 use Rattle.records.specs.Records.{Record, line_fault, record_of}
 

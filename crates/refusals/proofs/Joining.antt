@@ -1,5 +1,5 @@
 -- What joining refuses with, and at which line: the joined file has no more line ends than the pieces, begins with a line 1 and has no record 911
--- (`join-refuses`). Assumes nothing.
+-- (`join_refuses`). Assumes nothing.
 use Prim.Native.Nat.{ℕ, zero, suc, ◌+◌, ◌≤◌, ◌<◌}
 use native.Mathlib.Omega.{arith}
 use mathlib.Core.Path.{◌≡◌, refl, sym, ap, ◌∙◌, subst}

@@ -1,4 +1,4 @@
--- How many line ends the bytes of lines have: a line has one, at its end (`line-ends`, `lines-ends`). Assumes nothing.
+-- How many line ends the bytes of lines have: a line has one, at its end (`line_ends_lem`, `lines_ends`). Assumes nothing.
 use Prim.Native.Nat.{ℕ, suc, ◌+◌}
 use native.Mathlib.Omega.{arith}
 use mathlib.Core.Path.{◌≡◌, refl, ap, ◌∙◌}

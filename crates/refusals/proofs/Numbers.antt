@@ -1,4 +1,4 @@
--- The numbers that a line can be refused with: 4 to 16, and 6 only for a record 911 (`step-number`). Assumes nothing.
+-- The numbers that a line can be refused with: 4 to 16, and 6 only for a record 911 (`step_number`). Assumes nothing.
 use Prim.Native.Nat.{ℕ, ◌≤◌, ◌<◌}
 use native.Mathlib.Omega.{arith}
 use mathlib.Core.Path.{◌≡◌, refl}

@@ -1,5 +1,5 @@
--- What a file is refused with, and at which line (`file-refuses`); and what follows a line 1, which has no 3, and 6 only for a record 911
--- (`book-refuses`). Assumes nothing.
+-- What a file is refused with, and at which line (`file_refuses`); and what follows a line 1, which has no 3, and 6 only for a record 911
+-- (`book_refuses`). Assumes nothing.
 use Prim.Native.Nat.{ℕ, suc, ◌+◌, ◌≤◌, ◌<◌}
 use native.Mathlib.Omega.{arith}
 use mathlib.Core.Path.{◌≡◌, refl, sym, ◌∙◌, subst}

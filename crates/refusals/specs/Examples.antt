@@ -1,6 +1,6 @@
 -- Examples, computed.
 -- Inputs whose refusal and line reach the ends of the claim, written from document 01: for each call an input for every number that it gives but 1
--- (which is `Large-first`), with its line and the line ends of the bytes given. proofs/AllExamples.antt computes them.
+-- (which is `LargeFirst`), with its line and the line ends of the bytes given. proofs/AllExamples.antt computes them.
 use Rattle.std.specs.Prelude.{ℕ, Bool, true, ◌&&◌, ◌||◌, List, [], ◌∷◌, ◌++◌, eqb}
 use Rattle.lists.specs.Lists.{bytes, all, member}
 use Rattle.characters.specs.Rows.{end_mark}

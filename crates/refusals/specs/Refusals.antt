@@ -1,7 +1,7 @@
 -- Promises, to be believed.
 -- DEMAND 1, as statements about the definitions that the contracts of the exported calls cite: "The answer to every input, of any length and content,
 -- is a result or one refusal from document 01 with its line. It always comes, and a refusal leaves all lent memory as lent." One statement for all
--- calls: `Always-answered`, `Refusal-keeps`, `Zero-is-a-result`, `Large-first`. proofs/Promises.antt proves each.
+-- calls: `AlwaysAnswered`, `RefusalKeeps`, `ZeroIsAResult`, `LargeFirst`. proofs/Promises.antt proves each.
 use Rattle.std.specs.Prelude.{ℕ, ◌+◌, ◌≤◌, ◌<◌, ◌≡◌, true, false, cond, ◌&&◌, List, [], ◌∷◌, ◌++◌, eqb, length}
 use Rattle.lists.specs.Lists.{Res, member}
 use Rattle.replies.specs.declared.Reply.{Reply}

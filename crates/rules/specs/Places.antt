@@ -1,6 +1,6 @@
 -- Definitions, to be believed.
 -- The places of document 01's "Order of records" (15-106 3.2.7, patterns 1 and 2): the place is the number of the last record, 0 before
--- the first. Each record moves the reader to the place of its own number, so the pattern is which record may follow which (`mayFollow`).
+-- the first. Each record moves the reader to the place of its own number, so the pattern is which record may follow which (`may_follow`).
 use Rattle.std.specs.Prelude.{ℕ, Bool, false, cond, ◌||◌, List, [], ◌∷◌, eqb}
 use Rattle.lists.specs.Lists.{member}
 

@@ -4,7 +4,7 @@
 use Rattle.std.specs.Prelude.{ℕ, Bool}
 
 -- Asked of the records so far. `provider`: direction 1. `dispensing`: the open group's 11 has fee schedule 4; `treating`: it has 1 or 3
--- (15-106 3.2.9, record 11, third item: 1 medical, 3 dental, 4 dispensing). `had11` to `noDoctor` speak of the open group, `had301` of its
+-- (15-106 3.2.9, record 11, third item: 1 medical, 3 dental, 4 dispensing). `had11` to `no_doctor` speak of the open group, `had301` of its
 -- open RP.
 pub record Before : Type 0 where
   pub provider : Bool

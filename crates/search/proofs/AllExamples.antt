@@ -1,5 +1,5 @@
 -- The searches of specs/Examples.antt have the counts written there: by `looks`, which is `CountIs` (proofs/Looks.antt). Three pieces out of order are a
--- set such as `Looks-in-all` speaks of, and take 6 looks. Assumes nothing.
+-- set such as `LooksInAll` speaks of, and take 6 looks. Assumes nothing.
 use Prim.Native.Nat.{◌+◌, ◌*◌, ◌<◌}
 use mathlib.Core.Path.{◌≡◌, refl}
 use mathlib.Core.List.{[], ◌∷◌, map}

@@ -1,5 +1,5 @@
 -- A second statement, proved equal.
--- The count as it is raised: one for each piece looked at, and no more after the piece found (`count-looks`, proofs/Looks.antt).
+-- The count as it is raised: one for each piece looked at, and no more after the piece found (`count_looks`, proofs/Looks.antt).
 use Rattle.std.specs.Prelude.{ℕ, suc, cond, List, [], ◌∷◌, eqb}
 
 unfoldable pub looks : ℕ → List ℕ → ℕ

@@ -8,7 +8,7 @@ use borrow.Author.Tests.{eq-eqb, ne_eqb}
 use lib.ListN.{length, take, drop}
 use lib.Seq.{drop-drop}
 use Rattle.lists.specs.Lists.{same}
-use Rattle.ids.specs.Used.{first_i_ds, ids_in, one_is, unused}
+use Rattle.ids.specs.Used.{first_ids, ids_in, one_is, unused}
 use Rattle.used.specs.Searching.{Given, Left}
 
 pub run_start : (id u : List ℕ) → length u % 14 ≡ 0 → Left id u 0
@@ -29,11 +29,11 @@ answer id u b e q = rw (eq-eqb (length u % 14) 0 e) (ap not (sym q))
 module _ {id u : List ℕ} {i : ℕ} (v : Left id u i) where
   module _ (h : i < length u) where
     -- one ID more is left
-    more : first_i_ds ((length u - i) / 14) (drop i u) ≡ take 14 (drop i u) ∷ first_i_ds ((length u - (i + 14)) / 14) (drop (i + 14) u)
-    unfolding first_i_ds
+    more : first_ids ((length u - i) / 14) (drop i u) ≡ take 14 (drop i u) ∷ first_ids ((length u - (i + 14)) / 14) (drop (i + 14) u)
+    unfolding first_ids
     more =
         let n : (length u - i) / 14 ≡ suc ((length u - (i + 14)) / 14) = omega (arith, v.whole, v.start, h) in
-        ap (λ (k : ℕ). first_i_ds k (drop i u)) n ∙ ap (λ (t : List ℕ). take 14 (drop i u) ∷ first_i_ds ((length u - (i + 14)) / 14) t) (drop-drop 14 i u)
+        ap (λ (k : ℕ). first_ids k (drop i u)) n ∙ ap (λ (t : List ℕ). take 14 (drop i u) ∷ first_ids ((length u - (i + 14)) / 14) t) (drop-drop 14 i u)
 
     pub run_given : length id ≡ 14 → Given u i id
     run_given e = record { inside = omega (arith, v.whole, v.start); ident = e }
@@ -51,7 +51,7 @@ module _ {id u : List ℕ} {i : ℕ} (v : Left id u i) where
       }
 
   pub run_out : length u ≤ i → true ≡ unused id u
-  unfolding first_i_ds
+  unfolding first_ids
   run_out h = answer id u false v.whole (v.left ∙ (let z : (length u - i) / 14 ≡ 0 = omega (arith, h) in rw z))
 
 pub ruleset run_laws = (run_start, other_length, run_given, run_found, run_go, run_out)

@@ -3,7 +3,7 @@
 use Rattle.std.specs.Prelude.{ℕ, ◌+◌, ◌-◌, ◌/◌, ◌%◌, ◌≤◌, ◌≡◌, Bool, List, length, drop}
 use Rattle.lists.specs.Lists.{same}
 use Rattle.lists.specs.Searching.{part}
-use Rattle.ids.specs.Used.{first_i_ds, ids_in, one_is}
+use Rattle.ids.specs.Used.{first_ids, ids_in, one_is}
 
 -- eight bytes follow both positions
 pub record EightIn (a : List ℕ) (i : ℕ) (b : List ℕ) (j : ℕ) : Type 0 where
@@ -25,4 +25,4 @@ pub record Left (id u : List ℕ) (i : ℕ) : Type 0 where
   pub inside : i ≤ length u
   pub whole : length u % 14 ≡ 0
   pub start : i % 14 ≡ 0
-  pub left : one_is id (ids_in u) ≡ one_is id (first_i_ds ((length u - i) / 14) (drop i u))
+  pub left : one_is id (ids_in u) ≡ one_is id (first_ids ((length u - i) / 14) (drop i u))

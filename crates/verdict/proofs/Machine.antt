@@ -1,5 +1,5 @@
 -- The machine of `order` by what its rules look at: lines, counts and drugs left out, a group and a doctor by whether there is one. `accepts` is
--- the machine's acceptance; the small machine accepts the same (`machine-core`). Assumes nothing.
+-- the machine's acceptance; the small machine accepts the same (`machine_core`). Assumes nothing.
 use Prim.Native.Nat.{ℕ, ◌+◌}
 use native.Mathlib.Numerals.{add-one}
 use mathlib.Core.Path.{◌≡◌, refl, ap, ◌∙◌}

@@ -1,6 +1,6 @@
 -- A second statement, proved equal.
 -- What is claimed: that a file is accepted exactly when it meets document 01's clauses, the order of its records by the grammar. Each claim is a
--- type here, and a name of proofs/Verdict.antt has that type: `machine-is-grammar`, `file-is-grammar`, `check-is-grammar`.
+-- type here, and a name of proofs/Verdict.antt has that type: `machine_is_grammar`, `file_is_grammar`, `check_is_grammar`.
 use Rattle.std.specs.Prelude.{ℕ, ◌≤◌, ◌≡◌, ◌↔◌, Bool, cond, List, [], ◌∷◌, ◌++◌, map, length}
 use Rattle.lists.specs.Lists.{ok}
 use Rattle.characters.specs.Rows.{line_end, end_mark}

@@ -1,6 +1,6 @@
 -- A second statement, proved equal.
 -- What is claimed of the index: it is the one read off the tree of a file's records (grammar, specs/TreeRows.antt), its clinics too, and no two groups
--- share a doctor. Names of proofs/TreeIndexLaws.antt have the types: `index-is-the-trees`, `tree-shares-none`, `no-shared-doctor`.
+-- share a doctor. Names of proofs/TreeIndexLaws.antt have the types: `index_is_the_trees`, `tree_shares_none`, `no_shared_doctor`.
 use Rattle.std.specs.Prelude.{ℕ, ◌≡◌, List, ◌∷◌, ◌++◌, map}
 use Rattle.lists.specs.Lists.{ok}
 use Rattle.notebook.specs.Facts.{facts_of}
