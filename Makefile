@@ -9,7 +9,7 @@
 # make test-install   installs under a prefix of its own, uses what is there from C, Rust and the shell, and uninstalls it; what a missing tool leads to
 # make uninstall      removes what install puts there
 #
-# What rt has built stays while it is newer than the code; `rt ci` is what removes it and proves all from nothing.
+# What rt has built is copied to target/ and stays there while it is newer than the code; `rt ci` is what proves all from nothing.
 
 PREFIX ?= /usr/local
 BINDIR ?= $(PREFIX)/bin
@@ -32,8 +32,8 @@ BUILD ?= release
 VERSION := $(shell cat VERSION)
 LIBRARY = target/staticlib/libgateway.a
 COMMAND = hosts/rust/target/$(BUILD)/notebook
-CODE = $(wildcard crates/*/src/lib.rt)
-# Of these, the programs that crates.txt lists.
+CODE = $(filter-out %/main.rt,$(wildcard crates/*/src/*.rt))
+# The programs; those that crates.txt lists are built.
 NAMES = notecheck noteindex notecanon notecut notejoin
 PROGRAMS = $(filter $(NAMES),$(shell sed -n 's/^\([a-z_]*\):.*/\1/p' crates.txt))
 INSTALLED = $(NAMES) notebook
@@ -48,8 +48,8 @@ to_include = $(call quoted,$(DESTDIR)$(includedir))
 to_bin = $(call quoted,$(DESTDIR)$(call absolute,$(BINDIR)))
 NEEDS = RT=$(call quoted,$(RT)) CC=$(call quoted,$(CC)) CARGO=$(call quoted,$(CARGO)) hosts/needs --missing
 
-.PHONY: all library programs command run test stack memcheck memcheck-rust install uninstall test-install clean
-# rt keeps its records under target/: one rt at a time.
+.PHONY: all library programs take-programs command run test stack memcheck memcheck-rust install uninstall test-install clean
+# Each rt takes the processors that are there: one rt at a time.
 .NOTPARALLEL:
 
 all: library programs
@@ -59,12 +59,20 @@ library: $(LIBRARY)
 programs: $(PROGRAMS:%=target/bin/%)
 
 $(LIBRARY): $(CODE)
-	$(RT) staticlib gateway
-	touch $@
+	cd crates/gateway_c && $(RT) lib
+	mkdir -p $(@D)
+	cp crates/gateway_c/out/libgateway_c.a $@
 
+# rt links a program when it runs it: here on an empty input and without words, on which each ends with 0.
 target/bin/%: crates/%/src/main.rt $(CODE)
-	$(RT) check $*
-	touch $@
+	cd crates/$* && $(RT) run < /dev/null > /dev/null
+	mkdir -p $(@D)
+	cp crates/$*/out/$* $@
+
+# The programs as rt ci has just proved, built and run them; .ci/run then tests these.
+take-programs:
+	mkdir -p target/bin
+	cp $(foreach name,$(PROGRAMS),crates/$(name)/out/$(name)) target/bin
 
 # cargo knows itself what is old.
 command: $(LIBRARY)

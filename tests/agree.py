@@ -3,7 +3,8 @@ other must have the same.
 
     refusals    the table of docs/OPERATING.md; the numbers of each call: refusals/specs/Refusals.antt. A number that no call gives has no row, and
                 tables that go by number have "unknown" in its place
-    calls       the exports of gateway/src/lib.rt, with the definitions that their contracts cite
+    calls       the exports of gateway_c/src/lib.rt, with the definitions that their contracts cite; the functions of gateway, which they call, have
+                the same contracts word for word
     records     records/specs/Paper.antt, document 01's own text
     eras        eras/specs/Era.antt; the oracle is also held to these rows day by day. Of the sentences on eras, the ranges in docs/OPERATING.md
                 and the letters in README.md are read
@@ -34,7 +35,7 @@ HEADER, C_TEST = "include/notebook.h", "hosts/c/test.c"
 CRATE, HOSTS = "hosts/rust/notebook/", "hosts/rust/src/"
 REFUSAL, RAW, COMMAND = CRATE + "src/refusal.rs", CRATE + "src/raw.rs", CRATE + "src/bin/notebook/"
 PROMISES, EXAMPLES = "crates/refusals/specs/Refusals.antt", "crates/refusals/specs/Examples.antt"
-GATEWAY, CASES = "crates/gateway/src/lib.rt", "crates/cases/src/main.rt"
+GATEWAY, EXPORTS, CASES = "crates/gateway/src/lib.rt", "crates/gateway_c/src/lib.rt", "crates/cases/src/main.rt"
 
 FAULTS, PLACES = [], []
 
@@ -333,14 +334,24 @@ def exports_of(text):
     found = {}
     form = r'^pub extern "C" fn (notebook_\w+)\(([^)]*)\) -> ([\w:]+)\n((?:    ensures .*\n)+)\{'
     for name, parameters, answer, contract in every(form, text):
-        cited = set(re.findall(r"\breplyTo \((\w+)", contract))
+        cited = set(re.findall(r"\breply_to \((\w+)", contract))
         if len(cited) != (name not in WITHOUT_REPLY):
-            raise Unreadable(f"the contract of {name} cites as `replyTo (..)`: {sorted(cited) or 'nothing'}")
+            raise Unreadable(f"the contract of {name} cites as `reply_to (..)`: {sorted(cited) or 'nothing'}")
         parameters = [parameter.split(": ") for parameter in re.split(r",\s*", parameters.strip()) if parameter]
         found[name] = Export(parameters, answer, "".join(cited))
-    if not len(found) == text.count('extern "C"') == text.count("#[no_mangle]"):
-        raise Unreadable('not every `#[no_mangle] pub extern "C" fn` has the form that is read here')
+    if not len(found) == text.count('extern "C"') == text.count("#[unsafe(no_mangle)]"):
+        raise Unreadable('not every `#[unsafe(no_mangle)] pub extern "C" fn` has the form that is read here')
     return found
+
+
+def told_by(text):
+    """Each function with its comment, its parameters and its contract, as they stand."""
+    return rows(every(r'^((?:// .*\n)+#\[unsafe\(no_mangle\)\]\npub extern "C" fn notebook_\w+)(\([^)]*\) -> [\w:]+\n(?:    (?:requires|ensures) .*\n)+)\{', text))
+
+
+def called_by(text):
+    """What the body of each export is."""
+    return rows((name, body.strip()) for name, body in every(r'^pub extern "C" fn (notebook_\w+)\([^{]*\n(?:    (?:requires|ensures) .*\n)+\{\n    ((?:.*\n)+?)\}', text))
 
 
 def calls_of(exports):
@@ -370,6 +381,9 @@ def declared_in_raw(text):
 
 
 def compare_declarations(exports):
+    compare(GATEWAY, "the functions with their comments and contracts", told_by, told_by(text_of(EXPORTS)))
+    compare(EXPORTS, "what each export calls", called_by,
+            {name: f"gateway::{name}({', '.join(of for of, _ in export.parameters)})" for name, export in exports.items()})
     compare(HEADER, "the declarations", declared_in_header, signatures(exports, 0))
     compare(RAW, "the declarations", declared_in_raw, signatures(exports, 1))
     compare(CRATE + "build.rs", "EXPORTS", array("EXPORTS"), names(exports))
@@ -424,7 +438,7 @@ def compare_letters(calls):
 
 
 def examples_of(text, calls):
-    """Of each call: its list of examples, and the numbers that `allReached` asks of that list."""
+    """Of each call: its list of examples, and the numbers that `all_reached` asks of that list."""
     reached = every(r"reached (\w+) (\w+)", block("all_reached =\n", "\n\n", text + "\n\n"))
     asked = {examples: numbers for numbers, examples in reached}
     found = []
@@ -439,11 +453,11 @@ def compare_promises(exports, calls, about):
             {call: exports["notebook_" + call].cited for call in calls})
     compare(PROMISES, "the constructors of `Call`",
             lambda text: names(every_line(r"(\w+) : .* → Call", block("pub data Call : Type 0 where\n", "\n\n", text))), names(calls))
-    compare(EXAMPLES, "the numbers that `allReached` asks of each call",
+    compare(EXAMPLES, "the numbers that `all_reached` asks of each call",
             lambda text: {call: numbers for call, (_, numbers) in examples_of(text, calls).items()},
             {call: about[call][1] if call in about else "a list of `about`" for call in calls})
-    compare("crates/refusals/proofs/AllExamples.antt", "the lists of `examples-hold`",
-            lambda text: names(re.findall(r"\w+", one(r"examples-hold : all_hold (.+) ≡ true", text))),
+    compare("crates/refusals/proofs/AllExamples.antt", "the lists of `examples_hold`",
+            lambda text: names(re.findall(r"\w+", one(r"examples_hold : all_hold (.+) ≡ true", text))),
             names(examples for examples, _ in examples_of(text_of(EXAMPLES), calls).values()))
 
 
@@ -707,7 +721,7 @@ def fields_in_readme(text):
 
 
 def fields_in_definition(text):
-    return numbered(every(r"\([ex] \.(\w+)\)", one(r"^entryNumbers x = (.+)$", text)))
+    return numbered(every(r"\b[ex]\.(\w+)", one(r"^entry_numbers x = let e = x\.entry in seven_numbers (.+)$", text)))
 
 
 def arrays_of_program(text):
@@ -777,7 +791,7 @@ def parts(refusals, exports, records, eras, entry):
 
 
 def main():
-    refusals, exports = source(OPERATING, refusals_of), source(GATEWAY, exports_of)
+    refusals, exports = source(OPERATING, refusals_of), source(EXPORTS, exports_of)
     records, eras = source("crates/records/specs/Paper.antt", items_of_paper), source("crates/eras/specs/Era.antt", eras_of)
     entry = source("tests/oracle.py", entry_of_oracle)
     for part in parts(refusals, exports, records, eras, entry):

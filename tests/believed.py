@@ -71,8 +71,8 @@ class Module:
 
 
 def words_of(name):
-    """The words by which a name is used: of one with places at its ends (`_orElse_`) what stands between them."""
-    return [w for w in name.split("_") if w] if name.startswith("_") or name.endswith("_") else [name]
+    """The words by which a name is used: of one with places for operands (`◌or_else◌`) what stands between them."""
+    return [w for w in name.split("◌") if w]
 
 
 def tokens(text):
@@ -161,7 +161,7 @@ def crates_in_order():
 
 def lookup(modules, module, where, name):
     """The declaration that an imported name means, None where it is the kit's."""
-    found = re.match(r"^Rattle·(\w+?)(?:·specs)?\.(.*)$", where)
+    found = re.match(r"^Rattle\.(\w+)\.(.*)$", where)
     if not found or (found.group(1), "") not in modules and not (CRATES / found.group(1)).exists():
         return None
     crate, parts = found.group(1), found.group(2).split(".")
@@ -197,7 +197,7 @@ def uses(modules, declaration):
                     found.add(other.declared[word])
         return found - {declaration}
     for line in declaration.lines:
-        if "Rattle·" in line:
+        if "Rattle." in line:
             fault(f"{declaration}: a qualified name: {line.strip()}")
         variables = bound(declaration, line)
         for word in (w.split(".")[0] for w in tokens(line)):
@@ -238,7 +238,7 @@ def contracts(modules, path, exported):
     kind = r'extern "C" ' if exported else ""
     for name, contract in re.findall(r"^pub %sfn (\w+)(.*?)^\{" % kind, text, re.S | re.M):
         roots[name] = set()
-        for word in (w for clause in clauses(contract) for w in tokens(clause)):
+        for word in (w.split(".")[0] for clause in clauses(contract) for w in tokens(clause)):
             if word in module.imports:
                 roots[name].add(lookup(modules, module, *module.imports[word]))
         for crate, word in re.findall(r"(\w+)::(\w+)", contract):
@@ -300,7 +300,7 @@ def table(parts, believed):
 def main():
     modules = read_all()
     parts = [(f"the contract of `{name}`", follow(modules, found))
-             for name, found in contracts(modules, CRATES / "gateway/src/lib.rt", True).items()]
+             for name, found in contracts(modules, CRATES / "gateway_c/src/lib.rt", True).items()]
     printing = contracts(modules, CRATES / "answers/src/lib.rt", False)
     parts.append(("the contract of `print`", follow(modules, printing["print"])))
     by_contract = set().union(*(found for _, found in parts))

@@ -56,7 +56,7 @@ fn main() {
 """
 
 # What the scripts use beside the tools that hosts/needs names.
-PLAIN = ["sh", "env", "cat", "cp", "dirname", "head", "mktemp", "rm", "sed", "sort", "tail", "tee", "touch", "tr"]
+PLAIN = ["sh", "env", "cat", "cp", "dirname", "grep", "head", "mktemp", "rm", "sed", "sort", "tail", "tee", "touch", "tr"]
 NEEDED = {
     "gate": ["rt", "make", "cc", "c++", "python3", "cargo", "pkg-config"],
     "run": ["rt", "cc", "cargo"],

@@ -1,7 +1,9 @@
 """Writes the table of must-fail edits in docs/PROMISES.md, from the edits themselves and from what the prover said to them.
 
-Run it after `rt ci` or `rt must-fail`, from anywhere: python3 tests/edit_table.py. An edit's first line is a comment that says what is wrong
-with it; the first error stands in target/must-fail/CRATE/LABEL/.log.
+    python3 tests/edit_table.py [FILE..]    from anywhere
+
+FILE is what `rt ci` or `rt must-fail` wrote, on both streams, with a line of each edit: the first error that the prover told. Without FILE it is target/ci.log,
+which .ci/run leaves. Where files tell of one edit twice, the last counts. An edit's first line is a comment that says what is wrong with it.
 """
 
 import glob
@@ -22,29 +24,54 @@ def said_of(edit):
     return first[2:].replace("|", "\\|")
 
 
-def first_error(crate, label):
-    """The file and the declaration that the prover refused first, or a function for which it found no proof of its own making."""
-    log = os.path.join(ROOT, "target", "must-fail", crate, label, ".log")
-    try:
-        with open(log, encoding="utf-8", errors="replace") as opened:
-            text = opened.read()
-    except OSError:
-        sys.exit("edit_table: no %s; run rt ci first" % os.path.relpath(log, ROOT))
-    found = re.search(r"((?:specs|proofs)/\S+?):\d+:\d+: error: `([^`]+)`(.*)", text)
-    unproved = re.search(r"^fn (?:\w+::)*(\w+): no proof", text, re.M)
-    if unproved and (not found or "was not admitted" in found.group(3)):
-        return "`%s`, no proof is found" % unproved.group(1)
-    return "%s, `%s`" % found.groups()[:2] if found else "?"
+def told_of_edits(files):
+    """What the prover told first of each edit, by (crate, label)."""
+    told = {}
+    for file in files:
+        try:
+            with open(file, encoding="utf-8", errors="replace") as opened:
+                lines = opened.read().split("\n")
+        except OSError:
+            sys.exit("edit_table: no %s; run .ci/run first, or name a file with what rt ci or rt must-fail wrote" % file)
+        for line in lines:
+            found = re.match(r"rt: must-fail (\w+)/([\w.-]+)\.edit: refused, as it must be(?: \(.*?\))?: (.*)", line)
+            if found:
+                told[found.group(1), found.group(2)] = found.group(3)
+    return told
 
 
-def main():
+def function_at(crate, file, number):
+    """The function that a line of code begins, or that begins next after its attributes."""
+    with open(os.path.join(ROOT, "crates", crate, file), encoding="utf-8") as opened:
+        lines = opened.read().split("\n")
+    found = re.search(r"^\s*(?:pub )?(?:unsafe )?(?:extern \"C\" )?fn (\w+)", "\n".join(lines[number - 1:]), re.M)
+    return found.group(1) if found else "?"
+
+
+def first_error(crate, told):
+    """The file and the declaration that the prover refused first; or the function, and which of its goals is not proved."""
+    at = re.match(r"(?:note: )?(?:\./)?((?:src|specs|proofs)/\S+?):(\d+):\d+: (.*)", told)
+    if not at:
+        return "?"
+    file, number, said = at.groups()
+    if file.startswith("src/"):
+        goal = re.search(r"\(`([^`]+)`\)", said)
+        return "%s, `%s`%s" % (file, function_at(crate, file, int(number)), ": `%s`" % goal.group(1) if goal else "")
+    name = re.match(r"error: `([^`]+)`", said)
+    return "%s, `%s`" % (file, name.group(1)) if name else file
+
+
+def main(files):
+    told = told_of_edits(files or [os.path.join(ROOT, "target", "ci.log")])
     with open(os.path.join(ROOT, "crates.txt"), encoding="utf-8") as opened:
-        crates = [line.split(":")[0] for line in opened if ":" in line and not line.startswith("#")]
+        crates = [line.split(":")[0].split()[0] for line in opened if ":" in line and not line.startswith("#")]
     lines = ["", "| the sentence that it breaks, or what is wrong | edit | refused first |", "|---|---|---|"]
     for crate in crates:
         for edit in sorted(glob.glob(os.path.join(ROOT, "crates", crate, "must-fail", "*.edit"))):
             label = os.path.basename(edit)[:-5]
-            lines.append("| %s | %s `%s` | %s |" % (said_of(edit), crate, label, first_error(crate, label)))
+            if (crate, label) not in told:
+                sys.exit("edit_table: nothing is told of %s/%s.edit" % (crate, label))
+            lines.append("| %s | %s `%s` | %s |" % (said_of(edit), crate, label, first_error(crate, told[crate, label])))
     with open(PAGE, encoding="utf-8") as opened:
         page = opened.read()
     start, stop = page.index(BEGIN) + len(BEGIN), page.index(END)
@@ -53,4 +80,4 @@ def main():
 
 
 if __name__ == "__main__":
-    main()
+    main(sys.argv[1:])

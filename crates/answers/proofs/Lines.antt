@@ -2,7 +2,7 @@
 -- written at a buffer's front is what `Prints` says. Assumes nothing.
 use Rattle.std.proofs.Common.{ℕ, zero, suc, ◌+◌, ◌-◌, ◌/◌, ◌%◌, ◌≤◌, ◌<◌, ◌≡◌, refl, sym, ap, ◌∙◌, Bool, true, false, leb, List, [], ◌∷◌, ◌++◌, append_assoc, length, take, drop, set, length-append, length-drop, length-set, take_at, arith, leb-true, leb-false, eq-eqb, ne_eqb}
 use Rattle.std.proofs.lemmas.List.{drop-set}
-use Rattle.inputs.specs.AtFront.{IsPrefixLen}
+use Rattle.inputs.specs.Counts.{IsPrefixLen}
 use Rattle.inputs.proofs.Bytes.{prefix_len_of_le}
 use Rattle.lists.specs.Lists.{bytes}
 use Rattle.buffers.specs.Buffers.{Wrote}

@@ -5,7 +5,7 @@
 
 ghost use Rattle.std.specs.Prelude.{[], ◌∷◌, ◌++◌, ◌+◌, ◌≤◌, ◌≡◌, length, take, drop, true};
 ghost use Rattle.std.specs.Io.KnownBytes.{Keeps};
-ghost use Rattle.inputs.specs.AtFront.{IsPrefixLen};
+ghost use Rattle.inputs.specs.Counts.{IsPrefixLen};
 ghost use Rattle.lists.specs.Lists.{bytes};
 ghost use Rattle.buffers.specs.Buffers.{Wrote};
 ghost use Rattle.printing.specs.Printed.{decimal, spaced, line, printed, Prints};

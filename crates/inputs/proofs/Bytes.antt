@@ -1,7 +1,8 @@
 -- What an answer tells where it is known to be bytes: they are at the buffer's front. Assumes nothing.
 use Rattle.std.proofs.Common.{ℕ, ◌≡◌, ◌≤◌, List, length, sym}
 use Rattle.std.proofs.lemmas.List.{length-take-le}
-use Rattle.inputs.specs.AtFront.{AtFront, IsPrefixLen}
+use Rattle.inputs.specs.Counts.{IsPrefixLen}
+use Rattle.inputs.specs.AtFront.{AtFront}
 use Rattle.inputs.specs.declared.Input.{Input}
 use Rattle.inputs.specs.declared.Input.TheVariants.{Bytes}
 

@@ -8,7 +8,7 @@
 #![tactic(auto)]
 
 ghost use Rattle.std.specs.Prelude.{◌≤◌};
-ghost use Rattle.inputs.specs.AtFront.{IsPrefixLen};
+ghost use Rattle.inputs.specs.Counts.{IsPrefixLen};
 
 use files::Outcome;
 use id_file::Ids;

@@ -1,4 +1,4 @@
-//! Finds the library and links it, or says what is missing. It is `libgateway.a` as `rt staticlib gateway` makes it, or the same
+//! Finds the library and links it, or says what is missing. It is `libgateway.a` as `make library` makes it, or the same
 //! installed by `make install` as `libnotebook.a`.
 
 use std::path::{Path, PathBuf};
@@ -8,7 +8,7 @@ use std::process::Command;
 const LIBRARIES: [&str; 2] = ["notebook", "gateway"];
 const EXPORTS: [&str; 6] =
     ["notebook_check", "notebook_index", "notebook_canonical", "notebook_cut", "notebook_join", "notebook_version"];
-const ADVICE: &str = "run `rt staticlib gateway` in the repository's root, or set NOTEBOOK_LIB_DIR to the folder that has \
+const ADVICE: &str = "run `make library` in the repository's root, or set NOTEBOOK_LIB_DIR to the folder that has \
                       libgateway.a or libnotebook.a, or install the library where pkg-config finds it";
 
 /// Where the library is, and its version if a notebook.pc tells it.
