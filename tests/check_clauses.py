@@ -19,9 +19,6 @@ second line of text would try another change than it shows:
     old: a text that stands once in the file (after the pairs before this one)
     new: another text                                    and so on, in pairs
 
-The crates of a request that has not landed stand as text, each file with .txt behind its name, and crates.txt does not list them: their edits are
-held to these files.
-
 Prints each reference that is missing or has another answer, and each line of an edit that is not so, with its place; exit status 1 if there is
 one. Run it from anywhere: python3 tests/check_clauses.py
 """
@@ -127,12 +124,6 @@ def references(text):
         yield found.start(), "%s/must-fail/%s.edit" % found.groups(), None, None
 
 
-@functools.lru_cache(maxsize=None)
-def crates_listed():
-    with open(os.path.join(ROOT, "crates.txt"), encoding="utf-8") as opened:
-        return {line.split(":")[0].split()[0] for line in opened if ":" in line and not line.startswith("#")}
-
-
 def edit_fault(edit):
     """The line of a must-fail edit that rt would not read as it is meant, and what is wrong with it; or None."""
     with open(edit, encoding="utf-8") as opened:
@@ -146,8 +137,7 @@ def edit_fault(edit):
     if len(lines) != len(begins) or len(lines) < 4:
         return len(lines), "not a comment, a file and pairs of old and new"
     name = lines[1][len("file: "):]
-    crate = os.path.dirname(os.path.dirname(edit))
-    changed = os.path.join(crate, name) + ("" if os.path.basename(crate) in crates_listed() else ".txt")
+    changed = os.path.join(os.path.dirname(os.path.dirname(edit)), name)
     if not re.match(r"(?:src|specs)/", name) or "/../" in "/%s/" % name or not os.path.isfile(changed):
         return 2, "no file of the crate's src/ or specs/"
     with open(changed, encoding="utf-8") as opened:
