@@ -153,7 +153,7 @@ def read_all():
 
 def crates_in_order():
     lines = (ROOT / "crates.txt").read_text().split("\n")
-    return [line.split(":")[0] for line in lines if line and not line.startswith("#")]
+    return [line.split(":")[0].split()[0] for line in lines if line and not line.startswith("#")]
 
 
 # ---- following names
