@@ -41,11 +41,16 @@ def told_of_edits(files):
 
 
 def function_at(crate, file, number):
-    """The function that a line of code begins, or that begins next after its attributes."""
+    """The function in which a line of code stands; of an attribute before one, that function."""
     with open(os.path.join(ROOT, "crates", crate, file), encoding="utf-8") as opened:
         lines = opened.read().split("\n")
-    found = re.search(r"^\s*(?:pub )?(?:unsafe )?(?:extern \"C\" )?fn (\w+)", "\n".join(lines[number - 1:]), re.M)
-    return found.group(1) if found else "?"
+    begins = re.compile(r"\s*(?:pub )?(?:unsafe )?(?:extern \"C\" )?fn (\w+)")
+    after = lines[number - 1:] if lines[number - 1].lstrip().startswith("#[") else []
+    for line in after + lines[number - 1::-1]:
+        found = begins.match(line)
+        if found:
+            return found.group(1)
+    return "?"
 
 
 def first_error(crate, told):
