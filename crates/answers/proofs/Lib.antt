@@ -1,3 +1,2 @@
 pub mod Known
 pub mod Lines
-pub mod Rewriting
