@@ -3,7 +3,7 @@ use Rattle.std.proofs.Common.{ℕ, ◌+◌, ◌≡◌, List, [], ◌++◌, lengt
 use Rattle.std.specs.Io.KnownBytes.{Keeps, Appends}
 use Rattle.replies.specs.declared.Reply.{Reply}
 use Rattle.printing.specs.Printed.{printed, Prints}
-use Rattle.answers.specs.Written.{WrittenInPart, WrittenOrTold}
+use Rattle.answers.specs.Written.{WrittenInPart}
 use Rattle.std.proofs.lemmas.List.{take_at}
 
 pub appends_none : (a : Option (List ℕ)) → Appends a a []
@@ -35,6 +35,3 @@ part_of a b e w = rw e at w
 
 pub prints_front : {values : ℕ} {r : Reply} {d d' : List ℕ} {n : ℕ} → Prints values r d d' n → take n d' ≡ printed values r
 prints_front {values} {r} {d} {d'} {n} w = ap (λ v. take n v) w.buffer ∙ take_at (printed values r) (drop n d) n (sym w.count)
-
-pub told_of : (a b c d : Option (List ℕ)) {s t : List ℕ} → s ≡ t → WrittenOrTold a b c d s → WrittenOrTold a b c d t
-told_of a b c d e w = rw e at w

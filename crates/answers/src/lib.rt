@@ -9,7 +9,7 @@ ghost use Rattle.inputs.specs.Counts.{IsPrefixLen};
 ghost use Rattle.lists.specs.Lists.{bytes};
 ghost use Rattle.buffers.specs.Buffers.{Wrote};
 ghost use Rattle.printing.specs.Printed.{decimal, spaced, line, printed, Prints};
-ghost use Rattle.answers.specs.Written.{Written, WrittenInPart, WrittenOrTold, Told};
+ghost use Rattle.answers.specs.Written.{Written, WrittenInPart};
 
 use replies::Reply;
 use std::io::Write;
@@ -151,7 +151,8 @@ pub fn write_whole<W: Write>(to: &mut W, bytes: &[u8]) -> bool
 // Tells a failure on standard error, in one write. Where that fails, nothing is left to tell it by.
 fn write_error_line<E: Write>(err: &mut E, word: &[u8], count: usize, k: u64)
     requires { length word.now ≤ 64 }
-    ensures { Told (E.contents err.old) (E.contents err.new) word.now (take count (k ∷ 0 ∷ 0 ∷ [])) }
+    ensures { WrittenInPart (E.contents err.old) (E.contents err.new)
+        (line (bytes "error " ++ word.now) (take count (k ∷ 0 ∷ 0 ∷ []))) }
 {
     let mut text = [0u8; 144];
     let n = put_error(&mut text, word, count, k);
@@ -161,7 +162,7 @@ fn write_error_line<E: Write>(err: &mut E, word: &[u8], count: usize, k: u64)
 // `error WORD`
 pub fn write_error<E: Write>(err: &mut E, word: &[u8])
     requires { length word.now ≤ 64 }
-    ensures { Told (E.contents err.old) (E.contents err.new) word.now [] }
+    ensures { WrittenInPart (E.contents err.old) (E.contents err.new) (line (bytes "error " ++ word.now) []) }
 {
     write_error_line(err, word, 0, 0);
 }
@@ -169,7 +170,7 @@ pub fn write_error<E: Write>(err: &mut E, word: &[u8])
 // `error WORD K`
 pub fn write_error_at<E: Write>(err: &mut E, word: &[u8], k: u64)
     requires { length word.now ≤ 64 }
-    ensures { Told (E.contents err.old) (E.contents err.new) word.now (k ∷ []) }
+    ensures { WrittenInPart (E.contents err.old) (E.contents err.new) (line (bytes "error " ++ word.now) (k ∷ [])) }
 {
     write_error_line(err, word, 1, k);
 }
@@ -177,7 +178,7 @@ pub fn write_error_at<E: Write>(err: &mut E, word: &[u8], k: u64)
 // Writes bytes to standard output and answers whether all were written; where not, tells it.
 pub fn write_output<O: Write, E: Write>(out: &mut O, err: &mut E, bytes: &[u8]) -> bool
     ensures written { Written result (O.contents out.old) (O.contents out.new) bytes.now }
-    ensures told { WrittenOrTold (O.contents out.old) (O.contents out.new) (E.contents err.old) (E.contents err.new) bytes.now }
+    ensures silent { result ≡ true → Keeps (E.contents err.old) (E.contents err.new) }
 {
     let written = write_whole(out, bytes);
     if !written {
@@ -188,7 +189,7 @@ pub fn write_output<O: Write, E: Write>(out: &mut O, err: &mut E, bytes: &[u8]) 
 
 // Writes the line of a reply to standard output; where that fails, tells it.
 pub fn write_reply<O: Write, E: Write>(out: &mut O, err: &mut E, values: usize, r: Reply)
-    ensures { WrittenOrTold (O.contents out.old) (O.contents out.new) (E.contents err.old) (E.contents err.new) (printed values r) }
+    ensures { WrittenInPart (O.contents out.old) (O.contents out.new) (printed values r) }
 {
     let mut text = [0u8; 66];
     let n = print(values, r, &mut text);

@@ -1,6 +1,6 @@
 -- Vocabulary of the code.
 -- What reading does to the bytes that a reader has left, for a reader whose bytes are known.
-use Rattle.std.specs.Prelude.{ℕ, ◌<◌, ◌≤◌, ◌≡◌, List, length, take, drop, Option, None, Some}
+use Rattle.std.specs.Prelude.{ℕ, ◌<◌, ◌≤◌, ◌≡◌, List, length, take, drop, Option}
 use Rattle.std.specs.Io.KnownBytes.{Consumes, IsAtEnd}
 use Rattle.inputs.specs.declared.Input.{Input}
 use Rattle.inputs.specs.declared.Input.TheVariants.{Bytes, Failed}
@@ -25,9 +25,3 @@ pub record AllTaken (had has : Option (List ℕ)) (lent buffer : List ℕ) (at n
 abbrev pub TakenFrom : Option (List ℕ) → Option (List ℕ) → Input → List ℕ → List ℕ → ℕ → Type 0
 TakenFrom had has (Bytes n) lent buffer at = AllTaken had has lent buffer at n
 TakenFrom had has Failed lent buffer at = Unit {0}
-
--- the bytes at the buffer's front are the input's first, as many as there are or as the buffer has room for
-abbrev pub IsInputFront : Option (List ℕ) → Input → List ℕ → Type 0
-IsInputFront None read buffer = Unit {0}
-IsInputFront (Some input) (Bytes n) buffer = take n buffer ≡ take (length buffer) input
-IsInputFront (Some input) Failed buffer = Unit {0}

@@ -4,7 +4,7 @@
 
 ghost use Rattle.std.specs.Prelude.{◌≤◌, length};
 ghost use Rattle.inputs.specs.AtFront.{AtFront};
-ghost use Rattle.inputs.specs.Taken.{TakenOnce, TakenFrom, IsInputFront};
+ghost use Rattle.inputs.specs.Taken.{TakenOnce, TakenFrom};
 
 use std::env::FillError;
 use std::fs::File;
@@ -63,7 +63,6 @@ pub fn read_from<R: Read>(from: &mut R, buf: &mut [u8], at: usize) -> Input
 pub fn read_all<R: Read>(from: &mut R, buf: &mut [u8]) -> Input
     ensures in_bounds { AtFront result buf.new }
     ensures bytes { TakenFrom (R.remaining from.old) (R.remaining from.new) result buf.old buf.new 0 }
-    ensures front { IsInputFront (R.remaining from.old) result buf.new }
 {
     read_from(from, buf, 0)
 }
