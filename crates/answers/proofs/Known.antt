@@ -1,7 +1,7 @@
 -- Known bytes over several writes: those that one write adds stand behind those of the writes before it. Assumes nothing.
 use Rattle.std.proofs.Common.{ℕ, ◌+◌, ◌≡◌, List, [], ◌++◌, length, take, drop, Option, None, Some, sym, ap, ◌∙◌, append_assoc, append-nil, take-add, take_all, ◌-◌, ◌≤◌, length-drop, arith}
 use Rattle.std.specs.Io.KnownBytes.{Keeps, Appends}
-use Rattle.replies.specs.declared.Reply.{Reply}
+use Rattle.replies.specs.declared.reply.Reply.{Reply}
 use Rattle.printing.specs.Printed.{printed, Prints}
 use Rattle.answers.specs.Written.{WrittenInPart}
 use Rattle.std.proofs.lemmas.List.{take_at}

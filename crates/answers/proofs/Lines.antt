@@ -7,7 +7,7 @@ use Rattle.inputs.proofs.Bytes.{prefix_len_of_le}
 use Rattle.lists.specs.Lists.{bytes}
 use Rattle.buffers.specs.Buffers.{Wrote}
 use Rattle.buffers.proofs.Runs.{sets_all, then}
-use Rattle.replies.specs.declared.Reply.{Reply}
+use Rattle.replies.specs.declared.reply.Reply.{Reply}
 use Rattle.printing.specs.Printed.{decimal, spaced, line, printed, Prints}
 use Rattle.printing.proofs.Decimal.{decimal_one, decimal_more, decimal_twenty}
 

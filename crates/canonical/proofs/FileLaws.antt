@@ -40,8 +40,8 @@ use Rattle.checking.specs.declared.Turn.TheVariants.{Over, Refused as TurnRefuse
 use Rattle.checking.specs.Turns.{StepAt, RefusedAt, broken, faulty, TurnOf}
 use Rattle.checking.proofs.TurnLaws.{turn_facts, turn_over, turn_refused, turn_step, turn_fits}
 use Rattle.checking.proofs.LineFacts.{whole_line, whole_length, records_end, records_mark, records_broken, records_on}
-use Rattle.replies.specs.declared.Answer.{Answer}
-use Rattle.replies.specs.declared.Answer.TheVariants.{Done, Refused}
+use Rattle.replies.specs.Replies.{Answer}
+use Rattle.replies.specs.Replies.{Done, Refused}
 use Rattle.notebook.specs.Canonical.{record_row, record_rows}
 use Rattle.canonical.specs.declared.Run.{Run}
 use Rattle.canonical.specs.Writing.{ahead, reach, Ready, Passed, Sound, Ended, Output, poured, PouredMeans, Poured, closing, Finished}

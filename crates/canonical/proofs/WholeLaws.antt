@@ -18,8 +18,8 @@ use Rattle.checking.specs.declared.Opening.{Opening}
 use Rattle.checking.specs.declared.Opening.TheVariants.{Records, Refused as OpenRefused}
 use Rattle.checking.specs.Opening.{OpensAt, OpeningOf}
 use Rattle.checking.proofs.OpenLaws.{zeros_size, opening_refused, opening_records, opening_behind}
-use Rattle.replies.specs.declared.Answer.{Answer}
-use Rattle.replies.specs.declared.Answer.TheVariants.{Done, Refused}
+use Rattle.replies.specs.Replies.{Answer}
+use Rattle.replies.specs.Replies.{Done, Refused}
 use Rattle.notebook.specs.Canonical.{head_row, record_rows, write_file, canonical_bytes, canonical_file, canonical_result}
 use Rattle.notebook.proofs.Arranging.{arrange_as_is}
 use Rattle.replies.specs.Results.{writes}

@@ -18,8 +18,8 @@ use Rattle.items.specs.Codes.{item_of}
 use Rattle.codes.specs.Codes.{codes, place_of, slice_of}
 use Rattle.lines.specs.Codes.{comma_at}
 use Rattle.buffers.specs.Buffers.{Wrote}
-use Rattle.replies.specs.declared.Answer.{Answer}
-use Rattle.replies.specs.declared.Answer.TheVariants.{Done, Refused}
+use Rattle.replies.specs.Replies.{Answer}
+use Rattle.replies.specs.Replies.{Done, Refused}
 use Rattle.canonical.specs.declared.Run.{Run}
 use Rattle.notebook.specs.Canonical.{record_rows}
 

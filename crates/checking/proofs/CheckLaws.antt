@@ -26,8 +26,8 @@ use Rattle.order.specs.State.{start, finish_of, advance}
 use Rattle.order.specs.Room.{Room}
 use Rattle.order.proofs.Laws.{next_line, room, room_start, line_start}
 use Rattle.notebook.specs.Facts.{facts_of}
-use Rattle.replies.specs.declared.Answer.{Answer}
-use Rattle.replies.specs.declared.Answer.TheVariants.{Done, Refused}
+use Rattle.replies.specs.Replies.{Answer}
+use Rattle.replies.specs.Replies.{Done, Refused}
 use Rattle.replies.specs.Results.{answer_in}
 use Rattle.notebook.specs.Notebook.{step_line, prepend, closed, onward, records_from, notebook_of}
 use Rattle.notebook.specs.Check.{count, check_result}

@@ -5,8 +5,8 @@ use Rattle.lists.specs.Lists.{Res, ok, refused}
 use Rattle.records.specs.Records.{Record}
 use Rattle.order.specs.declared.State.{State}
 use Rattle.order.specs.Room.{Room}
-use Rattle.replies.specs.declared.Answer.{Answer}
-use Rattle.replies.specs.declared.Answer.TheVariants.{Done, Refused}
+use Rattle.replies.specs.Replies.{Answer}
+use Rattle.replies.specs.Replies.{Done, Refused}
 use Rattle.notebook.specs.Check.{count}
 
 -- the counts of a state, and those of the records that follow

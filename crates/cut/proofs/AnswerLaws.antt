@@ -11,7 +11,7 @@ use Rattle.lists.specs.Lists.{map_res}
 use Rattle.lists.specs.Searching.{part}
 use Rattle.characters.specs.Rows.{flat}
 use Rattle.buffers.specs.Buffers.{Wrote}
-use Rattle.replies.specs.declared.Answer.TheVariants.{Done, Refused}
+use Rattle.replies.specs.Replies.{Done, Refused}
 use Rattle.replies.specs.CallContracts.{Gives}
 use Rattle.replies.proofs.Results.{gives_refusal, gives_20, gives_written}
 use Rattle.division.specs.Cut.{listed, writes_pieces}

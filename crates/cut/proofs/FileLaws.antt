@@ -15,8 +15,8 @@ use Rattle.digits.specs.Digits.{is_digit}
 use Rattle.characters.specs.Rows.{flat}
 use Rattle.notebook.specs.Notebook.{Notebook, read_file}
 use Rattle.notebook.specs.Same.{arrange}
-use Rattle.replies.specs.declared.Answer.{Answer}
-use Rattle.replies.specs.declared.Answer.TheVariants.{Done, Refused}
+use Rattle.replies.specs.Replies.{Answer}
+use Rattle.replies.specs.Replies.{Done, Refused}
 use Rattle.replies.specs.Results.{Result}
 use Rattle.replies.specs.CallContracts.{Gives}
 use Rattle.replies.proofs.Results.{gives_refusal}

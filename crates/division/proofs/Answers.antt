@@ -21,11 +21,11 @@ use Rattle.notebook.proofs.Arranging.{arranged_carries, arranged_again, arrange_
 use Rattle.ids.specs.Used.{unused}
 use Rattle.division.specs.Marks.{valid_id}
 use Rattle.division.proofs.Chunks.{chunk_bytes, chunks_once}
-use Rattle.replies.specs.declared.Answer.{Answer}
-use Rattle.replies.specs.declared.Answer.TheVariants.{Done, Refused}
+use Rattle.replies.specs.Replies.{Answer}
+use Rattle.replies.specs.Replies.{Done, Refused}
 use Rattle.division.specs.Cut.{cutting, listed, for_id, list_for, cut_list, writes_pieces, cut_result}
 use Rattle.division.specs.Join.{join_file, join_result}
-use Rattle.replies.specs.declared.Reply.{Reply}
+use Rattle.replies.specs.declared.reply.Reply.{Reply}
 use Rattle.replies.specs.Replies.{refusal, result, reply_of}
 use Rattle.replies.specs.Results.{Result, writes as writing, answer_of, fitting, answer_in, reply_to, output_of}
 use Rattle.replies.proofs.Results.{gives_refusal, gives_20, gives_result}

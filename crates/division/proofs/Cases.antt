@@ -30,8 +30,8 @@ use Rattle.packing.specs.Widths.{Plan, over, serves}
 use Rattle.packing.proofs.Computed.{packed, tried, planned, plan_is}
 use Rattle.ids.specs.Used.{first_ids, ids_in, unused}
 use Rattle.division.specs.Marks.{valid_id, mark_line, mark_row}
-use Rattle.replies.specs.declared.Answer.{Answer}
-use Rattle.replies.specs.declared.Answer.TheVariants.{Done, Refused}
+use Rattle.replies.specs.Replies.{Answer}
+use Rattle.replies.specs.Replies.{Done, Refused}
 use Rattle.replies.specs.Results.{answer_of, fitting, answer_in}
 use Rattle.division.specs.Cut.{piece_bytes, numbered, planned as pieces_of, cutting, listed, for_id, list_for, cut_list, writes_pieces, cut_result}
 use Rattle.division.specs.Cases.{with_notes, Case, cases, thousand, answer}

@@ -12,7 +12,7 @@ use Rattle.calendar.specs.Era.{read_day}
 use Rattle.eras.specs.Era.{write_day}
 use Rattle.records.specs.Table.{Kind, Q, D}
 use Rattle.records.specs.Items.{fault as fault_of}
-use Rattle.replies.specs.declared.Reply.{Reply}
+use Rattle.replies.specs.declared.reply.Reply.{Reply}
 use Rattle.replies.specs.Replies.{refusal, result}
 use Rattle.replies.specs.Results.{reply_to}
 use Rattle.printing.specs.Printed.{printed}

@@ -13,7 +13,7 @@ use Rattle.division.specs.Marks.{valid_id}
 use Rattle.division.specs.Pieces.{Piece, split}
 use Rattle.division.specs.Cut.{cut_result}
 use Rattle.division.specs.Join.{join_file, join_result}
-use Rattle.replies.specs.declared.Reply.{Reply}
+use Rattle.replies.specs.declared.reply.Reply.{Reply}
 use Rattle.replies.specs.Replies.{refusal, result}
 use Rattle.replies.specs.Results.{Result, reply_to, output_of}
 use Rattle.division.specs.Orders.{Perm}

@@ -5,8 +5,8 @@ use Rattle.std.specs.Prelude.{ℕ, List, [], ◌∷◌, ◌++◌}
 use Rattle.std.proofs.Math.Option.{Option, none, some}
 use Rattle.lists.specs.Lists.{bytes, Res, ok, refused}
 use Rattle.characters.specs.Rows.{line_end, end_mark}
-use Rattle.replies.specs.declared.Answer.{Answer}
-use Rattle.replies.specs.declared.Answer.TheVariants.{Done, Refused}
+use Rattle.replies.specs.Replies.{Answer}
+use Rattle.replies.specs.Replies.{Done, Refused}
 use Rattle.division.specs.Marks.{Mark}
 
 -- each line with its line end

@@ -26,8 +26,8 @@ use Rattle.notebook.specs.Facts.{facts_of}
 use Rattle.buffers.specs.Buffers.{Room, Wrote}
 use Rattle.buffers.specs.Entries.{seven_numbers}
 use Rattle.buffers.proofs.Runs.{front_more, seven_length}
-use Rattle.replies.specs.declared.Answer.{Answer}
-use Rattle.replies.specs.declared.Answer.TheVariants.{Refused}
+use Rattle.replies.specs.Replies.{Answer}
+use Rattle.replies.specs.Replies.{Refused}
 use Rattle.notebook.specs.Notebook.{step_line, closed}
 use Rattle.checking.specs.Walking.{tally}
 use Rattle.notebook.proofs.Placing.{Placed, placed, place_number}

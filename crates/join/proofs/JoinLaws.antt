@@ -17,8 +17,8 @@ use Rattle.characters.specs.Rows.{rows, flat}
 use Rattle.notebook.specs.Canonical.{head_row}
 use Rattle.buffers.specs.Buffers.{Wrote}
 use Rattle.buffers.proofs.Runs.{then, front}
-use Rattle.replies.specs.declared.Answer.{Answer}
-use Rattle.replies.specs.declared.Answer.TheVariants.{Done, Refused}
+use Rattle.replies.specs.Replies.{Answer}
+use Rattle.replies.specs.Replies.{Done, Refused}
 use Rattle.replies.specs.Results.{writes, answer_in}
 use Rattle.replies.specs.CallContracts.{Gives}
 use Rattle.replies.proofs.Results.{gives_refusal, front_20, front_written}

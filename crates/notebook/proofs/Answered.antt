@@ -4,8 +4,8 @@ use native.Mathlib.Omega.{arith}
 use mathlib.Core.Path.{◌≡◌, refl}
 use mathlib.Core.List.{List, []}
 use Rattle.lists.specs.Lists.{Res, ok, refused, map_res}
-use Rattle.replies.specs.declared.Answer.{Answer}
-use Rattle.replies.specs.declared.Answer.TheVariants.{Done, Refused}
+use Rattle.replies.specs.Replies.{Answer}
+use Rattle.replies.specs.Replies.{Done, Refused}
 use Rattle.replies.specs.Results.{answer_of, fitting, answer_in}
 use Rattle.notebook.specs.Notebook.{Notebook, read_file}
 use Rattle.notebook.specs.Check.{count, counted, check_result}

@@ -3,7 +3,7 @@
 -- number, line, with single spaces, and 0Ah." The names here: decimal, spaced, line, printed, Prints; specs/Digits.antt says what decimal is.
 use Rattle.std.specs.Prelude.{ℕ, zero, suc, ◌+◌, ◌/◌, ◌%◌, ◌≡◌, cond, List, [], ◌∷◌, ◌++◌, eqb, length, take, drop}
 use Rattle.lists.specs.Lists.{bytes}
-use Rattle.replies.specs.declared.Reply.{Reply}
+use Rattle.replies.specs.declared.reply.Reply.{Reply}
 
 -- the digits of n, none of 0; at most k of them, since a definition must say how often it calls itself
 unfoldable pub digit_list : ℕ → ℕ → List ℕ

@@ -11,7 +11,7 @@ use lib.Dec.{leb}
 use lib.ListN.{length}
 use Rattle.lists.specs.Lists.{Res, ok, refused, map_res, and_then, member}
 use Rattle.lists.proofs.Tests.{below}
-use Rattle.replies.specs.declared.Reply.{Reply}
+use Rattle.replies.specs.declared.reply.Reply.{Reply}
 use Rattle.replies.specs.Replies.{reply_of}
 use Rattle.replies.specs.Results.{Result, answer_of, at_exit, fitting, answer_in, reply_to, output_of}
 use Rattle.replies.proofs.Results.{gives_refusal}

@@ -4,7 +4,7 @@
 -- calls: `AlwaysAnswered`, `RefusalKeeps`, `ZeroIsAResult`, `LargeFirst`. proofs/Promises.antt proves each.
 use Rattle.std.specs.Prelude.{ℕ, ◌+◌, ◌≤◌, ◌<◌, ◌≡◌, true, false, cond, ◌&&◌, List, [], ◌∷◌, ◌++◌, eqb, length}
 use Rattle.lists.specs.Lists.{Res, member}
-use Rattle.replies.specs.declared.Reply.{Reply}
+use Rattle.replies.specs.declared.reply.Reply.{Reply}
 use Rattle.replies.specs.Replies.{refusal, result}
 use Rattle.replies.specs.Results.{Result, reply_to, output_of}
 use Rattle.notebook.specs.Check.{check_result}

@@ -10,7 +10,7 @@ use lib.Seq.{length-take-le}
 use Rattle.lists.specs.Lists.{Res, ok, refused}
 use Rattle.buffers.specs.Buffers.{Room, Wrote}
 use Rattle.buffers.proofs.Runs.{sets_all}
-use Rattle.replies.specs.declared.Answer.TheVariants.{Done, Refused}
+use Rattle.replies.specs.Replies.{Done, Refused}
 use Rattle.replies.specs.Results.{Result, writes, answer_in, output_of}
 use Rattle.replies.specs.CallContracts.{Gives}
 

@@ -2,7 +2,7 @@
 -- A result of two numbers, and a refusal, with outputs of none to three numbers. proofs/AllExamples.antt computes them.
 use Rattle.std.specs.Prelude.{ℕ, List, [], ◌∷◌}
 use Rattle.lists.specs.Lists.{Res, ok, refused}
-use Rattle.replies.specs.declared.Reply.{Reply}
+use Rattle.replies.specs.declared.reply.Reply.{Reply}
 use Rattle.replies.specs.Replies.{refusal, result}
 use Rattle.replies.specs.Results.{Result}
 

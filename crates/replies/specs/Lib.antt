@@ -1,3 +1,4 @@
+pub mod Refusals
 pub mod Replies
 pub mod Results
 pub mod Examples

@@ -3,9 +3,9 @@
 -- as `Res Result`: notebook, specs/Check.antt, Index.antt, Canonical.antt; division, specs/Cut.antt, Join.antt.
 use Rattle.std.specs.Prelude.{ℕ, Bool, cond, List, ◌++◌, leb, length, drop}
 use Rattle.lists.specs.Lists.{Res, ok, refused}
-use Rattle.replies.specs.declared.Answer.{Answer}
-use Rattle.replies.specs.declared.Answer.TheVariants.{Done, Refused}
-use Rattle.replies.specs.declared.Reply.{Reply}
+use Rattle.replies.specs.Replies.{Answer}
+use Rattle.replies.specs.Replies.{Done, Refused}
+use Rattle.replies.specs.declared.reply.Reply.{Reply}
 use Rattle.replies.specs.Replies.{reply_of}
 
 -- what a call has to give: the values of its reply, and what it writes (bytes; index: numbers)
