@@ -23,8 +23,8 @@ use Rattle.characters.proofs.RowLaws.{flat_rows}
 use Rattle.records.specs.Records.{Record, record_of, line_fault, write}
 use Rattle.records.proofs.LineLaws.{line_good}
 use Rattle.order.specs.declared.State.{State}
-use Rattle.order.specs.declared.Moved.{Moved}
-use Rattle.order.specs.declared.Moved.TheVariants.{Fault as StepRefused, On}
+use Rattle.order.specs.State.{Step}
+use Rattle.order.specs.State.{Fault as StepRefused, On}
 use Rattle.order.specs.State.{start, finish_of}
 use Rattle.order.specs.Room.{Room as Countable}
 use Rattle.order.proofs.Laws.{next_line, room, room_start, line_start}
@@ -87,7 +87,7 @@ pour_end d st at h i e = subst (λ (r : Answer). PouredMeans (poured d at (close
 row_length : (st : State) (l : List ℕ) → line_fault st.provider l ≡ 0 → length (record_row (record_of l)) ≤ length l + 2
 row_length st l h = omega (arith, length-append (write (record_of l)) line_end, (line_good st.provider l h).short)
 
-pub line_sound : (st : State) (l : List ℕ) {m : Moved} {after : State} {rp doctor : ℕ} → m ≡ step_line st l → m ≡ On after rp doctor → Sound after.place l
+pub line_sound : (st : State) (l : List ℕ) {m : Step} {after : State} {rp doctor : ℕ} → m ≡ step_line st l → m ≡ On after rp doctor → Sound after.place l
 line_sound st l {m} {after} {rp} {doctor} o u =
     let p : Placed st l after rp doctor = placed st l after rp doctor (sym o ∙ u) in
     record { provider = st.provider; good = p.sound; number = place_number p }
@@ -167,7 +167,7 @@ module _ {provider : Bool} {s : List ℕ} {from : ℕ} {d : List ℕ} {st : Stat
     poured_broken e = refusal (records_broken w st e)
 
     module _ {e : ℕ} {good : Bool} {commas : ℕ} (q : k ≡ Whole e good commas) where
-      onwards : Moved → Res (List Record)
+      onwards : Step → Res (List Record)
       onwards = onward (st.line + 1) (record_of (part s at e)) (λ t. records_from t (rows (drop (e + 2) s)))
 
       poured_refused : {j : ℕ} → step_line st (part s at e) ≡ StepRefused j → Poured (length d) (poured d from (records_from (start provider) (rows (drop from s)))) d' (Refused j (st.line + 1))

@@ -20,8 +20,8 @@ use Rattle.scanning.specs.Scans.{LineOf}
 use Rattle.characters.specs.Rows.{rows}
 use Rattle.records.specs.Records.{Record, record_of}
 use Rattle.order.specs.declared.State.{State}
-use Rattle.order.specs.declared.Moved.{Moved}
-use Rattle.order.specs.declared.Moved.TheVariants.{Fault as StepRefused, On}
+use Rattle.order.specs.State.{Step}
+use Rattle.order.specs.State.{Fault as StepRefused, On}
 use Rattle.order.specs.State.{start, finish_of, advance}
 use Rattle.order.specs.Room.{Room}
 use Rattle.order.proofs.Laws.{next_line, room, room_start, line_start}
@@ -121,10 +121,10 @@ module _ {st₀ : State} {s : List ℕ} {from : ℕ} {st : State} {at : ℕ} (v 
     reading_broken e = answer (sym (ap (tally st) (records_broken w st e)))
 
     module _ {e : ℕ} {good : Bool} {n : ℕ} (q : k ≡ Whole e good n) where
-      next : Moved → Res (List Record)
+      next : Step → Res (List Record)
       next = onward (st.line + 1) (record_of (part s at e)) (λ t. records_from t (rows (drop (e + 2) s)))
 
-      module _ {m : Moved} (o : m ≡ step_line st (take (e - at) (drop at s))) where
+      module _ {m : Step} (o : m ≡ step_line st (take (e - at) (drop at s))) where
         reading_refused : {j : ℕ} → m ≡ StepRefused j → Refused j (st.line + 1) ≡ tally st₀ (records_from st₀ (rows (drop from s)))
         unfolding onward next
         reading_refused u = sym (v.left ∙ ap (tally st) (records_on w q st ∙ ap next (sym o ∙ u)))

@@ -12,8 +12,8 @@ use Rattle.scanning.specs.Scans.{Stops, Sixteen}
 use Rattle.records.specs.Records.{line_fault}
 use Rattle.order.specs.declared.State.{State}
 use Rattle.order.specs.declared.Facts.{Facts}
-use Rattle.order.specs.declared.Moved.{Moved}
-use Rattle.order.specs.declared.Moved.TheVariants.{Fault as StepRefused, On as StepOn}
+use Rattle.order.specs.State.{Step}
+use Rattle.order.specs.State.{Fault as StepRefused, On as StepOn}
 use Rattle.order.specs.State.{step_of}
 use Rattle.notebook.specs.Notebook.{step_line}
 use Rattle.lines.specs.Codes.{Commas}
@@ -43,8 +43,8 @@ module _ (st : State) {s : List ℕ} {at : ℕ} {stops : List ℕ} {k : LineRead
       go (broken_line_lem l e) = broken l e
       go (faulty_line e good m l p z) = faulty e m (record { good = good; line = l; step = step_faulty st (part s at e) p z })
 
-  module _ {facts : Facts} {e n : ℕ} (q : k ≡ Record facts e n) {m : Moved} (o : m ≡ step_of st facts) where
-    placed_at : {j : Moved} → m ≡ j → StepAt st s at stops e n j
+  module _ {facts : Facts} {e n : ℕ} (q : k ≡ Record facts e n) {m : Step} (o : m ≡ step_of st facts) where
+    placed_at : {j : Step} → m ≡ j → StepAt st s at stops e n j
     unfolding step_line
     placed_at u =
         let x : RecordAt st.provider s at stops facts e n = subst (ReadMeans st.provider s at stops) q w.means in

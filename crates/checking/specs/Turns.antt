@@ -5,15 +5,15 @@ use Rattle.lists.specs.Searching.{part}
 use Rattle.scanning.specs.declared.Line.TheVariants.{Whole, Broken}
 use Rattle.scanning.specs.Scans.{Sixteen, LineOf}
 use Rattle.order.specs.declared.State.{State}
-use Rattle.order.specs.declared.Moved.{Moved}
-use Rattle.order.specs.declared.Moved.TheVariants.{Fault as StepRefused, On as StepOn}
+use Rattle.order.specs.State.{Step}
+use Rattle.order.specs.State.{Fault as StepRefused, On as StepOn}
 use Rattle.checking.specs.declared.Turn.{Turn}
 use Rattle.checking.specs.declared.Turn.TheVariants.{On, Refused, Over}
 use Rattle.notebook.specs.Notebook.{step_line}
 use Rattle.lines.specs.Found.{OverAt}
 
 -- a line from a position to e, with n commas, moves the state to m
-pub record StepAt (st : State) (s : List ℕ) (at : ℕ) (stops : List ℕ) (e n : ℕ) (m : Moved) : Type 0 where
+pub record StepAt (st : State) (s : List ℕ) (at : ℕ) (stops : List ℕ) (e n : ℕ) (m : Step) : Type 0 where
   pub good : Bool
   pub line : LineOf s at stops (Whole e good n)
   pub step : m ≡ step_line st (part s at e)

@@ -24,8 +24,8 @@ use Rattle.records.specs.Items.{edge, one_width, one_script, is_code, spelled_as
 use Rattle.records.specs.Records.{Record, record_of, record_from, header, item_fault, items_fault, table_row, pairs, t911, fault_from, line_fault}
 use Rattle.order.specs.declared.State.{State}
 use Rattle.order.specs.declared.Facts.{Facts}
-use Rattle.order.specs.declared.Moved.{Moved}
-use Rattle.order.specs.declared.Moved.TheVariants.{Fault, On}
+use Rattle.order.specs.State.{Step}
+use Rattle.order.specs.State.{Fault, On}
 use Rattle.order.specs.Questions.{before_of, asked_of}
 use Rattle.rules.specs.Rules.{pair_broken, misplaced, missing, value_wrong, newer_group, order_refusal}
 use Rattle.order.specs.State.{start, refusal_of, step_of, finish_of}
@@ -64,7 +64,7 @@ unfolding records_from onward
 later_line [] st n line e = omega (arith, closed_line st n line e)
 later_line (r ∷ rs) st n line e = by (same r end_mark) (is_line r) (λ t. later_line rs t n line) e
   where
-    step : (m : Moved) → step_line st (text r) ≡ m → ((t : State) → records_from t rs ≡ refused n line → t.line < line)
+    step : (m : Step) → step_line st (text r) ≡ m → ((t : State) → records_from t rs ≡ refused n line → t.line < line)
         → onward (st.line + 1) (record_of (text r)) (λ t. records_from t rs) m ≡ refused n line → st.line < line
     step (Fault k) q ih e = let z : st.line + 1 ≡ line = cc in omega arith
     step (On t rp doctor) q ih e = omega (arith, stepped st (text r) t rp doctor q, ih t (prepended (record_of (text r)) (records_from t rs) n line e))
@@ -83,7 +83,7 @@ unfolding records_from onward
 rows_decide [] ys zs st n line m h e = absurd (omega (arith, later_line ys st n line e))
 rows_decide (x ∷ xs) ys zs st n line (m, ms) h e = rw m (by (is_line x) (λ t. rows_decide xs ys zs t n line ms) (rw m at e))
   where
-    step : (k : Moved) → step_line st (text x) ≡ k
+    step : (k : Step) → step_line st (text x) ≡ k
         → ((t : State) → line ≤ t.line + length xs → records_from t (xs ++ ys) ≡ refused n line → records_from t (xs ++ zs) ≡ refused n line)
         → onward (st.line + 1) (record_of (text x)) (λ t. records_from t (xs ++ ys)) k ≡ refused n line
         → onward (st.line + 1) (record_of (text x)) (λ t. records_from t (xs ++ zs)) k ≡ refused n line
@@ -422,6 +422,6 @@ lowest_number st l n = (to, from)
     from : Lowest n (faults_of st l) → step_line st l ≡ Fault n
     from a = by (step_line st l) refl
       where
-        by : (k : Moved) → step_line st l ≡ k → step_line st l ≡ Fault n
+        by : (k : Step) → step_line st l ≡ k → step_line st l ≡ Fault n
         by (Fault m) q = q ∙ ap (λ (x : ℕ). Fault x) (lowest_one (lowest m q) a)
         by (On t rp doctor) q = absurd (omega (arith, a.some, none_given (taken_first st l t rp doctor q) a.given))

@@ -11,7 +11,7 @@ use Rattle.records.specs.Split.{items_of}
 use Rattle.records.specs.Records.{record_of, record_from, item_fault, items_fault, table_row, pairs, t911}
 use Rattle.order.specs.declared.State.{State}
 use Rattle.order.specs.declared.Facts.{Facts}
-use Rattle.order.specs.declared.Moved.TheVariants.{Fault}
+use Rattle.order.specs.State.{Fault}
 use Rattle.order.specs.Questions.{before_of, asked_of}
 use Rattle.rules.specs.Rules.{pair_broken, misplaced, missing, value_wrong, newer_group}
 use Rattle.notebook.specs.Facts.{facts_of}

@@ -18,8 +18,8 @@ use Rattle.characters.proofs.RowLaws.{line_is, line_text}
 use Rattle.records.specs.Records.{record_of}
 use Rattle.rules.specs.Places.{in_group}
 use Rattle.order.specs.declared.State.{State}
-use Rattle.order.specs.declared.Moved.{Moved}
-use Rattle.order.specs.declared.Moved.TheVariants.{Fault, On}
+use Rattle.order.specs.State.{Step}
+use Rattle.order.specs.State.{Fault, On}
 use Rattle.order.specs.State.{group_of, drug_of}
 use Rattle.order.proofs.Laws.{next_line}
 use Rattle.notebook.specs.Facts.{facts_of}
@@ -146,7 +146,7 @@ module _ {st₀ : State} {s : List ℕ} {from clinic₀ : ℕ} {st : State} {at 
     line = whole_line w refl
 
     -- the entries of the line here and of those after it
-    here : Moved → List Entry
+    here : Step → List Entry
     here = entered at (part s at e) (λ t. entries_from t (e + 2) (rows (drop (e + 2) s)))
 
     line_entries : entries_from st at (rows (drop at s)) ≡ here (step_line st (part s at e))

@@ -20,8 +20,8 @@ use Rattle.records.specs.Split.{items_of, joined}
 use Rattle.records.specs.Records.{Record, item_fault, items_fault, items_value, row_in, table_row, pairs, t911, record_from, fault_from, line_fault, record_of, header}
 use Rattle.records.proofs.Splits.{NoComma, AllChars, items_joined, chars_split, chars_parts}
 use Rattle.order.specs.declared.State.{State}
-use Rattle.order.specs.declared.Moved.{Moved}
-use Rattle.order.specs.declared.Moved.TheVariants.{Fault, On}
+use Rattle.order.specs.State.{Step}
+use Rattle.order.specs.State.{Fault, On}
 use Rattle.order.specs.State.{start, step_of}
 use Rattle.notebook.specs.Facts.{facts_of}
 use Rattle.notebook.specs.Notebook.{Notebook, step_line, onward, records_from, notebook_of, read_rows, read_file}

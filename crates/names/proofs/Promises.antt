@@ -20,8 +20,8 @@ use Rattle.replies.specs.Results.{Result, answer_of, fitting, answer_in, reply_t
 use Rattle.replies.proofs.Results.{gives_refusal}
 use Rattle.order.specs.declared.State.{State}
 use Rattle.order.specs.declared.Facts.{Facts}
-use Rattle.order.specs.declared.Moved.{Moved}
-use Rattle.order.specs.declared.Moved.TheVariants.{Fault, On}
+use Rattle.order.specs.State.{Step}
+use Rattle.order.specs.State.{Fault, On}
 use Rattle.order.specs.State.{start, step_of}
 use Rattle.order.proofs.Laws.{provider_start}
 use Rattle.notebook.specs.Facts.{facts_of}
@@ -94,7 +94,7 @@ module _ (d : Bool) (p : Person) (kana rest : List ℕ) (w : AreItems p kana) (s
   faulty {n} e z =
       let m : step_line (start d) (line_with p kana) ≡ Fault n = rw (provider_start d, e, ne_eqb n 0 z) refl in
       file_read d p kana rest w small
-      ∙ ap (λ (m : Moved). notebook_of d (onward 2 (record_of (line_with p kana)) (λ t. records_from t (rows rest)) m)) m
+      ∙ ap (λ (m : Step). notebook_of d (onward 2 (record_of (line_with p kana)) (λ t. records_from t (rows rest)) m)) m
 
 -- its length, if it is read at all
 fits : (f : List ℕ) → ((n line : ℕ) → line ≤ 2 → read_file f ≡ refused n line → ⊥) → length f ≤ 65536
@@ -163,7 +163,7 @@ pub script_alone : ScriptAlone
 unfolding check_result step_line onward
 script_alone d p s t rest v w i j x y g h =
     ap (λ (r : Res Result). reply_to r [])
-    (ap (map_res counted) (file_read d p s rest v i) ∙ step (step_line (start d) (line_with p s)) ∙ ap (λ (m : Moved). map_res counted (notebook_of d (onward 2 (record_of (line_with p t)) next m))) moves
+    (ap (map_res counted) (file_read d p s rest v i) ∙ step (step_line (start d) (line_with p s)) ∙ ap (λ (m : Step). map_res counted (notebook_of d (onward 2 (record_of (line_with p t)) next m))) moves
     ∙ sym (ap (map_res counted) (file_read d p t rest w j)))
   where
     next : State → Res (List Record)
@@ -179,6 +179,6 @@ script_alone d p s t rest v w i j x y g h =
     moves : step_line (start d) (line_with p s) ≡ step_line (start d) (line_with p t)
     moves = ap₂ (λ (n : ℕ) (k : Facts). cond (eqb n 0) (step_of (start d) k) (Fault n)) (ap (λ (e : Bool). line_fault e (line_with p s)) (provider_start d) ∙ faults ∙ sym (ap (λ (e : Bool). line_fault e (line_with p t)) (provider_start d))) (same_facts p s t v w)
 
-    step : (m : Moved) → map_res counted (notebook_of d (onward 2 (record_of (line_with p s)) next m)) ≡ map_res counted (notebook_of d (onward 2 (record_of (line_with p t)) next m))
+    step : (m : Step) → map_res counted (notebook_of d (onward 2 (record_of (line_with p s)) next m)) ≡ map_res counted (notebook_of d (onward 2 (record_of (line_with p t)) next m))
     step (Fault n) = refl
     step (On st rp doctor) = same_counts d (record_of (line_with p s)) (record_of (line_with p t)) (next st) (one_number p s v) (one_number p t w)

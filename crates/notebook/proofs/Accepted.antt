@@ -16,8 +16,8 @@ use Rattle.characters.specs.Rows.{rows, flat, line_end, is_line, end_mark}
 use Rattle.characters.proofs.RowLaws.{text_clean, rows_line, line_no_mark}
 use Rattle.records.specs.Records.{Record, line_fault, record_of, header}
 use Rattle.order.specs.declared.State.{State}
-use Rattle.order.specs.declared.Moved.{Moved}
-use Rattle.order.specs.declared.Moved.TheVariants.{Fault, On}
+use Rattle.order.specs.State.{Step}
+use Rattle.order.specs.State.{Fault, On}
 use Rattle.order.specs.State.{start, step_of, finish_of}
 use Rattle.order.proofs.Laws.{provider_kept, provider_start}
 use Rattle.notebook.specs.Facts.{facts_of}
@@ -168,7 +168,7 @@ taken d (r ∷ rs) st recs p e = by (same r end_mark) refl (is_line r) refl (λ 
           ruled = next s.1 k.ruled;
         })
 
-    step : is_line r ≡ true → (m : Moved) → step_line st (text r) ≡ m
+    step : is_line r ≡ true → (m : Step) → step_line st (text r) ≡ m
         → ((t : State) (u : List Record) → t.provider ≡ d → records_from t rs ≡ ok u → Taken d t rs u)
         → onward (st.line + 1) (record_of (text r)) (λ t. records_from t rs) m ≡ ok recs → Taken d st (r ∷ rs) recs
     step l (Fault n) m ih e = absurd (no_refusal e)

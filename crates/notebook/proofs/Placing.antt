@@ -8,7 +8,7 @@ use lib.Dec.{eqb}
 use borrow.Author.Tests.{eqb-true}
 use Rattle.records.specs.Records.{line_fault, record_of}
 use Rattle.order.specs.declared.State.{State}
-use Rattle.order.specs.declared.Moved.TheVariants.{Fault, On}
+use Rattle.order.specs.State.{Fault, On}
 use Rattle.order.specs.State.{advance, step_of}
 use Rattle.order.proofs.Laws.{taken}
 use Rattle.notebook.specs.Facts.{facts_of}

@@ -14,8 +14,8 @@ use Rattle.characters.specs.Text.{text}
 use Rattle.characters.specs.Rows.{rows, is_line, end_mark}
 use Rattle.records.specs.Records.{Record, record_of, header}
 use Rattle.order.specs.declared.State.{State}
-use Rattle.order.specs.declared.Moved.{Moved}
-use Rattle.order.specs.declared.Moved.TheVariants.{Fault, On}
+use Rattle.order.specs.State.{Step}
+use Rattle.order.specs.State.{Fault, On}
 use Rattle.order.specs.State.{start, finish_of}
 use Rattle.buffers.specs.Entries.{seven_numbers}
 use Rattle.notebook.specs.Notebook.{Notebook, step_line, prepend, closed, onward, records_from, notebook_of, read_rows, read_file}
@@ -59,7 +59,7 @@ walk (r ∷ rs) st at recs e = by (same r end_mark) refl (is_line r) refl (λ t 
         subst (λ (x : List Record). Walk st at (r ∷ rs) x (entry_of at (text r) t doctor ∷ entries_from t (at + length r) rs)) h (more l (placed st (text r) t rp doctor m) (ih u q))
     on t rp doctor l m (refused n line) q ih e = absurd (no_refusal e)
 
-    step : is_line r ≡ true → (m : Moved) → step_line st (text r) ≡ m
+    step : is_line r ≡ true → (m : Step) → step_line st (text r) ≡ m
         → ((t : State) (u : List Record) → records_from t rs ≡ ok u → Walk t (at + length r) rs u (entries_from t (at + length r) rs))
         → onward (st.line + 1) (record_of (text r)) (λ t. records_from t rs) m ≡ ok recs → Walk st at (r ∷ rs) recs (entered at (text r) (λ t. entries_from t (at + length r) rs) m)
     step l (Fault n) m ih e = absurd (no_refusal e)

@@ -8,8 +8,8 @@ use Rattle.characters.specs.Rows.{rows, is_line}
 use Rattle.records.specs.Records.{record_of, header}
 use Rattle.rules.specs.Places.{in_group}
 use Rattle.order.specs.declared.State.{State}
-use Rattle.order.specs.declared.Moved.{Moved}
-use Rattle.order.specs.declared.Moved.TheVariants.{Fault, On}
+use Rattle.order.specs.State.{Step}
+use Rattle.order.specs.State.{Fault, On}
 use Rattle.order.specs.State.{start, group_of, drug_of}
 use Rattle.buffers.specs.Entries.{seven_numbers}
 use Rattle.notebook.specs.Notebook.{Notebook, step_line, read_file}
@@ -44,7 +44,7 @@ entry_of offset l st doctor = record {
 
 -- ---- the entries of a file: one for each record, up to the first that is refused
 
-unfoldable pub entered : ℕ → List ℕ → (State → List Entry) → Moved → List Entry
+unfoldable pub entered : ℕ → List ℕ → (State → List Entry) → Step → List Entry
 entered offset l k (Fault n) = []
 entered offset l k (On st rp doctor) = entry_of offset l st doctor ∷ k st
 

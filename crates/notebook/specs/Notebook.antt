@@ -7,8 +7,8 @@ use Rattle.characters.specs.Text.{text}
 use Rattle.characters.specs.Rows.{rows, is_line, end_mark}
 use Rattle.records.specs.Records.{Record, line_fault, record_of, header}
 use Rattle.order.specs.declared.State.{State}
-use Rattle.order.specs.declared.Moved.{Moved}
-use Rattle.order.specs.declared.Moved.TheVariants.{Fault, On}
+use Rattle.order.specs.State.{Step}
+use Rattle.order.specs.State.{Fault, On}
 use Rattle.order.specs.State.{start, step_of, finish_of}
 use Rattle.notebook.specs.Facts.{facts_of}
 
@@ -19,7 +19,7 @@ pub record Notebook : Type 0 where
 
 -- ---- one record line in its place: its own fault (4 to 12), then the order's (12 to 16)
 
-unfoldable pub step_line : State → List ℕ → Moved
+unfoldable pub step_line : State → List ℕ → Step
 step_line st l = cond (eqb (line_fault st.provider l) 0) (step_of st (facts_of (record_of l))) (Fault (line_fault st.provider l))
 
 -- ---- the rows after line 1
@@ -33,7 +33,7 @@ unfoldable pub closed : State → Res (List Record)
 closed st = cond (eqb (finish_of st) 0) (ok []) (refused (finish_of st) (st.line + 1))
 
 -- a refusal has the line's number; a record goes on with the next state
-unfoldable pub onward : ℕ → Record → (State → Res (List Record)) → Moved → Res (List Record)
+unfoldable pub onward : ℕ → Record → (State → Res (List Record)) → Step → Res (List Record)
 onward line r k (Fault n) = refused n line
 onward line r k (On t rp doctor) = prepend r (k t)
 

@@ -12,7 +12,7 @@ use borrow.Author.Tests.{eqb-true}
 use Rattle.order.specs.declared.Had.{Had}
 use Rattle.order.specs.declared.State.{State}
 use Rattle.order.specs.declared.Facts.{Facts}
-use Rattle.order.specs.declared.Moved.TheVariants.{On}
+use Rattle.order.specs.State.{On}
 use Rattle.lists.specs.Lists.{member}
 use Rattle.lists.proofs.Tests.{or_member, member_left, member_more, neither}
 use Rattle.rules.specs.Places.{in_head, in_front, in_drugs, in_rp, in_rest, in_group, may_follow}

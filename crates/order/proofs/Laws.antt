@@ -9,9 +9,12 @@ use mathlib.Core.Bool.{Bool, true, false, not, cond, ◌&&◌, ◌||◌, false�
 use mathlib.Core.List.{List, [], ◌∷◌}
 use lib.Dec.{eqb, eqb-suc-zero}
 use borrow.Author.Tests.{eq-eqb, eqb-true}
+use Rattle.replies.specs.declared.refusal.Refusal.{Refusal as Word}
+use Rattle.replies.specs.Refusals.{number_of}
+use Rattle.replies.proofs.Numbers.{never_0}
 use Rattle.order.specs.declared.State.{State}
 use Rattle.order.specs.declared.Facts.{Facts}
-use Rattle.order.specs.declared.Moved.TheVariants.{Fault, On}
+use Rattle.order.specs.State.{Fault, On}
 use Rattle.rules.specs.Places.{in_rp, of_open_rp}
 use Rattle.rules.specs.Questions.{Before, Asked}
 use Rattle.order.specs.Questions.{before_of, asked_of}
@@ -76,6 +79,11 @@ refused s r n e = by (refusal_of s r) refl e
 pub takes : (s : State) (r : Facts) → refusal_of s r ≡ 0 → step_of s r ≡ On (advance s r) (rp_of r) (doctor_of s r)
 unfolding step_of
 takes s r e = rw e
+
+-- a record with a refusal is not
+pub turned_away : (s : State) (r : Facts) (x : Word) → number_of x ≡ refusal_of s r → step_of s r ≡ Fault (number_of x)
+unfolding step_of
+turned_away s r x e = rw (sym e, never_0 x)
 
 -- a good line breaks none of the five rules
 pub record Good (s : State) (r : Facts) : Type 0 where

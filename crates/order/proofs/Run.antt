@@ -7,8 +7,8 @@ use mathlib.Core.List.{List, [], ◌∷◌}
 use lib.ListN.{length}
 use Rattle.order.specs.declared.State.{State}
 use Rattle.order.specs.declared.Facts.{Facts}
-use Rattle.order.specs.declared.Moved.{Moved}
-use Rattle.order.specs.declared.Moved.TheVariants.{Fault, On}
+use Rattle.order.specs.State.{Step}
+use Rattle.order.specs.State.{Fault, On}
 use Rattle.order.specs.State.{advance, step_of, finish_of}
 use Rattle.order.specs.Run.{refused_at, ran_to, at_end, stepped, run_of, after}
 use Rattle.order.proofs.Laws.{taken}
@@ -35,7 +35,7 @@ ran_after [] s t e = by (finish_of s) refl e
     by (ℕ.suc n) q f = absurd (never f)
 ran_after (r ∷ rs) s t e = ran_after rs (advance s r) t (by (step_of s r) refl e)
   where
-    by : (m : Moved) → step_of s r ≡ m → stepped s.line (λ u. run_of u rs) m ≡ ran_to t → run_of (advance s r) rs ≡ ran_to t
+    by : (m : Step) → step_of s r ≡ m → stepped s.line (λ u. run_of u rs) m ≡ ran_to t → run_of (advance s r) rs ≡ ran_to t
     by (Fault n) q f = absurd (never f)
     by (On u p d) q f = rw (taken s r u p d q).state at f
 

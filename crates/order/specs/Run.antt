@@ -3,8 +3,8 @@
 use Rattle.std.specs.Prelude.{ℕ, ◌+◌, List, [], ◌∷◌}
 use Rattle.order.specs.declared.State.{State}
 use Rattle.order.specs.declared.Facts.{Facts}
-use Rattle.order.specs.declared.Moved.{Moved}
-use Rattle.order.specs.declared.Moved.TheVariants.{Fault, On}
+use Rattle.order.specs.State.{Step}
+use Rattle.order.specs.State.{Fault, On}
 use Rattle.order.specs.State.{step_of, finish_of, advance}
 
 -- a refusal's number and line, or the last state
@@ -18,7 +18,7 @@ at_end s ℕ.zero = ran_to s
 at_end s (ℕ.suc n) = refused_at (ℕ.suc n) (s.line + 1)
 
 -- a refused record stands at the line after the last good one
-unfoldable pub stepped : ℕ → (State → Ran) → Moved → Ran
+unfoldable pub stepped : ℕ → (State → Ran) → Step → Ran
 stepped line rest (Fault n) = refused_at n (line + 1)
 stepped line rest (On t rp doctor) = rest t
 

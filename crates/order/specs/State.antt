@@ -2,7 +2,7 @@
 -- The pattern state of document 01, "Each record moves the reader from one place of this pattern to the next": the state before the first
 -- record, the state after one more, and a step.
 --
--- What it speaks of are structs and an enum of src/lib.rt:
+-- What it speaks of are structs of src/lib.rt:
 -- `Facts`, what the rules look at in a record: its `number`; `rp`, the first item of a 201 to 391; `day`, a 5's day as the number YYYYMMDD;
 -- `schedule`, an 11's fee schedule (third item); `form`, a 301's form (fifth item); `named`, whether a 301 has a usage name. An empty item is 0,
 -- or false, and so is what another record would have.
@@ -10,15 +10,14 @@
 -- which is also the count of RPs; `had301`, whether that RP its 301; `doctor` and `drug`, the lines of the last 55 and 201. 0 where there is none.
 -- `State`, where the reader is: `provider`, whether the direction is 1; `place`, the number of the last record, and `line`, its line; `groups` and
 -- `drugs`, how many 5s and 201s so far; `day`, the last 5's; `had`, of the open group.
--- `Moved`, what a step answers: `Fault` with the number of the refusal, or `On` with the next state, the RP of the record and the line of its
--- doctor.
-use Rattle.std.specs.Prelude.{ℕ, ◌+◌, Bool, true, false, cond, [], ◌∷◌, eqb}
+use Rattle.std.specs.Prelude.{ℕ, ◌+◌, Bool, true, false, cond, [], ◌∷◌, eqb, Result, Ok, Err}
 use Rattle.lists.specs.Lists.{member}
 use Rattle.order.specs.declared.Had.{Had}
 use Rattle.order.specs.declared.State.{State}
 use Rattle.order.specs.declared.Facts.{Facts}
 use Rattle.order.specs.declared.Moved.{Moved}
-use Rattle.order.specs.declared.Moved.TheVariants.{Fault, On}
+use Rattle.replies.specs.declared.refusal.Refusal.{Refusal}
+use Rattle.replies.specs.Refusals.{number_of}
 use Rattle.rules.specs.Places.{in_rp, in_group}
 use Rattle.order.specs.Questions.{before_of, asked_of}
 use Rattle.rules.specs.Rules.{order_refusal, unfinished}
@@ -70,8 +69,18 @@ rp_of r = cond (in_rp r.number) r.rp 0
 unfoldable pub doctor_of : State → Facts → ℕ
 doctor_of s r = cond (in_rp r.number) s.had.doctor 0
 
-unfoldable pub step_of : State → Facts → Moved
+-- a step: the number of the refusal; or the next state, the RP of the record and the line of its doctor
+pub data Step : Type 0 where
+  Fault : ℕ → Step
+  On : State → ℕ → ℕ → Step
+
+unfoldable pub step_of : State → Facts → Step
 step_of s r = cond (eqb (refusal_of s r) 0) (On (advance s r) (rp_of r) (doctor_of s r)) (Fault (refusal_of s r))
+
+-- the step that the code's answer tells
+abbrev pub step_in : Result Moved Refusal → Step
+step_in (Ok m) = On m.state m.rp m.doctor
+step_in (Err r) = Fault (number_of r)
 
 -- 14 at the end, or 0
 unfoldable pub finish_of : State → ℕ

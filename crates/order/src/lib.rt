@@ -8,12 +8,15 @@
 
 ghost use Rattle.std.specs.Prelude.{◌≡◌, false, not, cond, ◌&&◌, [], ◌∷◌, eqb};
 ghost use Rattle.lists.specs.Lists.{member};
-ghost use Rattle.order.specs.declared.Moved.TheVariants.{On};
+ghost use Rattle.replies.specs.Refusals.{fault_in};
 ghost use Rattle.rules.specs.Places.{in_head, in_front, in_drugs, in_rp, in_rest, in_group};
 ghost use Rattle.order.specs.Questions.{before_of};
 ghost use Rattle.rules.specs.Rules.{lacking};
-ghost use Rattle.order.specs.State.{nothing_yet, had_after, start, advance, rp_of, doctor_of, refusal_of, step_of, finish_of, group_of, drug_of};
+ghost use Rattle.order.specs.State.{nothing_yet, had_after, start, advance, rp_of, doctor_of, refusal_of, step_in, step_of, finish_of, group_of, drug_of};
 ghost use Rattle.order.specs.Room.{Room};
+
+use replies::Refusal;
+use replies::Refusal::{DateOrder, Missing, Pair, Place, Rp};
 
 // All that the rules look at in a record; an empty item is 0, or false. `rp` is the first item of 201 to 391, `day` a
 // 5's day as YYYYMMDD, `schedule` an 11's fee schedule (third item), `form` a 301's form (fifth item), `named` whether
@@ -31,7 +34,7 @@ pub struct Facts {
 // What the open group has had; the Booleans stand together, so that they are copied as one word. `rp` is the open RP's
 // value, which is also the count of RPs; `had301` speaks of that RP. `doctor` and `drug` are the lines of the last 55 and
 // 201, 0 where there is none.
-#[derive(Clone, Copy)]
+#[derive(Clone, Copy, Default)]
 pub struct Had {
     pub had11: bool,
     pub had51: bool,
@@ -56,16 +59,20 @@ pub struct State {
     pub had: Had,
 }
 
-// A refusal's number, or the next state with the RP and the doctor's line of the record.
+// What a record moves the reader to: the next state, with the RP and the doctor's line of the record, 0 where it has none.
 #[derive(Clone, Copy)]
-pub enum Moved {
-    Fault(u32),
-    On(State, u32, u32),
+pub struct Moved {
+    pub state: State,
+    pub rp: u32,
+    pub doctor: u32,
 }
 
-// One of two numbers as a value, so that a rule needs no branch.
-fn pick(b: bool, x: u32, y: u32) -> u32
-    ensures { result ≡ cond b x y }
+// What the rules say of a record.
+type Verdict = Result<(), Refusal>;
+
+// One of two verdicts as a value, so that a rule needs no branch.
+fn pick(b: bool, x: Verdict, y: Verdict) -> Verdict
+    ensures { fault_in result ≡ cond b (fault_in x) (fault_in y) }
 {
     if b { x } else { y }
 }
@@ -108,34 +115,26 @@ pub fn in_group(p: u32) -> bool
     in_front(p) | (p == 55) | in_rp(p) | in_rest(p)
 }
 
-// A record of the open RP but a 201; placed: it may stand here. "The first items of one RP have one value", else 15.
-fn kept_rp(placed: bool, same: bool) -> u32
-    ensures { result ≡ cond placed (cond (not same) 15 0) 13 }
+// A record of the open RP but a 201; placed: it may stand here. "The first items of one RP have one value".
+fn kept_rp(placed: bool, same: bool) -> Verdict
+    ensures { fault_in result ≡ cond placed (cond (not same) 15 0) 13 }
 {
     if same {
         if placed {
-            return 0;
+            return Ok(());
         }
-        return 13;
+        return Err(Place);
     }
-    pick(placed, 15, 13)
+    pick(placed, Err(Rp), Err(Place))
 }
 
 impl Had {
     // A group that has had its 5 only.
+    #[tactic(auto, unfolding(crate::specs::State::nothing_yet))]
     pub fn none() -> Self
         ensures { result ≡ nothing_yet }
     {
-        Had {
-            had11: false,
-            had51: false,
-            had411: false,
-            had301: false,
-            schedule: 0,
-            rp: 0,
-            doctor: 0,
-            drug: 0,
-        }
+        Had::default()
     }
 
     // A 5 begins anew: neither doctor nor fee schedule reaches into the next group.
@@ -182,15 +181,14 @@ impl State {
     pub fn new(provider: bool) -> Self
         ensures { result ≡ start provider }
     {
-        let had = Had::none();
         State {
-            provider: provider,
+            provider,
             place: 0,
             line: 1,
             groups: 0,
             drugs: 0,
             day: 0,
-            had: had,
+            had: Had::none(),
         }
     }
 
@@ -216,49 +214,61 @@ impl State {
     }
 
     // The open RP closes. Direction 1: "each RP has 301".
-    fn rp_closed(self) -> u32
-        ensures { result ≡ cond (self.provider && not self.had.had301) 14 0 }
+    fn rp_closed(self) -> Verdict
+        ensures { fault_in result ≡ cond (self.provider && not self.had.had301) 14 0 }
     {
-        pick(self.provider & !self.had.had301, 14, 0)
+        pick(self.provider & !self.had.had301, Err(Missing), Ok(()))
     }
 
     // 2, 3 and 4; placed: "any 2s, then 3s, then 4s". "Direction 2: record 1 stands" before them.
-    fn head_refusal(self, placed: bool) -> u32
-        ensures { result ≡ cond placed (cond (not self.provider && eqb self.place 0) 14 0) 13 }
+    fn head_refusal(self, placed: bool) -> Verdict
+        ensures { fault_in result ≡ cond placed (cond (not self.provider && eqb self.place 0) 14 0) 13 }
     {
-        pick(placed, pick(!self.provider & (self.place == 0), 14, 0), 13)
+        pick(
+            placed,
+            pick(!self.provider & (self.place == 0), Err(Missing), Ok(())),
+            Err(Place),
+        )
     }
 
     // 5: it closes the RP and the group before it; direction 1: "each RP has 301", "a 51 is followed by 55 or 201". Direction 2:
     // "record 1 stands". "No group is newer than the one before it; equal days are good."
-    fn group_refusal(self, r: Facts) -> u32
+    fn group_refusal(self, r: Facts) -> Verdict
         requires { r.number ≡ 5 }
-        ensures { result ≡ refusal_of self r }
+        ensures { fault_in result ≡ refusal_of self r }
     {
         let p = self.place;
-        let good = pick(!(self.groups == 0) & (self.day < r.day), 16, 0);
+        let good = pick(
+            !(self.groups == 0) & (self.day < r.day),
+            Err(DateOrder),
+            Ok(()),
+        );
         let lacks = self.lacking();
         if in_rp(p) {
             return pick(
                 self.provider & !self.had.had301 | self.provider & lacks,
-                14,
+                Err(Missing),
                 good,
             );
         }
         if in_front(p) | in_rest(p) {
             return pick(
                 self.provider & (p == 51),
-                13,
-                pick(self.provider & lacks, 14, good),
+                Err(Place),
+                pick(self.provider & lacks, Err(Missing), good),
             );
         }
-        pick(in_head(p), pick(!self.provider & (p == 0), 14, good), 13)
+        pick(
+            in_head(p),
+            pick(!self.provider & (p == 0), Err(Missing), good),
+            Err(Place),
+        )
     }
 
     // 701: it closes what a 5 closes, and the groups. Direction 1: "at least one group".
-    fn end_refusal(self, r: Facts) -> u32
+    fn end_refusal(self, r: Facts) -> Verdict
         requires { r.number ≡ 701 }
-        ensures { result ≡ refusal_of self r }
+        ensures { fault_in result ≡ refusal_of self r }
     {
         let p = self.place;
         let lacks = self.lacking();
@@ -266,65 +276,69 @@ impl State {
         if in_rp(p) {
             return pick(
                 self.provider & !self.had.had301 | self.provider & lacks | none,
-                14,
-                0,
+                Err(Missing),
+                Ok(()),
             );
         }
         if in_front(p) | in_rest(p) {
             return pick(
                 self.provider & (p == 51),
-                13,
-                pick(self.provider & lacks | none, 14, 0),
+                Err(Place),
+                pick(self.provider & lacks | none, Err(Missing), Ok(())),
             );
         }
         pick(
             in_head(p) | (p == 701),
-            pick(!self.provider & (p == 0) | none, 14, 0),
-            13,
+            pick(!self.provider & (p == 0) | none, Err(Missing), Ok(())),
+            Err(Place),
         )
     }
 
     // 55: "Prescriptions are all without doctors, or the first is preceded by 55". It closes the RP before it.
-    fn doctor_refusal(self, r: Facts) -> u32
+    fn doctor_refusal(self, r: Facts) -> Verdict
         requires { r.number ≡ 55 }
-        ensures { result ≡ refusal_of self r }
+        ensures { fault_in result ≡ refusal_of self r }
     {
         let p = self.place;
         let barred = self.barred();
         if in_rp(p) {
-            return pick((self.had.doctor == 0) | barred, 13, self.rp_closed());
+            return pick(
+                (self.had.doctor == 0) | barred,
+                Err(Place),
+                self.rp_closed(),
+            );
         }
         if in_front(p) {
-            return pick(barred, 13, 0);
+            return pick(barred, Err(Place), Ok(()));
         }
-        13
+        Err(Place)
     }
 
     // 201 that begins an RP, which has "1 in a group's first RP, one more in each next". In 64 bits, so that the next value always exists.
-    fn new_rp(self, r: Facts) -> u32
+    fn new_rp(self, r: Facts) -> Verdict
         requires number_value { r.number ≡ 201 }
         requires rp_value { (in_drugs self.place && eqb r.rp self.had.rp) ≡ false }
-        ensures { result ≡ refusal_of self r }
+        ensures { fault_in result ≡ refusal_of self r }
     {
         let p = self.place;
         let next = (self.had.rp as u64) + 1;
         let value = r.rp as u64;
-        let good = pick(!(value == next), 15, 0);
+        let good = pick(!(value == next), Err(Rp), Ok(()));
         if in_rp(p) {
-            return pick(self.provider & !self.had.had301, 14, good);
+            return pick(self.provider & !self.had.had301, Err(Missing), good);
         }
-        pick(in_front(p) | (p == 55), good, 13)
+        pick(in_front(p) | (p == 55), good, Err(Place))
     }
 
     // 201: it is a further drug of the open RP, or, "with another value than the open RP begins a new RP; so does any 201
     // after a 301 or 391".
-    fn drug_refusal(self, r: Facts) -> u32
+    fn drug_refusal(self, r: Facts) -> Verdict
         requires { r.number ≡ 201 }
-        ensures { result ≡ refusal_of self r }
+        ensures { fault_in result ≡ refusal_of self r }
     {
         if r.rp == self.had.rp {
             if in_drugs(self.place) {
-                return 0;
+                return Ok(());
             }
             return self.new_rp(r);
         }
@@ -333,9 +347,9 @@ impl State {
 
     // 301: "The usage name (second item) stands in direction 2 always, and in direction 1 when the open group has had an 11 with 4 and
     // the form isn't 9 or 10."
-    fn usage_refusal(self, r: Facts) -> u32
+    fn usage_refusal(self, r: Facts) -> Verdict
         requires { r.number ≡ 301 }
-        ensures { result ≡ refusal_of self r }
+        ensures { fault_in result ≡ refusal_of self r }
     {
         let p = self.place;
         let same = r.rp == self.had.rp;
@@ -345,14 +359,14 @@ impl State {
         if !self.provider
             | in_group(p) & (self.had.schedule == 4) & !((r.form == 9) | (r.form == 10))
         {
-            return 12;
+            return Err(Pair);
         }
         kept_rp(in_drugs(p), same)
     }
 
     // 401 to 601; after: "then any 401s, 411s, 501s, 601s" up to it. Direction 1: "a 51 is followed by 55 or 201".
-    fn rest_refusal(self, behind: bool) -> u32
-        ensures { result ≡ cond (in_rp self.place) (cond (self.provider && not self.had.had301) 14 0)
+    fn rest_refusal(self, behind: bool) -> Verdict
+        ensures { fault_in result ≡ cond (in_rp self.place) (cond (self.provider && not self.had.had301) 14 0)
             (cond (in_front self.place) (cond (self.provider && eqb self.place 51) 13 0) (cond behind 0 13)) }
     {
         let p = self.place;
@@ -360,31 +374,31 @@ impl State {
             return self.rp_closed();
         }
         if in_front(p) {
-            return pick(self.provider & (p == 51), 13, 0);
+            return pick(self.provider & (p == 51), Err(Place), Ok(()));
         }
-        pick(behind, 0, 13)
+        pick(behind, Ok(()), Err(Place))
     }
 
-    // The lowest number that the record breaks; 0 where it is good. A record's number settles most of what the rules ask, so each number
-    // has its own: first where it may stand (13), then what else it is asked.
-    fn refusal(self, r: Facts) -> u32
-        ensures { result ≡ refusal_of self r }
+    // The refusal of the lowest number that the record breaks. A record's number settles most of what the rules ask, so each number
+    // has its own: first where it may stand, then what else it is asked.
+    fn refusal(self, r: Facts) -> Verdict
+        ensures { fault_in result ≡ refusal_of self r }
     {
         let n = r.number;
         let p = self.place;
         let same = r.rp == self.had.rp;
         match n {
-            1 => pick(p == 0, 0, 13),
+            1 => pick(p == 0, Ok(()), Err(Place)),
             2 => self.head_refusal((p == 0) | (p == 1) | (p == 2)),
             3 => self.head_refusal((p == 0) | (p == 1) | (p == 2) | (p == 3)),
             4 => self.head_refusal(in_head(p)),
             5 => self.group_refusal(r),
-            11 => pick(p == 5, 0, 13),
-            15 => pick((p == 5) | (p == 11), 0, 13),
+            11 => pick(p == 5, Ok(()), Err(Place)),
+            15 => pick((p == 5) | (p == 11), Ok(()), Err(Place)),
             51 => pick(
                 (p == 5) | (p == 11) | (p == 15),
-                pick(self.barred(), 13, 0),
-                13,
+                pick(self.barred(), Err(Place), Ok(())),
+                Err(Place),
             ),
             55 => self.doctor_refusal(r),
             201 => self.drug_refusal(r),
@@ -396,76 +410,74 @@ impl State {
             // Direction 1: "a group without RP has .. no 401".
             401 => pick(
                 self.provider & (self.had.rp == 0),
-                13,
+                Err(Place),
                 self.rest_refusal(p == 401),
             ),
             411 => self.rest_refusal((p == 401) | (p == 411)),
             501 => self.rest_refusal((p == 401) | (p == 411) | (p == 501)),
             601 => self.rest_refusal(in_rest(p)),
             701 => self.end_refusal(r),
-            _ => 13,
+            _ => Err(Place),
         }
     }
 
     // The state after the record, with its RP and doctor.
     fn moved(self, r: Facts) -> Moved
         requires { Room self }
-        ensures { result ≡ On (advance self r) (rp_of r) (doctor_of self r) }
+        ensures { result ≡ record { state = advance self r; rp = rp_of r; doctor = doctor_of self r } }
     {
         let n = r.number;
         let line = self.line + 1;
         let had = self.had;
         let next = State {
             place: n,
-            line: line,
+            line,
             had: had.after(r, line),
             ..self
         };
         match n {
-            5 => {
-                let groups = self.groups + 1;
-                Moved::On(
-                    State {
-                        groups: groups,
-                        day: r.day,
-                        ..next
-                    },
-                    0,
-                    0,
-                )
-            }
-            201 => {
-                let drugs = self.drugs + 1;
-                Moved::On(
-                    State {
-                        drugs: drugs,
-                        ..next
-                    },
-                    r.rp,
-                    had.doctor,
-                )
-            }
-            281 | 291 | 301 | 311 | 391 => Moved::On(next, r.rp, had.doctor),
-            _ => Moved::On(next, 0, 0),
+            5 => Moved {
+                state: State {
+                    groups: self.groups + 1,
+                    day: r.day,
+                    ..next
+                },
+                rp: 0,
+                doctor: 0,
+            },
+            201 => Moved {
+                state: State {
+                    drugs: self.drugs + 1,
+                    ..next
+                },
+                rp: r.rp,
+                doctor: had.doctor,
+            },
+            281 | 291 | 301 | 311 | 391 => Moved {
+                state: next,
+                rp: r.rp,
+                doctor: had.doctor,
+            },
+            _ => Moved {
+                state: next,
+                rp: 0,
+                doctor: 0,
+            },
         }
     }
 
     // One record of the pattern. The state is handed back and not changed, so that a refused record leaves the caller's.
-    pub fn step(self, r: Facts) -> Moved
+    pub fn step(self, r: Facts) -> Result<Moved, Refusal>
         requires { Room self }
-        ensures { result ≡ step_of self r }
+        ensures { step_in result ≡ step_of self r }
     {
-        let no = self.refusal(r);
-        if no == 0 {
-            self.moved(r)
-        } else {
-            Moved::Fault(no)
-        }
+        self.refusal(r)?;
+        Ok(self.moved(r))
     }
 
-    // The end of the file closes what is open: 14, or 0.
-    pub fn finish(self) -> u32
-        ensures { result ≡ finish_of self }
+    // The end of the file closes what is open.
+    pub fn finish(self) -> Result<(), Refusal>
+        ensures { fault_in result ≡ finish_of self }
     {
         let p = self.place;
         pick(
@@ -475,22 +487,28 @@ impl State {
                 | self.provider & (self.groups == 0)
                 | self.provider & in_rp(p) & !self.had.had301
                 | self.provider & in_group(p) & self.lacking(),
-            14,
-            0,
+            Err(Missing),
+            Ok(()),
         )
     }
 
     // The ordinal of the last record's group, 0 outside groups: the index's fourth number.
+    #[tactic(auto, unfolding(crate::specs::State::group_of))]
     pub fn group(self) -> u32
         ensures { result ≡ group_of self }
     {
-        pick(in_group(self.place), self.groups, 0)
+        if in_group(self.place) { self.groups } else { 0 }
     }
 
     // The line of the drug that the last record, a 281 or 291, belongs to, else 0: the index's sixth number.
+    #[tactic(auto, unfolding(crate::specs::State::drug_of))]
     pub fn drug(self) -> u32
         ensures { result ≡ drug_of self }
     {
-        pick((self.place == 281) | (self.place == 291), self.had.drug, 0)
+        if (self.place == 281) | (self.place == 291) {
+            self.had.drug
+        } else {
+            0
+        }
     }
 }

@@ -13,8 +13,8 @@ use Rattle.lists.specs.Lists.{member, All}
 use Rattle.lists.proofs.Tests.{member_more, both, neither, either, not_true'}
 use Rattle.order.specs.declared.State.{State}
 use Rattle.order.specs.declared.Facts.{Facts}
-use Rattle.order.specs.declared.Moved.{Moved}
-use Rattle.order.specs.declared.Moved.TheVariants.{Fault, On}
+use Rattle.order.specs.State.{Step}
+use Rattle.order.specs.State.{Fault, On}
 use Rattle.rules.specs.Places.{in_head, in_front, in_rp, in_drugs, in_group, may_follow}
 use Rattle.rules.specs.Questions.{Before, Asked}
 use Rattle.rules.specs.Rules.{closes_rp, lacking, missing, value_wrong, continues}
@@ -289,7 +289,7 @@ unfolding run_of stepped
 before_refusal [] s r rest n line q e = tt
 before_refusal (x ∷ rs) s r rest n line q e = by (step_of s x) refl e (before_refusal rs (advance s x) r rest n line)
   where
-    by : (m : Moved) → step_of s x ≡ m → stepped s.line (λ t. run_of t (rs ++ r ∷ rest)) m ≡ refused_at n line
+    by : (m : Step) → step_of s x ≡ m → stepped s.line (λ t. run_of t (rs ++ r ∷ rest)) m ≡ refused_at n line
         → (line ≡ (advance s x).line + length rs + 1 → run_of (advance s x) (rs ++ r ∷ rest) ≡ refused_at n line → AllTaken (advance s x) rs)
         → AllTaken s (x ∷ rs)
     by (Fault k) w e ih = absurd (omega (arith, never e))

@@ -12,8 +12,8 @@ use borrow.Author.Tests.{eq-eqb, eqb-false}
 use Rattle.lists.proofs.Tests.{both, not_true'}
 use Rattle.order.specs.declared.State.{State}
 use Rattle.order.specs.declared.Facts.{Facts}
-use Rattle.order.specs.declared.Moved.{Moved}
-use Rattle.order.specs.declared.Moved.TheVariants.{Fault, On}
+use Rattle.order.specs.State.{Step}
+use Rattle.order.specs.State.{Fault, On}
 use Rattle.lists.specs.Lists.{member, same, Res, refused}
 use Rattle.lists.proofs.Tests.{same_true}
 use Rattle.characters.specs.Text.{text}
@@ -275,7 +275,7 @@ unfolding records_from onward
 lines_ahead [] l st n line q e = none_ahead st l line (closed_line st n line e)
 lines_ahead (r ∷ rs) l st n line q e = by (same r end_mark) (is_line r) refl (λ t. lines_ahead rs (flat rs) t n line) e
   where
-    step_on : FirstLine l r rs → (m : Moved) → step_line st (text r) ≡ m
+    step_on : FirstLine l r rs → (m : Step) → step_line st (text r) ≡ m
         → ((t : State) → rows (flat rs) ≡ rs → records_from t rs ≡ refused n line → Ahead t (flat rs) line)
         → onward (st.line + 1) (record_of (text r)) (λ t. records_from t rs) m ≡ refused n line → Ahead st l line
     step_on f (Fault k) w ih e = none_ahead st l line (let z : st.line + 1 ≡ line = cc in sym z)

@@ -15,8 +15,8 @@ use Rattle.characters.specs.Rows.{rows, flat, is_line, end_mark}
 use Rattle.characters.proofs.RowLaws.{flat_rows}
 use Rattle.records.specs.Records.{Record, record_of, header, is_mark}
 use Rattle.order.specs.declared.State.{State}
-use Rattle.order.specs.declared.Moved.{Moved}
-use Rattle.order.specs.declared.Moved.TheVariants.{Fault, On}
+use Rattle.order.specs.State.{Step}
+use Rattle.order.specs.State.{Fault, On}
 use Rattle.rules.specs.Rules.{unfinished}
 use Rattle.order.specs.Questions.{before_of}
 use Rattle.order.specs.State.{start, finish_of}
@@ -94,7 +94,7 @@ records_refuse (r ∷ rs) st ends h =
     broken : RowsRefused ends (not (is_mark (text r)) && unmarked rs) 2 (st.line + 1)
     broken = record { low = omega arith; high = omega arith; three = λ e. omega arith; six = λ _ e. omega arith; from = omega arith; to = omega arith }
 
-    step : is_line r ≡ true → (m : Moved) → step_line st (text r) ≡ m
+    step : is_line r ≡ true → (m : Step) → step_line st (text r) ≡ m
         → ((t : State) → t.line + line_ends (flat rs) ≤ ends → Refuses (RowsRefused ends (unmarked rs)) (records_from t rs))
         → P (onward (st.line + 1) (record_of (text r)) (λ t. records_from t rs) m)
     step l (Fault n) q ih =

@@ -1,2 +1,3 @@
 pub mod AllExamples
 pub mod Results
+pub mod Numbers

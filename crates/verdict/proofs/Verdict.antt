@@ -18,8 +18,8 @@ use Rattle.records.specs.Records.{Record, line_fault, record_of, header}
 use Rattle.records.proofs.LineLaws.{reads, read_is, line_good}
 use Rattle.order.specs.declared.State.{State}
 use Rattle.order.specs.declared.Facts.{Facts}
-use Rattle.order.specs.declared.Moved.{Moved}
-use Rattle.order.specs.declared.Moved.TheVariants.{Fault, On}
+use Rattle.order.specs.State.{Step}
+use Rattle.order.specs.State.{Fault, On}
 use Rattle.order.specs.State.{start, advance, refusal_of, step_of, finish_of, rp_of, doctor_of}
 use Rattle.order.specs.Run.{refused_at, ran_to, at_end, stepped as order_onward, run_of, after}
 use Rattle.order.proofs.Laws.{taken, takes, provider_kept, provider_start}
@@ -70,7 +70,7 @@ unfolding run_of after order_onward
 through_ran [] s t e = let g = ran_after [] s t e in end_accepts s (subst (λ u. finish_of u ≡ 0) g.0 g.1)
 through_ran (r ∷ rs) s t e = by (step_of s r) refl e (through_ran rs (advance s r) t)
   where
-    by : (m : Moved) → step_of s r ≡ m → order_onward s.line (λ u. run_of u rs) m ≡ ran_to t
+    by : (m : Step) → step_of s r ≡ m → order_onward s.line (λ u. run_of u rs) m ≡ ran_to t
         → (run_of (advance s r) rs ≡ ran_to t → accepts (advance s r) rs ≡ true) → accepts s (r ∷ rs) ≡ true
     by (Fault n) q f i = absurd (never f)
     by (On u p d) q f i = let k = taken s r u p d q in on_accepts s r rs k.good (i (subst (λ v. run_of v rs ≡ ran_to t) k.state f))
@@ -149,7 +149,7 @@ parse (r ∷ rs) l st recs q e = by (same r end_mark) refl (is_line r) refl (λ 
         subst (Parsed st l) h (parsed_line st t l r rs u f k (ih u f.behind w))
     on t f k (refused n line) w ih e = absurd (no_refusal e)
 
-    step : FirstLine l r rs → (m : Moved) → step_line st (text r) ≡ m
+    step : FirstLine l r rs → (m : Step) → step_line st (text r) ≡ m
         → ((t : State) (u : List Record) → rows (flat rs) ≡ rs → records_from t rs ≡ ok u → Parsed t (flat rs) u)
         → onward (st.line + 1) (record_of (text r)) (λ t. records_from t rs) m ≡ ok recs → Parsed st l recs
     step f (Fault n) w ih e = absurd (no_refusal e)

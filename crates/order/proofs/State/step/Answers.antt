@@ -1,11 +1,9 @@
 use Rattle.std.proofs.Common.{rules}
-use Rattle.order.specs.State.{step_of}
+use Rattle.order.proofs.Laws.{takes, turned_away}
 use Rattle.order.proofs.State.step.Goals as goal
 
-pub returns-then-no-eq0 : goal.returns-then-no-eq0
-unfolding step_of
-returns-then-no-eq0 c = search rules
+pub returns-in_err-refusal : goal.returns-in_err-refusal
+returns-in_err-refusal c = search (rules, turned_away)
 
-pub returns-else-no-eq0 : goal.returns-else-no-eq0
-unfolding step_of
-returns-else-no-eq0 c = search rules
+pub returns : goal.returns
+returns c = search (rules, takes)
