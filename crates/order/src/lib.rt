@@ -81,31 +81,31 @@ fn pick(b: bool, x: Verdict, y: Verdict) -> Verdict
 fn in_head(p: u32) -> bool
     ensures { result ≡ in_head p }
 {
-    (p == 0) | (p == 1) | (p == 2) | (p == 3) | (p == 4)
+    matches!(p, 0 | 1 | 2 | 3 | 4)
 }
 
 fn in_front(p: u32) -> bool
     ensures { result ≡ in_front p }
 {
-    (p == 5) | (p == 11) | (p == 15) | (p == 51)
+    matches!(p, 5 | 11 | 15 | 51)
 }
 
 fn in_drugs(p: u32) -> bool
     ensures { result ≡ in_drugs p }
 {
-    (p == 201) | (p == 281) | (p == 291)
+    matches!(p, 201 | 281 | 291)
 }
 
 fn in_rp(p: u32) -> bool
     ensures { result ≡ in_rp p }
 {
-    (p == 201) | (p == 281) | (p == 291) | (p == 301) | (p == 311) | (p == 391)
+    matches!(p, 201 | 281 | 291 | 301 | 311 | 391)
 }
 
 fn in_rest(p: u32) -> bool
     ensures { result ≡ in_rest p }
 {
-    (p == 401) | (p == 411) | (p == 501) | (p == 601)
+    matches!(p, 401 | 411 | 501 | 601)
 }
 
 // Whether a record of this number stands in a group.
