@@ -3,16 +3,13 @@
 // a loop's turn (`carry`), and reads a written front back (`front`).
 #![tactic(auto)]
 
+mod room;
+
 ghost use Rattle.std.specs.Prelude.{[], ◌∷◌, ◌<◌};
 ghost use Rattle.digits.specs.Digits.{spell};
 ghost use Rattle.buffers.specs.Buffers.{Room, Wrote};
 
-// The lengths of an array for what is made of a short, a middling and any input: clearing the last takes longer than reading a short input.
-pub const SHORT: usize = 2048;
-
-pub const MIDDLING: usize = 16384;
-
-pub const ANY: usize = 65536;
+pub use room::with_room;
 
 // One byte.
 pub fn put_byte(out: &mut [u8], at: usize, b: u8) -> usize
