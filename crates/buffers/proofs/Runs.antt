@@ -71,57 +71,17 @@ copied {A} d at n v w h e f =
 
 -- ---- a number by its width
 
-spell_1 : (v : ℕ) → v ≤ 9 → spell v ≡ (48 + v) ∷ []
+pub spell_1 : (v : ℕ) → v ≤ 9 → spell v ≡ (48 + v) ∷ []
 unfolding spell
 spell_1 v h = simp (le-leb v 9 h)
 
-spell_2 : (v : ℕ) → 9 < v → v ≤ 99 → spell v ≡ (48 + v / 10) ∷ (48 + v % 10) ∷ []
+pub spell_2 : (v : ℕ) → 9 < v → v ≤ 99 → spell v ≡ (48 + v / 10) ∷ (48 + v % 10) ∷ []
 unfolding spell
 spell_2 v g h = simp (lt-leb v 9 g, le-leb v 99 h)
 
-spell_3 : (v : ℕ) → 99 < v → spell v ≡ (48 + v / 100) ∷ (48 + v / 10 % 10) ∷ (48 + v % 10) ∷ []
+pub spell_3 : (v : ℕ) → 99 < v → spell v ≡ (48 + v / 100) ∷ (48 + v / 10 % 10) ∷ (48 + v % 10) ∷ []
 unfolding spell
 spell_3 v h = simp (lt-leb v 9 (omega arith), lt-leb v 99 h)
-
-module _ (d : List ℕ) (at v : ℕ) (r : Room d at (spell v)) where
-  pub room_1 : v ≤ 9 → at < length d
-  room_1 h = omega (arith, ap length (spell_1 v h))
-
-  pub wrote_1 : v ≤ 9 → Wrote d (set d at (48 + v)) at (at + 1) (spell v)
-  wrote_1 h = rw (spell_1 v h) (record { next = refl; list = refl; size = simp length-set; high = omega (arith, room_1 h) })
-
-  module _ (g : 9 < v) (h : v ≤ 99) where
-    room_2 : at + 1 < length d
-    room_2 = omega (arith, ap length (spell_2 v g h))
-
-    pub room_2_first : at < length d
-    room_2_first = omega (arith, room_2)
-
-    pub room_2_last : (x : ℕ) → at + 1 < length (set d at x)
-    room_2_last x = simp length-set room_2
-
-    pub wrote_2 : Wrote d (set (set d at (48 + v / 10)) (at + 1) (48 + v % 10)) at (at + 2) (spell v)
-    wrote_2 = rw (spell_2 v g h) (record { next = refl; list = rw add-one; size = simp length-set; high = omega (arith, room_2) })
-
-  module _ (h : 99 < v) where
-    room_3 : at + 2 < length d
-    room_3 = omega (arith, ap length (spell_3 v h))
-
-    pub room_3_first : at < length d
-    room_3_first = omega (arith, room_3)
-
-    pub room_3_second : (x : ℕ) → at + 1 < length (set d at x)
-    room_3_second x = simp length-set (omega (arith, room_3))
-
-    pub room_3_last : (x y : ℕ) → at + 2 < length (set (set d at x) (at + 1) y)
-    room_3_last x y = simp length-set room_3
-
-    pub wrote_3 : Wrote d (set (set (set d at (48 + v / 100)) (at + 1) (48 + v / 10 % 10)) (at + 2) (48 + v % 10)) at (at + 3) (spell v)
-    wrote_3 =
-        let e : at + 2 ≡ suc (suc at) = omega arith in
-        rw (spell_3 v h) (record { next = refl; list = rw (e, add-one); size = simp length-set; high = omega (arith, room_3) })
-
-pub ruleset number_laws = (room_1, wrote_1, room_2_first, room_2_last, wrote_2, room_3_first, room_3_second, room_3_last, wrote_3)
 
 pub seven_length : (a b c d e f g : ℕ) → length (seven_numbers a b c d e f g) ≡ 7
 unfolding seven_numbers

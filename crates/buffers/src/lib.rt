@@ -5,7 +5,7 @@
 
 mod room;
 
-ghost use Rattle.std.specs.Prelude.{[], ◌∷◌, ◌<◌};
+ghost use Rattle.std.specs.Prelude.{◌≡◌, [], ◌∷◌, ◌+◌, ◌<◌};
 ghost use Rattle.digits.specs.Digits.{spell};
 ghost use Rattle.buffers.specs.Buffers.{Room, Wrote};
 
@@ -31,23 +31,28 @@ pub fn put_all<E: Copy>(out: &mut [E], at: usize, w: &[E]) -> usize
     end
 }
 
+// The byte of a digit.
+fn digit(v: u32) -> u8
+    requires { v < 10 }
+    ensures { result ≡ 48 + v }
+{
+    b'0' + v as u8
+}
+
 // A number below 1,000, without leading zeros.
+#[tactic(auto, using(crate::proofs::Runs::spell_1, crate::proofs::Runs::spell_2, crate::proofs::Runs::spell_3))]
 pub fn put_number(out: &mut [u8], at: usize, v: u32) -> usize
     requires v_bound { v < 1000 }
     requires room { Room out.old at (spell v) }
     ensures { Wrote out.old out.new at result (spell v) }
 {
-    if v <= 9 {
-        out[at] = (48 + v) as u8;
-        return at + 1;
+    match v {
+        0..=9 => put_all(out, at, &[digit(v)]),
+        10..=99 => put_all(out, at, &[digit(v / 10), digit(v % 10)]),
+        _ => put_all(
+            out,
+            at,
+            &[digit(v / 100), digit(v / 10 % 10), digit(v % 10)],
+        ),
     }
-    if v <= 99 {
-        out[at] = (48 + v / 10) as u8;
-        out[at + 1] = (48 + v % 10) as u8;
-        return at + 2;
-    }
-    out[at] = (48 + v / 100) as u8;
-    out[at + 1] = (48 + v / 10 % 10) as u8;
-    out[at + 2] = (48 + v % 10) as u8;
-    at + 3
 }
