@@ -1,0 +1,110 @@
+// One character: the byte that begins it and the byte after it.
+ghost use Rattle.std.specs.Prelude.{◌≡◌, false, ◌&&◌, [], ◌∷◌, ◌+◌, ◌≤◌, ◌%◌};
+ghost use Rattle.lists.specs.Lists.{within};
+ghost use Rattle.characters.specs.Cells.{allowed, trail_script, trail_cell, trail_row, is_trail};
+ghost use Rattle.characters.specs.Scanning.{char_of};
+
+use crate::cells::{first_rows, kanji_cell, next_rows, other};
+use characters::Char;
+
+// A lead's first row and a trail. The match on the trail stands three times, for rows 1 to 4, 5 to 8 and kanji, so that each is compiled with its
+// own rows.
+fn first_pair(row: u8, b: u8) -> Char
+    requires { row ≤ 3 }
+    ensures { result ≡ trail_script row b }
+{
+    match b {
+        0x9f..=0xfc => first_rows(row + 1, b - 0x9e),
+        _ => match b {
+            0x40..=0x7e => first_rows(row, b - 0x3f),
+            0x80..=0x9e => first_rows(row, b - 0x40),
+            _ => Char::Bad,
+        },
+    }
+}
+
+fn next_pair(row: u8, b: u8) -> Char
+    requires le_row { 5 ≤ row }
+    requires row_bound { row ≤ 7 }
+    ensures { result ≡ trail_script row b }
+{
+    match b {
+        0x9f..=0xfc => next_rows(row + 1, b - 0x9e),
+        _ => match b {
+            0x40..=0x7e => next_rows(row, b - 0x3f),
+            0x80..=0x9e => next_rows(row, b - 0x40),
+            _ => Char::Bad,
+        },
+    }
+}
+
+fn kanji_trail(row: u8, b: u8) -> bool
+    requires le_row { 9 ≤ row }
+    requires row_bound { row ≤ 93 }
+    ensures { result ≡ (is_trail b && allowed (row + trail_row b) (trail_cell b)) }
+{
+    match b {
+        0x9f..=0xfc => kanji_cell(row + 1, b - 0x9e),
+        _ => match b {
+            0x40..=0x7e => kanji_cell(row, b - 0x3f),
+            0x80..=0x9e => kanji_cell(row, b - 0x40),
+            _ => false,
+        },
+    }
+}
+
+// Whether a byte can be a trail: whether it has a cell.
+fn is_trail(b: u8) -> bool
+    ensures { result ≡ is_trail b }
+{
+    ((0x40 <= b) & (b <= 0xfc)) & !(b == 0x7f)
+}
+
+// Rows 17 to 46 have all 94 cells, so that a lead with two of them makes a character with any trail.
+fn kanji_pair(row: u8, b: u8) -> bool
+    requires le_row { 9 ≤ row }
+    requires row_bound { row ≤ 93 }
+    ensures { result ≡ (is_trail b && allowed (row + trail_row b) (trail_cell b)) }
+{
+    match row {
+        17..=45 => is_trail(b),
+        _ => kanji_trail(row, b),
+    }
+}
+
+// A lead's first row is odd.
+fn in_rows(row: u8, b: u8) -> Char
+    requires row_bound { row ≤ 93 }
+    requires row_value { row % 2 ≡ 1 }
+    ensures { result ≡ trail_script row b }
+{
+    match row {
+        0..=8 => match row {
+            0..=4 => first_pair(row, b),
+            _ => next_pair(row, b),
+        },
+        _ => other(kanji_pair(row, b)),
+    }
+}
+
+// Any first byte but the leads of rows 1 to 62.
+fn other_char(a: u8, b: u8) -> Char
+    requires { within 0x81 0x9f a ≡ false }
+    ensures { result ≡ char_of (a ∷ b ∷ []) }
+{
+    match a {
+        0x20..=0x7e | 0xa1..=0xdf => Char::One,
+        0xe0..=0xef => other(kanji_pair(2 * (a - 0xc1) + 1, b)),
+        _ => Char::Bad,
+    }
+}
+
+// The character that a byte begins, b the byte after it.
+pub fn char_of(a: u8, b: u8) -> Char
+    ensures { result ≡ char_of (a ∷ b ∷ []) }
+{
+    match a {
+        0x81..=0x9f => in_rows(2 * (a - 0x81) + 1, b),
+        _ => other_char(a, b),
+    }
+}
