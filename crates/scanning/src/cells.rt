@@ -8,19 +8,13 @@ use characters::Char;
 fn row2_cell(cell: u8) -> bool
     ensures { result ≡ row2 cell }
 {
-    match cell {
-        1..=14 | 26..=33 | 42..=48 | 60..=74 | 82..=89 | 94 => true,
-        _ => false,
-    }
+    matches!(cell, 1..=14 | 26..=33 | 42..=48 | 60..=74 | 82..=89 | 94)
 }
 
 fn row3_cell(cell: u8) -> bool
     ensures { result ≡ row3 cell }
 {
-    match cell {
-        16..=25 | 33..=58 | 65..=90 => true,
-        _ => false,
-    }
+    matches!(cell, 16..=25 | 33..=58 | 65..=90)
 }
 
 // A character of no script of its own.
@@ -31,6 +25,7 @@ pub fn other(good: bool) -> Char
 }
 
 // Row 1: marks, of which 8140h and 815Bh belong to both kana scripts.
+#[tactic(auto, unfolding(characters::specs::Cells::cell_script, characters::specs::Cells::allowed, characters::specs::Cells::full_row, characters::specs::Cells::part_row))]
 fn row1_cell(cell: u8) -> Char
     ensures { result ≡ cell_script 1 cell }
 {
@@ -42,6 +37,7 @@ fn row1_cell(cell: u8) -> Char
 }
 
 // Rows 1 to 4: marks, letters and hiragana.
+#[tactic(auto, unfolding(characters::specs::Cells::cell_script, characters::specs::Cells::allowed, characters::specs::Cells::full_row, characters::specs::Cells::part_row))]
 pub fn first_rows(row: u8, cell: u8) -> Char
     requires { row ≤ 4 }
     ensures { result ≡ cell_script row cell }
@@ -59,6 +55,7 @@ pub fn first_rows(row: u8, cell: u8) -> Char
 }
 
 // Rows 5 to 8: katakana and other letters.
+#[tactic(auto, unfolding(characters::specs::Cells::cell_script, characters::specs::Cells::allowed, characters::specs::Cells::full_row, characters::specs::Cells::part_row))]
 pub fn next_rows(row: u8, cell: u8) -> Char
     requires le_row { 5 ≤ row }
     requires row_bound { row ≤ 8 }
@@ -86,23 +83,15 @@ pub fn next_rows(row: u8, cell: u8) -> Char
 }
 
 // Rows 16 to 84: kanji.
+#[tactic(auto, unfolding(characters::specs::Cells::allowed, characters::specs::Cells::full_row, characters::specs::Cells::part_row))]
 pub fn kanji_cell(row: u8, cell: u8) -> bool
     requires { 9 ≤ row }
     ensures { result ≡ allowed row cell }
 {
     match row {
-        16..=46 | 48..=83 => match cell {
-            1..=94 => true,
-            _ => false,
-        },
-        47 => match cell {
-            1..=51 => true,
-            _ => false,
-        },
-        84 => match cell {
-            1..=4 => true,
-            _ => false,
-        },
+        16..=46 | 48..=83 => matches!(cell, 1..=94),
+        47 => matches!(cell, 1..=51),
+        84 => matches!(cell, 1..=4),
         _ => false,
     }
 }

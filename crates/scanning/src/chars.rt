@@ -1,5 +1,5 @@
 // One character: the byte that begins it and the byte after it.
-ghost use Rattle.std.specs.Prelude.{◌≡◌, false, ◌&&◌, [], ◌∷◌, ◌+◌, ◌≤◌, ◌%◌};
+ghost use Rattle.std.specs.Prelude.{◌≡◌, true, false, ◌&&◌, [], ◌∷◌, ◌+◌, ◌≤◌, ◌%◌};
 ghost use Rattle.lists.specs.Lists.{within};
 ghost use Rattle.characters.specs.Cells.{allowed, trail_script, trail_cell, trail_row, is_trail};
 ghost use Rattle.characters.specs.Scanning.{char_of};
@@ -7,48 +7,20 @@ ghost use Rattle.characters.specs.Scanning.{char_of};
 use crate::cells::{first_rows, kanji_cell, next_rows, other};
 use characters::Char;
 
-// A lead's first row and a trail. The match on the trail stands three times, for rows 1 to 4, 5 to 8 and kanji, so that each is compiled with its
-// own rows.
-fn first_pair(row: u8, b: u8) -> Char
-    requires { row ≤ 3 }
-    ensures { result ≡ trail_script row b }
-{
-    match b {
-        0x9f..=0xfc => first_rows(row + 1, b - 0x9e),
-        _ => match b {
-            0x40..=0x7e => first_rows(row, b - 0x3f),
-            0x80..=0x9e => first_rows(row, b - 0x40),
-            _ => Char::Bad,
-        },
-    }
-}
-
-fn next_pair(row: u8, b: u8) -> Char
-    requires le_row { 5 ≤ row }
-    requires row_bound { row ≤ 7 }
-    ensures { result ≡ trail_script row b }
-{
-    match b {
-        0x9f..=0xfc => next_rows(row + 1, b - 0x9e),
-        _ => match b {
-            0x40..=0x7e => next_rows(row, b - 0x3f),
-            0x80..=0x9e => next_rows(row, b - 0x40),
-            _ => Char::Bad,
-        },
-    }
-}
-
-fn kanji_trail(row: u8, b: u8) -> bool
-    requires le_row { 9 ≤ row }
+// A lead's first row and a trail: the answer for the row and the cell that they tell. It is made anew for rows 1 to 4, for rows 5 to 8 and for
+// kanji, so that each is compiled with its own rows.
+fn by_trail<T: Drop, F: Fn(u8, u8) -> T>(row: u8, b: u8, none: T, of: F) -> T
     requires row_bound { row ≤ 93 }
-    ensures { result ≡ (is_trail b && allowed (row + trail_row b) (trail_cell b)) }
+    requires of_cell { is_trail b ≡ true → F.pre of (row + trail_row b) (trail_cell b) }
+    ensures cell { is_trail b ≡ true → F.post of (row + trail_row b) (trail_cell b) result }
+    ensures none { is_trail b ≡ false → result ≡ none }
 {
     match b {
-        0x9f..=0xfc => kanji_cell(row + 1, b - 0x9e),
+        0x9f..=0xfc => of(row + 1, b - 0x9e),
         _ => match b {
-            0x40..=0x7e => kanji_cell(row, b - 0x3f),
-            0x80..=0x9e => kanji_cell(row, b - 0x40),
-            _ => false,
+            0x40..=0x7e => of(row, b - 0x3f),
+            0x80..=0x9e => of(row, b - 0x40),
+            _ => none,
         },
     }
 }
@@ -68,11 +40,12 @@ fn kanji_pair(row: u8, b: u8) -> bool
 {
     match row {
         17..=45 => is_trail(b),
-        _ => kanji_trail(row, b),
+        _ => by_trail(row, b, false, kanji_cell),
     }
 }
 
 // A lead's first row is odd.
+#[tactic(auto, unfolding(characters::specs::Cells::trail_script))]
 fn in_rows(row: u8, b: u8) -> Char
     requires row_bound { row ≤ 93 }
     requires row_value { row % 2 ≡ 1 }
@@ -80,8 +53,8 @@ fn in_rows(row: u8, b: u8) -> Char
 {
     match row {
         0..=8 => match row {
-            0..=4 => first_pair(row, b),
-            _ => next_pair(row, b),
+            0..=4 => by_trail(row, b, Char::Bad, first_rows),
+            _ => by_trail(row, b, Char::Bad, next_rows),
         },
         _ => other(kanji_pair(row, b)),
     }
