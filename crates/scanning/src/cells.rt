@@ -1,4 +1,6 @@
 // The allowed cells of JIS X 0208-1983, each row with its own `match` over cells. In rows 1 to 8 a cell's script is told with it.
+#![tactic(auto, unfolding(characters::specs::Cells::cell_script, characters::specs::Cells::allowed, characters::specs::Cells::full_row, characters::specs::Cells::part_row))]
+
 ghost use Rattle.std.specs.Prelude.{◌≡◌, cond, ◌≤◌};
 ghost use Rattle.characters.specs.declared.Char.TheVariants.{Other, Bad};
 ghost use Rattle.characters.specs.Cells.{row2, row3, allowed, cell_script};
@@ -25,7 +27,6 @@ pub fn other(good: bool) -> Char
 }
 
 // Row 1: marks, of which 8140h and 815Bh belong to both kana scripts.
-#[tactic(auto, unfolding(characters::specs::Cells::cell_script, characters::specs::Cells::allowed, characters::specs::Cells::full_row, characters::specs::Cells::part_row))]
 fn row1_cell(cell: u8) -> Char
     ensures { result ≡ cell_script 1 cell }
 {
@@ -37,7 +38,6 @@ fn row1_cell(cell: u8) -> Char
 }
 
 // Rows 1 to 4: marks, letters and hiragana.
-#[tactic(auto, unfolding(characters::specs::Cells::cell_script, characters::specs::Cells::allowed, characters::specs::Cells::full_row, characters::specs::Cells::part_row))]
 pub fn first_rows(row: u8, cell: u8) -> Char
     requires { row ≤ 4 }
     ensures { result ≡ cell_script row cell }
@@ -55,7 +55,6 @@ pub fn first_rows(row: u8, cell: u8) -> Char
 }
 
 // Rows 5 to 8: katakana and other letters.
-#[tactic(auto, unfolding(characters::specs::Cells::cell_script, characters::specs::Cells::allowed, characters::specs::Cells::full_row, characters::specs::Cells::part_row))]
 pub fn next_rows(row: u8, cell: u8) -> Char
     requires le_row { 5 ≤ row }
     requires row_bound { row ≤ 8 }
@@ -83,7 +82,6 @@ pub fn next_rows(row: u8, cell: u8) -> Char
 }
 
 // Rows 16 to 84: kanji.
-#[tactic(auto, unfolding(characters::specs::Cells::allowed, characters::specs::Cells::full_row, characters::specs::Cells::part_row))]
 pub fn kanji_cell(row: u8, cell: u8) -> bool
     requires { 9 ≤ row }
     ensures { result ≡ allowed row cell }

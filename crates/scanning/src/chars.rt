@@ -7,8 +7,8 @@ ghost use Rattle.characters.specs.Scanning.{char_of};
 use crate::cells::{first_rows, kanji_cell, next_rows, other};
 use characters::Char;
 
-// A lead's first row and a trail: the answer for the row and the cell that they tell. It is made anew for rows 1 to 4, for rows 5 to 8 and for
-// kanji, so that each is compiled with its own rows.
+// A lead's first row and a trail: the answer for the row and the cell that they tell. It is compiled anew for rows 1 to 4, for rows 5 to 8 and for
+// kanji, each with its own rows. Here and in `in_rows` the matches lie in one another, since a flat one compiles to more instructions.
 fn by_trail<T: Drop, F: Fn(u8, u8) -> T>(row: u8, b: u8, none: T, of: F) -> T
     requires row_bound { row ≤ 93 }
     requires of_cell { is_trail b ≡ true → F.pre of (row + trail_row b) (trail_cell b) }
@@ -29,10 +29,11 @@ fn by_trail<T: Drop, F: Fn(u8, u8) -> T>(row: u8, b: u8, none: T, of: F) -> T
 fn is_trail(b: u8) -> bool
     ensures { result ≡ is_trail b }
 {
-    ((0x40 <= b) & (b <= 0xfc)) & !(b == 0x7f)
+    matches!(b, 0x40..=0xfc) && b != 0x7f
 }
 
 // Rows 17 to 46 have all 94 cells, so that a lead with two of them makes a character with any trail.
+#[tactic(auto, unfolding(characters::specs::Cells::allowed, characters::specs::Cells::full_row))]
 fn kanji_pair(row: u8, b: u8) -> bool
     requires le_row { 9 ≤ row }
     requires row_bound { row ≤ 93 }
@@ -45,7 +46,7 @@ fn kanji_pair(row: u8, b: u8) -> bool
 }
 
 // A lead's first row is odd.
-#[tactic(auto, unfolding(characters::specs::Cells::trail_script))]
+#[tactic(auto, unfolding(characters::specs::Cells::trail_script, characters::specs::Cells::cell_script))]
 fn in_rows(row: u8, b: u8) -> Char
     requires row_bound { row ≤ 93 }
     requires row_value { row % 2 ≡ 1 }
@@ -61,6 +62,7 @@ fn in_rows(row: u8, b: u8) -> Char
 }
 
 // Any first byte but the leads of rows 1 to 62.
+#[tactic(auto, unfolding(characters::specs::Cells::pair_script, characters::specs::Cells::trail_script, characters::specs::Cells::cell_script))]
 fn other_char(a: u8, b: u8) -> Char
     requires { within 0x81 0x9f a ≡ false }
     ensures { result ≡ char_of (a ∷ b ∷ []) }
@@ -73,6 +75,7 @@ fn other_char(a: u8, b: u8) -> Char
 }
 
 // The character that a byte begins, b the byte after it.
+#[tactic(auto, unfolding(characters::specs::Cells::pair_script))]
 pub fn char_of(a: u8, b: u8) -> Char
     ensures { result ≡ char_of (a ∷ b ∷ []) }
 {
