@@ -1,13 +1,7 @@
 -- What an answer tells where it is known to be bytes: they are at the buffer's front. Assumes nothing.
-use Rattle.std.proofs.Common.{ℕ, ◌≡◌, ◌≤◌, List, length, sym}
+use Rattle.std.proofs.Common.{ℕ, ◌≤◌, List, length, sym}
 use Rattle.std.proofs.lemmas.List.{length-take-le}
 use Rattle.inputs.specs.Counts.{IsPrefixLen}
-use Rattle.inputs.specs.AtFront.{AtFront}
-use Rattle.inputs.specs.declared.Input.{Input}
-use Rattle.inputs.specs.declared.Input.TheVariants.{Bytes}
-
-pub bytes_at_front : (buffer : List ℕ) {r : Input} {n : ℕ} → r ≡ Bytes n → AtFront r buffer → IsPrefixLen n buffer
-bytes_at_front buffer e w = rw e at w
 
 -- a bound is enough
 pub prefix_len_of_le : (n : ℕ) (xs : List ℕ) → n ≤ length xs → IsPrefixLen n xs

@@ -1,10 +1,7 @@
 -- Vocabulary of the code.
-use Rattle.std.specs.Prelude.{ℕ, List}
+use Rattle.std.specs.Prelude.{ℕ, List, Result, IfOk}
 use Rattle.inputs.specs.Counts.{IsPrefixLen}
-use Rattle.inputs.specs.declared.Input.{Input}
-use Rattle.inputs.specs.declared.Input.TheVariants.{Bytes, Failed}
 
 -- the bytes that were read are at the buffer's front; of a failure nothing is said
-abbrev pub AtFront : Input → List ℕ → Type 0
-AtFront (Bytes n) buffer = IsPrefixLen n buffer
-AtFront Failed buffer = Unit {0}
+abbrev pub AtFront : {E : Type 0} → Result ℕ E → List ℕ → Type 0
+AtFront read buffer = IfOk read (λ n. IsPrefixLen n buffer)
