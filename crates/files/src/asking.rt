@@ -1,5 +1,4 @@
 // What stands at a name before it is given to a piece.
-use inputs::Input;
 use std::fs;
 use std::fs::OpenOptions;
 use std::io::{ErrorKind, Read, Seek};
@@ -43,9 +42,9 @@ fn compare_opened<F: Read + Seek>(file: &mut F, piece: &[u8]) -> Found {
     }
     let mut bytes = [0u8; 131073];
     match inputs::read_all(file, &mut bytes) {
-        Input::Bytes(n) if &bytes[..n] == piece => Found::SameBytes,
-        Input::Bytes(_) => Found::Other,
-        Input::Failed => Found::Unreadable,
+        Ok(n) if &bytes[..n] == piece => Found::SameBytes,
+        Ok(_) => Found::Other,
+        Err(_) => Found::Unreadable,
     }
 }
 

@@ -25,7 +25,8 @@ pub enum Failure {
 // A file is cut in at most 999 pieces.
 type PieceFiles<'a> = [PieceFile<'a>; 999];
 
-fn ask<R: Files>(rt: &R, files: &mut PieceFiles, pieces: &[u8]) -> Result<(), Failure> {
+// Asks what stands at the names, up to the first piece that cannot have its name.
+fn ask_names<R: Files>(rt: &R, files: &mut PieceFiles, pieces: &[u8]) -> Result<(), Failure> {
     let mut files = files.iter_mut();
     for piece in Pieces::of(pieces) {
         let file = files.next().ok_or(Failure::Unwritten(1000))?;
@@ -34,7 +35,8 @@ fn ask<R: Files>(rt: &R, files: &mut PieceFiles, pieces: &[u8]) -> Result<(), Fa
     Ok(())
 }
 
-fn write<R: Files + RandomSource>(
+// Writes the pieces whose names have been asked, up to the first failure.
+fn write_asked<R: Files + RandomSource>(
     rt: &R,
     prefix: &str,
     files: &mut PieceFiles,
@@ -59,8 +61,8 @@ pub fn write_pieces<R: Files + RandomSource>(
         return Err(Failure::Unwritten(1));
     };
     let mut files: PieceFiles = std::array::from_fn(|i| PieceFile::new(prefix, i as u64 + 1));
-    ask(rt, &mut files, pieces)?;
-    let written = write(rt, prefix, &mut files, pieces);
+    ask_names(rt, &mut files, pieces)?;
+    let written = write_asked(rt, prefix, &mut files, pieces);
     if written.is_err() {
         for file in &files {
             file.remove(rt);

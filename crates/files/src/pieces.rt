@@ -2,8 +2,6 @@
 ghost use Rattle.std.specs.Prelude.{◌≤◌, ◌<◌, length};
 ghost use Rattle.std.specs.Iterator.{at_most};
 
-use std::slice;
-
 #[derive(Drop)]
 pub struct Pieces<'a> {
     rest: &'a [u8],
@@ -40,11 +38,8 @@ fn piece_end(bytes: &[u8]) -> usize
     let Some((line, _)) = bytes.split_at_checked(13) else {
         return bytes.len();
     };
-    let row_end = bytes
+    bytes
         .windows(14)
-        .position(|window| window[0] == b'\n' && &window[1..] == line);
-    match row_end {
-        Some(at) => at + 1,
-        None => bytes.len(),
-    }
+        .position(|window| window[0] == b'\n' && &window[1..] == line)
+        .map_or(bytes.len(), |row_end| row_end + 1)
 }
