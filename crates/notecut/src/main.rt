@@ -84,9 +84,10 @@ fn write_pieces(rt: &HostRuntime, pieces: &[u8]) -> Result<(), Failure> {
 fn cut(rt: &HostRuntime, file: &[u8], capacity: u64, used: &[u8]) -> Result<(), Failure> {
     let mut id = [0u8; 4096];
     let mut out = [0u8; 131072];
-    let digits = inputs::word(rt, 2, &mut id).unwrap_or(0);
-    let reply = gateway::notebook_cut(file, capacity, &id[..digits], used, &mut out);
+    let n = inputs::word(rt, 2, &mut id).unwrap_or(0);
+    let reply = gateway::notebook_cut(file, capacity, &id[..n], used, &mut out);
     if reply.refusal == 0 {
+        // The pieces are never more bytes than the buffer has.
         let Some(pieces) = out.get(..reply.b as usize) else {
             return Ok(());
         };
