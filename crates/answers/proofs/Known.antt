@@ -1,33 +1,18 @@
 -- Known bytes over several writes: those that one write adds stand behind those of the writes before it. Assumes nothing.
-use Rattle.std.proofs.Common.{ℕ, ◌+◌, ◌≡◌, List, [], ◌++◌, length, take, drop, Option, None, Some, sym, ap, ◌∙◌, append_assoc, append-nil, take-add, take_all, ◌-◌, ◌≤◌, length-drop, arith}
-use Rattle.std.specs.Io.KnownBytes.{Keeps, Appends}
+use Rattle.std.proofs.Common.{ℕ, ◌+◌, ◌≡◌, List, length, take, drop, Option, sym, ap, ◌∙◌, take-add, take_all, ◌-◌, ◌≤◌, length-drop, arith}
+use Rattle.std.proofs.KnownBytes.{Appends-trans}
+use Rattle.std.proofs.lemmas.List.{take_at}
+use Rattle.std.specs.Io.KnownBytes.{Appends}
 use Rattle.replies.specs.declared.Reply.{Reply}
 use Rattle.printing.specs.Printed.{printed, Prints}
 use Rattle.answers.specs.Written.{WrittenInPart}
-use Rattle.std.proofs.lemmas.List.{take_at}
-
-pub appends_none : (a : Option (List ℕ)) → Appends a a []
-appends_none None = tt
-appends_none (Some xs) = sym (append-nil xs)
-
-pub appends_keeps : (a b c : Option (List ℕ)) (s : List ℕ) → Appends a b s → Keeps b c → Appends a c s
-appends_keeps None b c s h k = tt
-appends_keeps (Some xs) None c s h k = absurd h
-appends_keeps (Some xs) (Some ys) None s h k = absurd k
-appends_keeps (Some xs) (Some ys) (Some zs) s h k = k ∙ h
-
-appends_then : (a b c : Option (List ℕ)) (s t : List ℕ) → Appends a b s → Appends b c t → Appends a c (s ++ t)
-appends_then None b c s t h k = tt
-appends_then (Some xs) None c s t h k = absurd h
-appends_then (Some xs) (Some ys) None s t h k = absurd k
-appends_then (Some xs) (Some ys) (Some zs) s t h k = k ∙ ap (λ v. v ++ t) h ∙ append_assoc xs s t
 
 pub appends_more : (a b c : Option (List ℕ)) (done more : ℕ) (s : List ℕ) → Appends a b (take done s)
     → Appends b c (take more (take (length s - done) (drop done s))) → Appends a c (take (done + more) s)
 appends_more a b c done more s h k =
     let l : length (drop done s) ≤ length s - done = omega (arith, length-drop done s) in
     let e : take (length s - done) (drop done s) ≡ drop done s = take_all (length s - done) (drop done s) l in
-    rw (take-add done more s) (appends_then a b c (take done s) (take more (drop done s)) h (rw e at k))
+    rw (take-add done more s) (Appends-trans a b c (take done s) (take more (drop done s)) h (rw e at k))
 
 -- what was written of a buffer's front
 pub part_of : (a b : Option (List ℕ)) {s t : List ℕ} → s ≡ t → WrittenInPart a b s → WrittenInPart a b t

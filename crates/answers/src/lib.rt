@@ -1,9 +1,10 @@
 // How programs print a reply. `print` makes its line (printing, specs/Printed.antt), and everything that a program prints of a reply is written
 // from there, by one call of `write_whole`. That the system's `write` writes the bytes that it is given is assumed, as the kit assumes it; for a writer
-// whose bytes are known it is proved (specs/Written.antt).
+// whose bytes are known it is proved (specs/Written.antt). Lines are put into a buffer by hand: std's writer over a lent slice has no known bytes, and
+// `write!` tells only what is written where it succeeds.
 #![tactic(auto)]
 
-ghost use Rattle.std.specs.Prelude.{[], ◌∷◌, ◌++◌, ◌+◌, ◌≤◌, ◌≡◌, length, take, drop, true};
+ghost use Rattle.std.specs.Prelude.{[], ◌∷◌, ◌++◌, ◌+◌, ◌*◌, ◌≤◌, ◌≡◌, ◌≢◌, length, take, drop, slice_index, OnOk};
 ghost use Rattle.std.specs.Io.KnownBytes.{Keeps};
 ghost use Rattle.inputs.specs.Counts.{IsPrefixLen};
 ghost use Rattle.lists.specs.Lists.{bytes};
@@ -12,24 +13,8 @@ ghost use Rattle.printing.specs.Printed.{decimal, spaced, line, printed, Prints}
 ghost use Rattle.answers.specs.Written.{Written, WrittenInPart};
 
 use replies::Reply;
-use std::io::Write;
-
-// A number's digits at the buffer's end; where they begin.
-fn put_digits(text: &mut [u8; 20], n: u64) -> usize
-    ensures in_bounds { result ≤ 20 }
-    ensures digits { drop result text.new ≡ decimal n }
-{
-    let mut i: usize = 20;
-    let mut rest = n;
-    while 9 < rest {
-        i -= 1;
-        text[i] = (48 + rest % 10) as u8;
-        rest /= 10;
-    }
-    i -= 1;
-    text[i] = (48 + rest) as u8;
-    i
-}
+use std::io;
+use std::io::{ErrorKind, Write};
 
 // A number, which has at most 20 digits.
 pub fn put_decimal(out: &mut [u8], at: usize, n: u64) -> usize
@@ -37,9 +22,8 @@ pub fn put_decimal(out: &mut [u8], at: usize, n: u64) -> usize
     ensures wrote { Wrote out.old out.new at result (decimal n) }
     ensures upper_bound { result ≤ at + 20 }
 {
-    let mut text = [0u8; 20];
-    let from = put_digits(&mut text, n);
-    buffers::put_all(out, at, &text[from..])
+    let mut digits = itoa::Buffer::new();
+    buffers::put_all(out, at, digits.format(n).as_bytes())
 }
 
 // A space and a number.
@@ -48,38 +32,31 @@ fn put_number(out: &mut [u8], at: usize, n: u64) -> usize
     ensures wrote { Wrote out.old out.new at result (0x20 ∷ decimal n) }
     ensures upper_bound { result ≤ at + 21 }
 {
-    let next = buffers::put_byte(out, at, 0x20);
+    let next = buffers::put_byte(out, at, b' ');
     put_decimal(out, next, n)
 }
 
-// The first of three numbers, as many as are asked for.
-fn put_numbers(out: &mut [u8], at: usize, count: usize, a: u64, b: u64, c: u64) -> usize
-    requires { at + 63 ≤ length out.old }
-    ensures wrote { Wrote out.old out.new at result (spaced (take count (a ∷ b ∷ c ∷ []))) }
-    ensures upper_bound { result ≤ at + 63 }
+// Numbers, each after a space.
+fn put_numbers(out: &mut [u8], at: usize, numbers: &[u64]) -> usize
+    requires { at + 21 * length numbers.now ≤ length out.old }
+    ensures wrote { Wrote out.old out.new at result (spaced numbers.now) }
+    ensures upper_bound { result ≤ at + 21 * length numbers.now }
 {
-    if count < 1 {
-        return at;
+    let mut end = at;
+    for n in numbers {
+        end = put_number(out, end, *n);
     }
-    let first = put_number(out, at, a);
-    if count < 2 {
-        return first;
-    }
-    let second = put_number(out, first, b);
-    if count < 3 {
-        return second;
-    }
-    put_number(out, second, c)
+    end
 }
 
-// A line of a word of two letters and its numbers.
-fn put_line(out: &mut [u8], word: &[u8; 2], count: usize, a: u64, b: u64, c: u64) -> usize
-    requires { 66 ≤ length out.old }
-    ensures { Wrote out.old out.new 0 result (line word.now (take count (a ∷ b ∷ c ∷ []))) }
+// A line of a word and its numbers.
+fn put_line(out: &mut [u8], at: usize, word: &[u8], numbers: &[u64]) -> usize
+    requires { at + length word.now + 21 * length numbers.now + 1 ≤ length out.old }
+    ensures { Wrote out.old out.new at result (line word.now numbers.now) }
 {
-    let at = buffers::put_all(out, 0, word);
-    let end = put_numbers(out, at, count, a, b, c);
-    buffers::put_byte(out, end, 0x0A)
+    let next = buffers::put_all(out, at, word);
+    let end = put_numbers(out, next, numbers);
+    buffers::put_byte(out, end, b'\n')
 }
 
 // The line of a reply whose result has so many values, at the buffer's front; how many bytes it has. A word, three numbers of at most 20 digits,
@@ -89,74 +66,58 @@ pub fn print(values: usize, r: Reply, out: &mut [u8; 66]) -> usize
     ensures prefix_len { IsPrefixLen result out.new }
 {
     if r.refusal == 0 {
-        return put_line(out, b"ok", values, r.a, r.b, r.c);
+        let results = [r.a, r.b, r.c];
+        return put_line(out, 0, b"ok", &results[..values.min(3)]);
     }
-    put_line(out, b"no", 2, r.refusal, r.line, 0)
+    put_line(out, 0, b"no", &[r.refusal, r.line])
 }
 
-// The line of a failure: `error`, what failed and, where the count is 1, the number of the piece or the file that it is about.
-fn put_error(out: &mut [u8; 144], word: &[u8], count: usize, k: u64) -> usize
-    requires { length word.now ≤ 64 }
-    ensures wrote { Wrote out.old out.new 0 result (line (bytes "error " ++ word.now) (take count (k ∷ 0 ∷ 0 ∷ []))) }
+// The line of a failure: `error`, what failed and the numbers that say where.
+fn put_error(out: &mut [u8; 144], word: &[u8], numbers: &[u64]) -> usize
+    requires word_len { length word.now ≤ 64 }
+    requires count { length numbers.now ≤ 3 }
+    ensures wrote { Wrote out.old out.new 0 result (line (bytes "error " ++ word.now) numbers.now) }
     ensures prefix_len { IsPrefixLen result out.new }
 {
     let at = buffers::put_all(out, 0, b"error ");
-    let next = buffers::put_all(out, at, word);
-    let end = put_numbers(out, next, count, k, 0, 0);
-    buffers::put_byte(out, end, 0x0A)
+    put_line(out, at, word, numbers)
 }
 
 // The line of a record in the index: seven numbers with single spaces, and 0Ah.
-pub fn put_entry(
-    out: &mut [u8],
-    at: usize,
-    a: u64,
-    b: u64,
-    c: u64,
-    d: u64,
-    e: u64,
-    f: u64,
-    g: u64,
-) -> usize
+pub fn put_entry(out: &mut [u8], at: usize, numbers: &[u64; 7]) -> usize
     requires { at + 147 ≤ length out.old }
-    ensures wrote { Wrote out.old out.new at result (line (decimal a) (b ∷ c ∷ d ∷ e ∷ f ∷ g ∷ [])) }
+    ensures wrote { Wrote out.old out.new at result (line (decimal (slice_index numbers.now 0)) (drop 1 numbers.now)) }
     ensures upper_bound { result ≤ at + 147 }
 {
-    let first = put_decimal(out, at, a);
-    let fourth = put_numbers(out, first, 3, b, c, d);
-    let seventh = put_numbers(out, fourth, 3, e, f, g);
-    buffers::put_byte(out, seventh, 0x0A)
+    let next = put_decimal(out, at, numbers[0]);
+    let end = put_numbers(out, next, &numbers[1..]);
+    buffers::put_byte(out, end, b'\n')
 }
 
-// Writes bytes and answers whether all were written. A write that takes nothing ends it, and so does one that fails, also where a signal interrupts
-// it before it takes a byte.
-pub fn write_whole<W: Write>(to: &mut W, bytes: &[u8]) -> bool
+// Writes bytes whole. A write that takes nothing ends it, and so does one that fails, also where a signal interrupts it before it takes a byte.
+pub fn write_whole<W: Write>(to: &mut W, bytes: &[u8]) -> io::Result<()>
     ensures { Written result (W.contents to.old) (W.contents to.new) bytes.now }
 {
     let mut done: usize = 0;
     while done < bytes.len() {
-        match to.write(&bytes[done..]) {
-            Ok(more) => {
-                if more == 0 {
-                    return false;
-                }
-                done += more;
-            }
-            Err(_) => return false,
+        let more = to.write(&bytes[done..])?;
+        if more == 0 {
+            return Err(ErrorKind::WriteZero.into());
         }
+        done += more;
     }
-    true
+    Ok(())
 }
 
 // Tells a failure on standard error, in one write. Where that fails, nothing is left to tell it by.
-fn write_error_line<E: Write>(err: &mut E, word: &[u8], count: usize, k: u64)
-    requires { length word.now ≤ 64 }
-    ensures { WrittenInPart (E.contents err.old) (E.contents err.new)
-        (line (bytes "error " ++ word.now) (take count (k ∷ 0 ∷ 0 ∷ []))) }
+fn write_error_line<E: Write>(err: &mut E, word: &[u8], numbers: &[u64])
+    requires word_len { length word.now ≤ 64 }
+    requires count { length numbers.now ≤ 3 }
+    ensures { WrittenInPart (E.contents err.old) (E.contents err.new) (line (bytes "error " ++ word.now) numbers.now) }
 {
     let mut text = [0u8; 144];
-    let n = put_error(&mut text, word, count, k);
-    write_whole(err, &text[..n]);
+    let n = put_error(&mut text, word, numbers);
+    let _ = write_whole(err, &text[..n]);
 }
 
 // `error WORD`
@@ -164,7 +125,7 @@ pub fn write_error<E: Write>(err: &mut E, word: &[u8])
     requires { length word.now ≤ 64 }
     ensures { WrittenInPart (E.contents err.old) (E.contents err.new) (line (bytes "error " ++ word.now) []) }
 {
-    write_error_line(err, word, 0, 0);
+    write_error_line(err, word, &[]);
 }
 
 // `error WORD K`
@@ -172,37 +133,57 @@ pub fn write_error_at<E: Write>(err: &mut E, word: &[u8], k: u64)
     requires { length word.now ≤ 64 }
     ensures { WrittenInPart (E.contents err.old) (E.contents err.new) (line (bytes "error " ++ word.now) (k ∷ [])) }
 {
-    write_error_line(err, word, 1, k);
+    write_error_line(err, word, &[k]);
 }
 
-// Writes bytes to standard output and answers whether all were written; where not, tells it.
-pub fn write_output<O: Write, E: Write>(out: &mut O, err: &mut E, bytes: &[u8]) -> bool
+// Writes bytes whole to standard output; where that fails, tells it.
+pub fn write_output<O: Write, E: Write>(out: &mut O, err: &mut E, bytes: &[u8]) -> io::Result<()>
     ensures written { Written result (O.contents out.old) (O.contents out.new) bytes.now }
-    ensures silent { result ≡ true → Keeps (E.contents err.old) (E.contents err.new) }
+    ensures silent { OnOk result (Keeps (E.contents err.old) (E.contents err.new)) }
 {
     let written = write_whole(out, bytes);
-    if !written {
+    if written.is_err() {
         write_error(err, b"write");
     }
     written
+}
+
+// Writes the line of a reply.
+fn write_reply_to<W: Write>(to: &mut W, values: usize, r: Reply) -> io::Result<()>
+    ensures { Written result (W.contents to.old) (W.contents to.new) (printed values r) }
+{
+    let mut text = [0u8; 66];
+    let n = print(values, r, &mut text);
+    write_whole(to, &text[..n])
 }
 
 // Writes the line of a reply to standard output; where that fails, tells it.
 pub fn write_reply<O: Write, E: Write>(out: &mut O, err: &mut E, values: usize, r: Reply)
     ensures { WrittenInPart (O.contents out.old) (O.contents out.new) (printed values r) }
 {
-    let mut text = [0u8; 66];
-    let n = print(values, r, &mut text);
-    write_output(out, err, &text[..n]);
+    if write_reply_to(out, values, r).is_err() {
+        write_error(err, b"write");
+    }
 }
 
 // Writes the line of a reply to standard error. Where that fails, nothing is left to tell it by.
 pub fn write_reply_as_error<E: Write>(err: &mut E, values: usize, r: Reply)
     ensures { WrittenInPart (E.contents err.old) (E.contents err.new) (printed values r) }
 {
-    let mut text = [0u8; 66];
-    let n = print(values, r, &mut text);
-    write_whole(err, &text[..n]);
+    let _ = write_reply_to(err, values, r);
+}
+
+// Writes the file that a call has made at a buffer's front, as long as its reply says, to standard output; or its refusal to standard error.
+pub fn write_file<O: Write, E: Write>(out: &mut O, err: &mut E, r: Reply, buffer: &[u8])
+    ensures made { r.refusal ≡ 0 → r.a ≤ length buffer.now → WrittenInPart (O.contents out.old) (O.contents out.new) (take r.a buffer.now) }
+    ensures refused { r.refusal ≢ 0 → WrittenInPart (E.contents err.old) (E.contents err.new) (printed 1 r) }
+    ensures silent { r.refusal ≢ 0 → Keeps (O.contents out.old) (O.contents out.new) }
+{
+    if r.refusal != 0 {
+        write_reply_as_error(err, 1, r);
+    } else if let Some(file) = buffer.get(..r.a as usize) {
+        let _ = write_output(out, err, file);
+    }
 }
 
 // A space and a number that is no reply's, to standard output.
@@ -211,5 +192,5 @@ pub fn write_number<O: Write>(out: &mut O, n: u64)
 {
     let mut text = [0u8; 21];
     let end = put_number(&mut text, 0, n);
-    write_whole(out, &text[..end]);
+    let _ = write_whole(out, &text[..end]);
 }

@@ -166,8 +166,6 @@ fn create_new<R: Files>(rt: &R, name: &str) -> io::Result<R::File> {
 
 // The file is closed here. What the system says to its closing std does not tell; it has been synced before.
 fn fill<F: Write + OpenFile + Drop>(mut file: F, piece: &[u8]) -> io::Result<()> {
-    if !answers::write_whole(&mut file, piece) {
-        return Err(ErrorKind::WriteZero.into());
-    }
+    answers::write_whole(&mut file, piece)?;
     file.sync_all()
 }

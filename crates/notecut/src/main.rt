@@ -67,11 +67,7 @@ fn write_pieces(rt: &HostRuntime, pieces: &[u8]) -> Result<(), Failure> {
     let mut prefix = [0u8; 4096];
     match inputs::word(rt, 3, &mut prefix) {
         Ok(0) | Err(FillError::NotPresent) => {
-            if answers::write_whole(&mut rt.stdout(), pieces) {
-                Ok(())
-            } else {
-                Err(Failure::Output)
-            }
+            answers::write_whole(&mut rt.stdout(), pieces).map_err(|_| Failure::Output)
         }
         Ok(n) => files::write_pieces(rt, &prefix[..n], pieces).map_err(Failure::Pieces),
         Err(FillError::TooLong) => Err(Failure::Pieces(files::Failure::Unwritten(1))),

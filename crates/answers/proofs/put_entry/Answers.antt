@@ -1,8 +1,9 @@
+use Rattle.std.proofs.Common.{◌≤◌, drop, length, length-drop, take_all, arith}
 use Rattle.answers.proofs.Lines.{entry_wrote}
 use Rattle.answers.proofs.put_entry.Goals as goal
 
 pub returns-clause-wrote : goal.returns-clause-wrote
 returns-clause-wrote c =
-    let s = c.args in
-    entry_wrote s.a s.b s.c s.d s.e s.f s.g c.put_decimal-first.ensures.wrote c.put_numbers-fourth.ensures.wrote c.put_numbers-seventh.ensures.wrote
-    c.put_byte.ensures
+    let others = drop 1 c.args.numbers.now in
+    let six : length others ≤ 6 = omega (arith, length-drop 1 c.args.numbers.now) in
+    entry_wrote _ c.put_decimal-next.ensures.wrote c.put_numbers-end.ensures.wrote (take_all 6 others six) c.put_byte.ensures
