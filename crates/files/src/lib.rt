@@ -5,119 +5,68 @@
 
 mod asking;
 mod folder;
-mod names;
+mod piece_file;
 mod pieces;
-mod steps;
 
-ghost use Rattle.std.specs.Prelude.{◌<◌};
-
-use pieces::piece_end;
+use piece_file::PieceFile;
+use pieces::Pieces;
 use std::random::RandomSource;
 use std::rt::Files;
 
-// What came of it, with the number of the piece that it is about.
-#[derive(Clone, Copy)]
-pub enum Outcome {
-    Done,
+// What failed, with the number of the piece that it is about.
+#[derive(Clone, Copy, Debug, PartialEq, Eq)]
+pub enum Failure {
     Exists(u64),
     Unread(u64),
     Unwritten(u64),
     Unsynced,
 }
 
-// What is done with each piece before the next thing is done with any.
-#[derive(Clone, Copy)]
-enum Step {
-    Ask,
-    Make,
-    Name,
-    Remove,
-}
+// A file is cut in at most 999 pieces.
+type PieceFiles<'a> = [PieceFile<'a>; 999];
 
-pub fn failed(outcome: Outcome) -> bool {
-    if let Outcome::Done = outcome {
-        false
-    } else {
-        true
+// Asks what stands at the names, up to the first piece that cannot have its name.
+fn ask_names<R: Files>(rt: &R, files: &mut PieceFiles, pieces: &[u8]) -> Result<(), Failure> {
+    let mut files = files.iter_mut();
+    for piece in Pieces::of(pieces) {
+        let file = files.next().ok_or(Failure::Unwritten(1000))?;
+        file.ask(rt, piece)?;
     }
+    Ok(())
 }
 
-fn take_step<R: Files + RandomSource>(
-    rt: &R,
-    step: Step,
-    prefix: &[u8],
-    i: usize,
-    piece: &[u8],
-    marks: &mut [u8; 999],
-    letters: &mut [u8; 5994],
-) -> Outcome
-    requires { i < 999 }
-{
-    match step {
-        Step::Ask => steps::ask(rt, prefix, i, piece, marks),
-        Step::Make => steps::make(rt, prefix, i, piece, marks, letters),
-        Step::Name => steps::name(rt, prefix, i, marks, letters),
-        Step::Remove => steps::remove(rt, prefix, i, marks, letters),
-    }
-}
-
-// Takes a step with one piece after another, up to the first that fails. A file is cut in at most 999 pieces.
-fn each_piece<R: Files + RandomSource>(
-    rt: &R,
-    step: Step,
-    prefix: &[u8],
-    pieces: &[u8],
-    marks: &mut [u8; 999],
-    letters: &mut [u8; 5994],
-) -> Outcome {
-    let mut from: usize = 0;
-    let mut i: usize = 0;
-    while from < pieces.len() {
-        if 999 <= i {
-            return Outcome::Unwritten(1000);
-        }
-        let end = piece_end(pieces, from);
-        let outcome = take_step(rt, step, prefix, i, &pieces[from..end], marks, letters);
-        if failed(outcome) {
-            return outcome;
-        }
-        from = end;
-        i += 1;
-    }
-    Outcome::Done
-}
-
+// Writes the pieces whose names have been asked, up to the first failure.
 fn write_asked<R: Files + RandomSource>(
     rt: &R,
-    prefix: &[u8],
+    prefix: &str,
+    files: &mut PieceFiles,
     pieces: &[u8],
-    marks: &mut [u8; 999],
-    letters: &mut [u8; 5994],
-) -> Outcome {
-    let made = each_piece(rt, Step::Make, prefix, pieces, marks, letters);
-    if failed(made) {
-        return made;
+) -> Result<(), Failure> {
+    for (file, piece) in files.iter_mut().zip(Pieces::of(pieces)) {
+        file.make(rt, piece)?;
     }
-    let named = each_piece(rt, Step::Name, prefix, pieces, marks, letters);
-    if failed(named) {
-        return named;
+    for file in files.iter_mut() {
+        file.take_name(rt)?;
     }
-    if folder::sync(rt, prefix) {
-        return Outcome::Done;
-    }
-    Outcome::Unsynced
+    folder::sync(rt, prefix).map_err(|_| Failure::Unsynced)
 }
 
-pub fn write_pieces<R: Files + RandomSource>(rt: &R, prefix: &[u8], pieces: &[u8]) -> Outcome {
-    let mut marks = [0u8; 999];
-    let mut letters = [0u8; 5994];
-    let asked = each_piece(rt, Step::Ask, prefix, pieces, &mut marks, &mut letters);
-    if failed(asked) {
-        return asked;
-    }
-    let written = write_asked(rt, prefix, pieces, &mut marks, &mut letters);
-    if failed(written) {
-        each_piece(rt, Step::Remove, prefix, pieces, &mut marks, &mut letters);
+pub fn write_pieces<R: Files + RandomSource>(
+    rt: &R,
+    prefix: &[u8],
+    pieces: &[u8],
+) -> Result<(), Failure> {
+    // std opens only names that are UTF-8.
+    let Ok(prefix) = std::str::from_utf8(prefix) else {
+        return Err(Failure::Unwritten(1));
+    };
+    let mut files: PieceFiles = std::array::from_fn(|i| PieceFile::new(prefix, i as u64 + 1));
+    ask_names(rt, &mut files, pieces)?;
+    let written = write_asked(rt, prefix, &mut files, pieces);
+    if written.is_err() {
+        for file in &files {
+            file.remove(rt);
+        }
     }
     written
 }

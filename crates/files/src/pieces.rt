@@ -1,39 +1,45 @@
-// Where a piece begins and ends among the pieces that a file was cut in.
+// The pieces that a file was cut in, one after another.
 ghost use Rattle.std.specs.Prelude.{◌≤◌, ◌<◌, length};
+ghost use Rattle.std.specs.Iterator.{at_most};
 
-// Whether a later piece begins here: a row that equals line 1 of the first. A record begins with a digit, so it is no line 1; that the
-// row begins here matters, as a record can end like one.
-fn begins_piece(pieces: &[u8], at: usize) -> bool {
-    let start: usize = 0;
-    let size: usize = 13;
-    if at < size {
-        return false;
-    }
-    if pieces.len() < at {
-        return false;
-    }
-    if pieces.len() - at < size {
-        return false;
-    }
-    if pieces[at - 1] != 0x0A {
-        return false;
-    }
-    let end = at + size;
-    lists::same_bytes(&pieces[at..end], &pieces[start..size])
+#[derive(Drop)]
+pub struct Pieces<'a> {
+    rest: &'a [u8],
 }
 
-// Where the piece ends that begins at a position: at the next piece or the end.
-pub fn piece_end(pieces: &[u8], from: usize) -> usize
-    requires { from < length pieces.now }
-    ensures lower_bound { from < result }
-    ensures upper_bound { result ≤ length pieces.now }
-{
-    let mut at = from + 1;
-    while at < pieces.len() {
-        if begins_piece(pieces, at) {
-            return at;
-        }
-        at += 1;
+impl<'a> Pieces<'a> {
+    pub fn of(bytes: &'a [u8]) -> Self {
+        Pieces { rest: bytes }
     }
-    at
+}
+
+impl<'a> Iterator for Pieces<'a> {
+    type Item = &'a [u8];
+
+    ghost remaining = { λ s. at_most (length s.rest.now) };
+
+    fn next(&mut self) -> Option<&'a [u8]> {
+        if self.rest.is_empty() {
+            return None;
+        }
+        let (piece, rest) = self.rest.split_at(piece_end(self.rest));
+        self.rest = rest;
+        Some(piece)
+    }
+}
+
+// Where the first piece ends: where a later row equals its line 1, which has 13 bytes, or at the end. A record begins with a digit, so it is no
+// line 1; that the row begins there matters, as a record can end like one.
+fn piece_end(bytes: &[u8]) -> usize
+    requires { 0 < length bytes.now }
+    ensures lower_bound { 0 < result }
+    ensures upper_bound { result ≤ length bytes.now }
+{
+    let Some((line, _)) = bytes.split_at_checked(13) else {
+        return bytes.len();
+    };
+    bytes
+        .windows(14)
+        .position(|window| window[0] == b'\n' && &window[1..] == line)
+        .map_or(bytes.len(), |row_end| row_end + 1)
 }

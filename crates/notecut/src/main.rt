@@ -7,206 +7,127 @@
 // short.
 #![tactic(auto)]
 
-ghost use Rattle.std.specs.Prelude.{◌≤◌};
-ghost use Rattle.inputs.specs.Counts.{IsPrefixLen};
+use id_file::BadId;
+use std::env::FillError;
 
-use files::Outcome;
-use id_file::Ids;
-use inputs::Input;
+// --- what fails ---
+
+#[derive(Clone, Copy, Debug, PartialEq, Eq)]
+enum Failure {
+    Usage,
+    Read,
+    Used,
+    BadId(BadId),
+    Output,
+    Pieces(files::Failure),
+}
+
+fn tell(rt: &HostRuntime, failure: Failure) {
+    let mut err = rt.stderr();
+    match failure {
+        Failure::Usage => answers::write_error(
+            &mut err,
+            b"usage: notecut CAPACITY ID [PREFIX [USED]]",
+        ),
+        Failure::Read => answers::write_error(&mut err, b"read"),
+        Failure::Used => answers::write_error(&mut err, b"used"),
+        Failure::BadId(bad) => answers::write_error_at(&mut err, b"used", bad.number as u64),
+        Failure::Output => answers::write_error(&mut err, b"write"),
+        Failure::Pieces(files::Failure::Exists(k)) => {
+            answers::write_error_at(&mut err, b"exists", k);
+        }
+        Failure::Pieces(files::Failure::Unread(k)) => {
+            answers::write_error_at(&mut err, b"read", k);
+        }
+        Failure::Pieces(files::Failure::Unwritten(k)) => {
+            answers::write_error_at(&mut err, b"write", k);
+        }
+        Failure::Pieces(files::Failure::Unsynced) => answers::write_error(&mut err, b"write"),
+    }
+}
 
 // --- the words ---
 
-fn usage(rt: &HostRuntime) {
-    answers::write_error(
-        &mut rt.stderr(),
-        b"usage: notecut CAPACITY ID [PREFIX [USED]]",
-    );
-}
-
-// How long a word is, which is put at the buffer's front; 0 where it is not there or is longer than the buffer.
-fn word_length(rt: &HostRuntime, number: usize, buf: &mut [u8]) -> usize
-    ensures { IsPrefixLen result buf.new }
-{
-    match inputs::word(rt, number, buf) {
-        Input::Bytes(n) => n,
-        Input::Failed => 0,
+// The first word, where it is digits and 64 bits hold the number.
+fn capacity(rt: &HostRuntime) -> Option<u64> {
+    let mut word = [0u8; 4096];
+    let n = inputs::word(rt, 1, &mut word).ok()?;
+    let text = std::str::from_utf8(&word[..n]).ok()?;
+    // `parse` would take a sign.
+    if !text.bytes().all(|byte| byte.is_ascii_digit()) {
+        return None;
     }
-}
-
-#[derive(Clone, Copy)]
-enum Capacity {
-    Bytes(u64),
-    Wrong,
-}
-
-// A byte's digit, 10 where it is none.
-fn digit(b: u8) -> u64
-    ensures { result ≤ 10 }
-{
-    if b < 48 {
-        return 10;
-    }
-    if 57 < b {
-        return 10;
-    }
-    (b - 48) as u64
-}
-
-// A number with one more digit, where that is a digit and 64 bits hold the number.
-fn with_digit(value: u64, b: u8) -> Capacity {
-    let d = digit(b);
-    if 9 < d {
-        return Capacity::Wrong;
-    }
-    if 1844674407370955161 < value {
-        return Capacity::Wrong;
-    }
-    let tens = value * 10;
-    if u64::MAX - tens < d {
-        return Capacity::Wrong;
-    }
-    Capacity::Bytes(tens + d)
-}
-
-fn capacity_of(word: &[u8]) -> Capacity {
-    if word.len() == 0 {
-        return Capacity::Wrong;
-    }
-    let mut value: u64 = 0;
-    let mut i: usize = 0;
-    while i < word.len() {
-        let next = with_digit(value, word[i]);
-        match next {
-            Capacity::Bytes(bytes) => value = bytes,
-            Capacity::Wrong => return Capacity::Wrong,
-        }
-        i += 1;
-    }
-    Capacity::Bytes(value)
+    text.parse().ok()
 }
 
 // --- writing ---
 
-// Whether all is written; where not, tells it.
-fn tell(rt: &HostRuntime, outcome: Outcome) -> bool {
-    match outcome {
-        Outcome::Done => return true,
-        Outcome::Exists(k) => answers::write_error_at(&mut rt.stderr(), b"exists", k),
-        Outcome::Unread(k) => answers::write_error_at(&mut rt.stderr(), b"read", k),
-        Outcome::Unwritten(k) => answers::write_error_at(&mut rt.stderr(), b"write", k),
-        Outcome::Unsynced => answers::write_error(&mut rt.stderr(), b"write"),
-    }
-    false
-}
-
 // The third word is the prefix. One that is longer than the buffer is longer than any path.
-fn write_pieces(rt: &HostRuntime, pieces: &[u8], words: usize) -> bool {
-    if words < 4 {
-        return answers::write_output(&mut rt.stdout(), &mut rt.stderr(), pieces);
-    }
+fn write_pieces(rt: &HostRuntime, pieces: &[u8]) -> Result<(), Failure> {
     let mut prefix = [0u8; 4096];
-    let Input::Bytes(n) = inputs::word(rt, 3, &mut prefix) else {
-        return tell(rt, Outcome::Unwritten(1));
-    };
-    if n == 0 {
-        return answers::write_output(&mut rt.stdout(), &mut rt.stderr(), pieces);
+    match inputs::word(rt, 3, &mut prefix) {
+        Ok(0) | Err(FillError::NotPresent) => {
+            answers::write_whole(&mut rt.stdout(), pieces).map_err(|_| Failure::Output)
+        }
+        Ok(n) => files::write_pieces(rt, &prefix[..n], pieces).map_err(Failure::Pieces),
+        Err(FillError::TooLong) => Err(Failure::Pieces(files::Failure::Unwritten(1))),
     }
-    tell(rt, files::write_pieces(rt, &prefix[..n], pieces))
 }
 
 // --- the program ---
 
-fn write_result(rt: &HostRuntime, out: &[u8], words: usize, r: replies::Reply) {
-    let bytes = r.b;
-    if bytes <= 131072 {
-        let start: usize = 0;
-        let end = bytes as usize;
-        if end <= out.len() {
-            if write_pieces(rt, &out[start..end], words) {
-                answers::write_reply_as_error(&mut rt.stderr(), 2, r);
-            }
-        }
-    }
-}
-
 // An ID that is longer than the buffer comes as an empty one, which is refused as well.
-fn cut(rt: &HostRuntime, file: &[u8], capacity: u64, used: &[u8], words: usize) {
+fn cut(rt: &HostRuntime, file: &[u8], capacity: u64, used: &[u8]) -> Result<(), Failure> {
     let mut id = [0u8; 4096];
     let mut out = [0u8; 131072];
-    let digits = word_length(rt, 2, &mut id);
-    let r = gateway::notebook_cut(file, capacity, &id[..digits], used, &mut out);
-    if r.refusal == 0 {
-        write_result(rt, &out, words, r);
-    } else {
-        answers::write_reply_as_error(&mut rt.stderr(), 2, r);
+    let n = inputs::word(rt, 2, &mut id).unwrap_or(0);
+    let reply = gateway::notebook_cut(file, capacity, &id[..n], used, &mut out);
+    if reply.refusal == 0 {
+        // The pieces are never more bytes than the buffer has.
+        let Some(pieces) = out.get(..reply.b as usize) else {
+            return Ok(());
+        };
+        write_pieces(rt, pieces)?;
     }
+    answers::write_reply_as_error(&mut rt.stderr(), 2, reply);
+    Ok(())
 }
 
-fn cut_with_ids(rt: &HostRuntime, file: &[u8], capacity: u64, ids: &mut [u8], words: usize) {
-    let start: usize = 0;
-    let run = id_file::run_of(ids);
-    match run {
-        Ids::Run(end) => cut(rt, file, capacity, &ids[start..end], words),
-        Ids::Bad(k) => answers::write_error_at(&mut rt.stderr(), b"used", k as u64),
-    }
-}
-
-// Room for 100,000 IDs in lines that end in 0Dh 0Ah, and for one byte more, which tells that there are others. A function of its own so that a proof has the
-// length from the type: where the zeros stand beside the part that is lent, the prover counts them, for seconds.
+// Room for 100,000 IDs in lines that end in 0Dh 0Ah, and for one byte more, which tells that there are others. A function of its own so that a
+// proof has the length from the type: where the zeros stand beside the part that is lent, the prover counts them.
 fn id_room() -> [u8; 1600001] {
-    [0u8; 1600001]
+    [0; 1600001]
 }
 
 // The fourth word is the file of used IDs.
-fn cut_with_used(rt: &HostRuntime, file: &[u8], capacity: u64, words: usize) {
-    let start: usize = 0;
+fn cut_with_used(rt: &HostRuntime, file: &[u8], capacity: u64) -> Result<(), Failure> {
     let mut ids = id_room();
-    let read = inputs::read_word(rt, 4, &mut ids, 0);
-    match read {
-        Input::Bytes(end) => {
-            if 1600000 < end {
-                answers::write_error(&mut rt.stderr(), b"used");
-            } else {
-                cut_with_ids(rt, file, capacity, &mut ids[start..end], words);
-            }
-        }
-        Input::Failed => answers::write_error(&mut rt.stderr(), b"used"),
+    let end = inputs::read_word(rt, 4, &mut ids, 0).map_err(|_| Failure::Used)?;
+    if end == ids.len() {
+        return Err(Failure::Used);
     }
-}
-
-fn cut_file(rt: &HostRuntime, file: &[u8], capacity: u64, words: usize) {
-    if words == 5 {
-        cut_with_used(rt, file, capacity, words);
-    } else {
-        cut(rt, file, capacity, b"", words);
-    }
-}
-
-fn cut_input(rt: &HostRuntime, capacity: u64, words: usize) {
-    let mut file = [0u8; 65537];
-    let read = inputs::read_all(&mut rt.stdin(), &mut file);
-    match read {
-        Input::Bytes(n) => cut_file(rt, &file[..n], capacity, words),
-        Input::Failed => answers::write_error(&mut rt.stderr(), b"read"),
-    }
-}
-
-fn cut_with_words(rt: &HostRuntime, words: usize) {
-    let mut word = [0u8; 4096];
-    let n = word_length(rt, 1, &mut word);
-    let capacity = capacity_of(&word[..n]);
-    match capacity {
-        Capacity::Bytes(bytes) => cut_input(rt, bytes, words),
-        Capacity::Wrong => usage(rt),
-    }
+    let run = id_file::run_of(&mut ids[..end]).map_err(Failure::BadId)?;
+    cut(rt, file, capacity, &ids[..run])
 }
 
 // The program's own name is among the words.
-fn main(rt: HostRuntime) {
-    let words = inputs::word_count(&rt);
-    if (3 <= words) & (words <= 5) {
-        cut_with_words(&rt, words);
+fn cut_input(rt: &HostRuntime) -> Result<(), Failure> {
+    let words = inputs::word_count(rt);
+    if !(3..=5).contains(&words) {
+        return Err(Failure::Usage);
+    }
+    let capacity = capacity(rt).ok_or(Failure::Usage)?;
+    let mut file = [0u8; 65537];
+    let n = inputs::read_all(&mut rt.stdin(), &mut file).map_err(|_| Failure::Read)?;
+    if words == 5 {
+        cut_with_used(rt, &file[..n], capacity)
     } else {
-        usage(&rt);
+        cut(rt, &file[..n], capacity, b"")
+    }
+}
+
+fn main(rt: HostRuntime) {
+    if let Err(failure) = cut_input(&rt) {
+        tell(&rt, failure);
     }
 }
