@@ -15,6 +15,10 @@ ghost use Rattle.records.specs.Records.{item_fault};
 ghost use Rattle.items.specs.Codes.{set_of, kind_of, need_of, item_of};
 ghost use Rattle.items.specs.Ends.{Within, scripts_fit, text_form, sized_end, EndOf, SpelledAt, CodeRun, DigitAt, DigitFits};
 
+mod kinds;
+
+pub use kinds::{Item, Kind, Need, Values};
+
 fn is_code(b: u8) -> bool
     ensures { result ≡ is_code b }
 {
