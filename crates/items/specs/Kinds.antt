@@ -25,6 +25,10 @@ values_of DosageForm = forms
 values_of UsageCodeKind = 1 ∷ 2 ∷ []
 values_of InformationKind = 30 ∷ 31 ∷ 99 ∷ []
 
+-- kind A
+abbrev pub authors : List ℕ
+authors = 1 ∷ 2 ∷ 8 ∷ 9 ∷ []
+
 abbrev pub kind_of : Kind → PaperKind
 kind_of (Text most) = N most
 kind_of (OneWidth most) = U most

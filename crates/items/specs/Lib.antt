@@ -1,3 +1,2 @@
-pub mod Codes
-pub mod Kinds
 pub mod Ends
+pub mod Kinds
