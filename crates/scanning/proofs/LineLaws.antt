@@ -7,8 +7,8 @@ use lib.ListN.{length, drop, get_or, length-drop}
 use lib.Seq.{get_or-drop}
 use Rattle.lists.specs.Searching.{part}
 use Rattle.lists.proofs.Cuts.{drop_end, last_on}
-use Rattle.scanning.specs.declared.Scan.{Scan}
-use Rattle.scanning.specs.declared.Line.TheVariants.{Whole, Mark, End, Broken}
+use Rattle.scanning.specs.declared.lines.Scan.{Scan}
+use Rattle.scanning.specs.declared.lines.Line.TheVariants.{Whole, Mark, End, Broken}
 use Rattle.characters.specs.Text.{text}
 use Rattle.characters.specs.Scanning.{comma_count}
 use Rattle.characters.specs.Rows.{rows}

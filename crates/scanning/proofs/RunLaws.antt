@@ -21,9 +21,9 @@ use Rattle.characters.specs.declared.Char.{Char}
 use Rattle.characters.specs.declared.Char.TheVariants.{One, Hiragana, Katakana, Either, Other, Bad}
 use Rattle.characters.specs.Text.{all_chars, is_stop, text}
 use Rattle.characters.specs.Scanning.{is_pair, clean, char_of, char_at, bytes_of, is_own_hiragana, is_own_katakana, is_either, comma_count, commas_from}
-use Rattle.scanning.specs.declared.Scripts.{Scripts}
-use Rattle.scanning.specs.declared.Run.{Run}
-use Rattle.scanning.specs.declared.Told.{Told}
+use Rattle.scanning.specs.declared.runs.Scripts.{Scripts}
+use Rattle.scanning.specs.declared.runs.Run.{Run}
+use Rattle.scanning.specs.declared.runs.Told.{Told}
 use Rattle.scanning.specs.Scans.{ScanOf, RunOf, RunEnds, Counted, Finished, ToldOf}
 use Rattle.characters.proofs.BytesLaws.{one_first, bytes_on, bytes_most}
 use Rattle.scanning.proofs.TextLaws.{one_char, no_comma, lead_from_81, trail_from_40, lead_no_one, kept, Scanned, scan_start, scan_comma, scan_more, scan_stop, scan_bad, scan_end}

@@ -7,12 +7,12 @@ use Rattle.characters.specs.Text.{all_chars, text}
 use Rattle.characters.specs.Cells.{is_one_byte}
 use Rattle.characters.specs.Scanning.{char_at, bytes_of, is_own_hiragana, is_own_katakana, is_either, comma_count, commas_from, WholeLine, BrokenRow}
 use Rattle.characters.specs.Rows.{rows, end_mark}
-use Rattle.scanning.specs.declared.Scripts.{Scripts}
-use Rattle.scanning.specs.declared.Run.{Run}
-use Rattle.scanning.specs.declared.Told.{Told}
-use Rattle.scanning.specs.declared.Scan.{Scan}
-use Rattle.scanning.specs.declared.Line.{Line}
-use Rattle.scanning.specs.declared.Line.TheVariants.{Whole, Mark, End, Broken}
+use Rattle.scanning.specs.declared.runs.Scripts.{Scripts}
+use Rattle.scanning.specs.declared.runs.Run.{Run}
+use Rattle.scanning.specs.declared.runs.Told.{Told}
+use Rattle.scanning.specs.declared.lines.Scan.{Scan}
+use Rattle.scanning.specs.declared.lines.Line.{Line}
+use Rattle.scanning.specs.declared.lines.Line.TheVariants.{Whole, Mark, End, Broken}
 
 -- a list of places, as the code keeps it: the first sixteen commas of a line
 pub record Stops (l : List ℕ) (stops : List ℕ) : Type 0 where

@@ -1,6 +1,6 @@
 use Rattle.std.proofs.Common.{rules}
 use Rattle.scanning.proofs.LineLaws.{line_laws}
-use Rattle.scanning.proofs.line_at.Goals as goal
+use Rattle.scanning.proofs.lines.line_at.Goals as goal
 
 pub returns-then-s-end : goal.returns-then-s-end
 returns-then-s-end c = search (rules, line_laws)

@@ -1,6 +1,6 @@
 use Rattle.std.proofs.Common.{rules}
 use Rattle.scanning.proofs.RunLaws.{telling_laws, telling_stuck, telling_run}
-use Rattle.scanning.proofs.scripts_of.Goals as goal
+use Rattle.scanning.proofs.runs.scripts_of.Goals as goal
 
 pub overflow_add-one : goal.overflow_add-one
 overflow_add-one c = search (rules, telling_laws)

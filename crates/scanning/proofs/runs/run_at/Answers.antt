@@ -1,6 +1,6 @@
 use Rattle.std.proofs.Common.{rules}
 use Rattle.scanning.proofs.RunLaws.{run_laws, last_ready}
-use Rattle.scanning.proofs.run_at.Goals as goal
+use Rattle.scanning.proofs.runs.run_at.Goals as goal
 
 pub overflow_add-one : goal.overflow_add-one
 overflow_add-one c = search (rules, run_laws)

@@ -1,6 +1,6 @@
 use Rattle.std.proofs.Common.{rules}
 use Rattle.scanning.proofs.RunLaws.{pass_laws}
-use Rattle.scanning.proofs.scan_text.Goals as goal
+use Rattle.scanning.proofs.lines.scan_text.Goals as goal
 
 pub loop-i-preserved-then-s-e : goal.loop-i-preserved-then-s-e
 loop-i-preserved-then-s-e c = search (rules, pass_laws)

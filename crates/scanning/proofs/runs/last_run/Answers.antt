@@ -1,7 +1,7 @@
 use Rattle.characters.specs.declared.Char.TheVariants.{Hiragana, Katakana, Either, Other, Bad}
 use Rattle.std.proofs.Common.{rules, refl}
 use Rattle.scanning.proofs.RunLaws.{last_laws, last_none}
-use Rattle.scanning.proofs.last_run.Goals as goal
+use Rattle.scanning.proofs.runs.last_run.Goals as goal
 
 pub returns-in-One : goal.returns-in-One
 returns-in-One c = search (rules, last_laws)
