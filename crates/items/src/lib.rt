@@ -69,10 +69,8 @@ impl Uniform {
     fn holds_in(self, s: &[u8]) -> bool
         ensures { result ≡ uniform_text self s.now }
     {
-        match scanning::scripts_of(s) {
-            Some(k) => self.holds(k, s.len()),
-            None => false,
-        }
+        let t = scanning::scripts_of(s);
+        t.good && self.holds(t.scripts, s.len())
     }
 }
 
@@ -160,16 +158,24 @@ fn is_author(n: u32) -> bool
     matches!(n, 1 | 2 | 8 | 9)
 }
 
+#[tactic(auto, using(crate::proofs::SetLaws::set_laws))]
 fn author(s: &[u8]) -> bool
     ensures { result ≡ spelled_as authors s.now }
 {
-    digits::plain_number(s).is_some_and(is_author)
+    match digits::plain_number(s) {
+        Some(n) => is_author(n),
+        None => false,
+    }
 }
 
+#[tactic(auto, using(crate::proofs::SetLaws::set_laws))]
 fn among(values: Values, s: &[u8]) -> bool
     ensures { result ≡ spelled_as (values_of values) s.now }
 {
-    digits::plain_number(s).is_some_and(|n| values.contains(n))
+    match digits::plain_number(s) {
+        Some(n) => values.contains(n),
+        None => false,
+    }
 }
 
 fn unless(good: bool, refusal: Refusal) -> Verdict
