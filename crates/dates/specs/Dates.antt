@@ -8,7 +8,7 @@ use Rattle.eras.specs.declared.Era.{Era}
 use Rattle.eras.specs.Day.{is_day}
 use Rattle.eras.specs.Era.{eras, six_digits}
 use Rattle.eras.specs.Newest.{Newest}
-use Rattle.calendar.specs.declared.DateRead.TheVariants.{Date}
+use Rattle.std.specs.Prelude.{Some}
 use Rattle.calendar.specs.Era.{read_day}
 use Rattle.records.specs.Split.{items_of}
 use Rattle.records.specs.Items.{Value, raw, num, day}
@@ -69,7 +69,7 @@ pub record OneSpelling (n : ℕ) : Type 0 where
   pub spelling : List ℕ
   pub written : WrittenFor n spelling
   pub only : (s : List ℕ) → WrittenFor n s → s ≡ spelling
-  pub read : read_day spelling ≡ Date (record { ymd = n })
+  pub read : read_day spelling ≡ Some (record { ymd = n })
 
 abbrev pub SpelledOnce : Type 0
 SpelledOnce = (n : ℕ) → is_day n ≡ true → OneSpelling n

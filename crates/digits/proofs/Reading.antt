@@ -12,6 +12,7 @@ use Rattle.lists.specs.Lists.{all}
 use Rattle.lists.proofs.Cuts.{drop_step, drop_end}
 use Rattle.digits.specs.Digits.{is_digit, value, number}
 use Rattle.digits.specs.Short.{digit, number_from, plain_number}
+use Rattle.digits.proofs.Numbers.{digit_is}
 
 -- ---- one digit
 
@@ -21,6 +22,9 @@ some_digit_lem b {x} e = go (is_digit b) refl e
     go : (y : Bool) → is_digit b ≡ y → cond y (Some (b - 48)) None ≡ Some x → (is_digit b ≡ true) × (x ≡ b - 48)
     go true p q = (p, cc)
     go false p q = cc
+
+pub digit_small : (b : ℕ) {x : ℕ} → digit b ≡ Some x → x ≤ 9
+digit_small b e = let d = some_digit_lem b e in omega (arith, d.1, digit_is b d.0)
 
 no_digit : (b : ℕ) → digit b ≡ None → is_digit b ≡ false
 no_digit b e = go (is_digit b) refl e

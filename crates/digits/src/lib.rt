@@ -28,7 +28,7 @@ pub fn wide(b: u8) -> u32
 }
 
 // The value of a digit.
-fn digit(b: u8) -> Option<u32>
+pub fn digit(b: u8) -> Option<u32>
     ensures { result ≡ digit b }
 {
     if is_digit(b) {

@@ -6,8 +6,8 @@ use Rattle.std.specs.Prelude.{ℕ, zero, suc, List, [], ◌∷◌, ◌++◌, len
 use Prim.Native.String.{String}
 use Rattle.lists.specs.Lists.{bytes}
 use Rattle.characters.specs.Rows.{line_end}
-use Rattle.calendar.specs.declared.DateRead.{DateRead}
-use Rattle.calendar.specs.declared.DateRead.TheVariants.{Date, NotADate}
+use Rattle.calendar.specs.declared.Day.{Day}
+use Rattle.std.specs.Prelude.{Option, Some, None}
 use Rattle.calendar.specs.Era.{read_day}
 use Rattle.eras.specs.Era.{write_day}
 use Rattle.records.specs.Table.{Kind, Q, D}
@@ -99,9 +99,9 @@ cases =
 
 -- ---- what the definitions say
 
-abbrev pub dated : DateRead → Said
-dated (Date d) = day d.ymd (write_day d.ymd)
-dated NotADate = no_day
+abbrev pub dated : Option Day → Said
+dated (Some d) = day d.ymd (write_day d.ymd)
+dated None = no_day
 
 -- an output of a thousand bytes
 abbrev pub thousand : List ℕ
