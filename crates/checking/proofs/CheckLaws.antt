@@ -4,59 +4,57 @@ use Prim.Native.Nat.{ℕ, ◌+◌, ◌-◌, ◌≤◌}
 use native.Mathlib.Nat.{zero-add, add-zero}
 use mathlib.Core.Path.{◌≡◌, refl, sym, ap, ◌∙◌, subst}
 use mathlib.Core.Bool.{Bool, true, false, cond}
-use mathlib.Core.Logic.{⊎_elim}
 use mathlib.Core.List.{List, []}
 use native.Mathlib.Omega.{arith}
-use borrow.Author.Tests.{eq-eqb, ne_eqb}
+use borrow.Author.Tests.{eq-eqb}
 use mir.Val.{Fits}
 use mir.Syntax.{w32, w64}
 use lib.Dec.{eqb}
 use lib.ListN.{length, take, drop}
 use Rattle.lists.specs.Lists.{Res, ok, refused}
 use Rattle.lists.specs.Searching.{part}
-use Rattle.scanning.specs.declared.Line.{Line}
-use Rattle.scanning.specs.declared.Line.TheVariants.{Whole, Mark, End, Broken}
+use Rattle.std.specs.Prelude.{Option, Some, None, Result, Ok, Err}
+use Rattle.scanning.specs.declared.lines.Scan.{Scan}
 use Rattle.scanning.specs.Scans.{LineOf}
 use Rattle.characters.specs.Rows.{rows}
 use Rattle.records.specs.Records.{Record, record_of}
 use Rattle.order.specs.declared.State.{State}
-use Rattle.order.specs.State.{Step}
-use Rattle.order.specs.State.{Fault as StepRefused, On}
-use Rattle.order.specs.State.{start, finish_of, advance}
+use Rattle.order.specs.State.{Step, Fault, On, start, finish_of, advance}
 use Rattle.order.specs.Room.{Room}
 use Rattle.order.proofs.Laws.{next_line, room, room_start, line_start}
 use Rattle.notebook.specs.Facts.{facts_of}
-use Rattle.replies.specs.Replies.{Answer}
-use Rattle.replies.specs.Replies.{Done, Refused}
+use Rattle.replies.specs.declared.refusal.Refusal.{Refusal as Word}
+use Rattle.replies.specs.declared.refusal.Refused.{Refused as RefusedAtLine}
+use Rattle.replies.specs.Refusals.{number_of}
+use Rattle.replies.specs.Replies.{Answer, Done, Refused}
+use Rattle.replies.proofs.Numbers.{never_0}
 use Rattle.replies.specs.Results.{answer_in}
 use Rattle.notebook.specs.Notebook.{step_line, prepend, closed, onward, records_from, notebook_of}
 use Rattle.notebook.specs.Check.{count, check_result}
 use Rattle.notebook.proofs.Answered.{answered}
 use Rattle.checking.specs.Walking.{tally, Midway, Closing}
-use Rattle.checking.proofs.LineFacts.{whole_line, records_end, records_mark, records_broken, records_on}
+use Rattle.checking.proofs.LineFacts.{whole_line, records_over, records_broken, records_on}
 use Rattle.checking.specs.declared.Turn.{Turn}
-use Rattle.checking.specs.declared.Turn.TheVariants.{Over, Refused as TurnRefused, On as TurnOn}
 use Rattle.checking.specs.Turns.{RefusedAt, broken, faulty, TurnOf}
-use Rattle.checking.proofs.TurnLaws.{turn_facts, turn_over, turn_refused, turn_step, turn_fits}
+use Rattle.checking.proofs.TurnLaws.{turn_facts, turn_fits}
 use Rattle.notebook.proofs.Placing.{Placed, placed}
 use Rattle.checking.specs.declared.Opening.{Opening}
-use Rattle.checking.specs.declared.Opening.TheVariants.{Records, Refused as OpenRefused}
 use Rattle.checking.specs.Opening.{Behind, OpeningOf}
-use Rattle.checking.proofs.OpenLaws.{zeros_size, opening_refused, opening_records, opening_behind}
+use Rattle.checking.proofs.OpenLaws.{opening_behind}
 
 three : {a b c a' b' c' : ℕ} → a ≡ a' → b ≡ b' → c ≡ c' → Done a b c ≡ Done a' b' c'
 three p q r = cc
 
 -- ---- the end
 
-module _ (st : State) {n : ℕ} (e : n ≡ finish_of st) where
-  pub close_good : n ≡ 0 → Done (st.line - 1) st.groups st.drugs ≡ tally st (closed st)
+module _ (st : State) where
+  pub close_good : 0 ≡ finish_of st → Done (st.line - 1) st.groups st.drugs ≡ tally st (closed st)
   unfolding closed count
-  close_good z = rw (eq-eqb (finish_of st) 0 (sym e ∙ z)) (three (sym (add-zero (st.line - 1))) (sym (add-zero st.groups)) (sym (add-zero st.drugs)))
+  close_good e = rw (eq-eqb (finish_of st) 0 (sym e)) (three (sym (add-zero (st.line - 1))) (sym (add-zero st.groups)) (sym (add-zero st.drugs)))
 
-  pub close_missing : (n ≡ 0 → ⊥) → Refused n (st.line + 1) ≡ tally st (closed st)
+  pub close_missing : {x : Word} → number_of x ≡ finish_of st → Refused (number_of x) (st.line + 1) ≡ tally st (closed st)
   unfolding closed
-  close_missing z = rw (ne_eqb (finish_of st) 0 (λ q. z (e ∙ q))) (ap (λ (k : ℕ). Refused k (st.line + 1)) e)
+  close_missing {x} e = rw (sym e, never_0 x)
 
 -- ---- the counts: what a state has counted, with what follows
 
@@ -110,61 +108,50 @@ module _ {st₀ : State} {s : List ℕ} {from : ℕ} {st : State} {at : ℕ} (v 
   answer : {r : Answer} → r ≡ tally st (records_from st (rows (drop at s))) → r ≡ tally st₀ (records_from st₀ (rows (drop from s)))
   answer e = e ∙ sym v.left
 
-  module _ {stops : List ℕ} {k : Line} (w : LineOf s at stops k) where
-    reading_end : {r : Answer} → k ≡ End → r ≡ tally st (closed st) → r ≡ tally st₀ (records_from st₀ (rows (drop from s)))
-    reading_end e q = answer (q ∙ sym (ap (tally st) (records_end w st e)))
+  module _ {stops : List ℕ} {l : Scan} (w : LineOf s at stops (Ok (Some l))) where
+    next : Step → Res (List Record)
+    next = onward (st.line + 1) (record_of (part s at l.end)) (λ t. records_from t (rows (drop (l.end + 2) s)))
 
-    reading_mark : {r : Answer} → k ≡ Mark → r ≡ tally st (closed st) → r ≡ tally st₀ (records_from st₀ (rows (drop from s)))
-    reading_mark e q = answer (q ∙ sym (ap (tally st) (records_mark w st e)))
+    reading_refused : {j : ℕ} → Fault j ≡ step_line st (part s at l.end) → Refused j (st.line + 1) ≡ tally st₀ (records_from st₀ (rows (drop from s)))
+    unfolding onward next
+    reading_refused u = sym (v.left ∙ ap (tally st) (records_on w st ∙ ap next (sym u)))
 
-    reading_broken : k ≡ Broken → Refused 2 (st.line + 1) ≡ tally st₀ (records_from st₀ (rows (drop from s)))
-    reading_broken e = answer (sym (ap (tally st) (records_broken w st e)))
-
-    module _ {e : ℕ} {good : Bool} {n : ℕ} (q : k ≡ Whole e good n) where
-      next : Step → Res (List Record)
-      next = onward (st.line + 1) (record_of (part s at e)) (λ t. records_from t (rows (drop (e + 2) s)))
-
-      module _ {m : Step} (o : m ≡ step_line st (take (e - at) (drop at s))) where
-        reading_refused : {j : ℕ} → m ≡ StepRefused j → Refused j (st.line + 1) ≡ tally st₀ (records_from st₀ (rows (drop from s)))
-        unfolding onward next
-        reading_refused u = sym (v.left ∙ ap (tally st) (records_on w q st ∙ ap next (sym o ∙ u)))
-
-        reading_on : {t : State} {rp d : ℕ} → m ≡ On t rp d → Reading st₀ s from t (e + 2)
-        unfolding onward next
-        reading_on {t} {rp} {d} u =
-            let p : Placed st (part s at e) t rp d = placed st (part s at e) t rp d (sym o ∙ u) in
-            let l : t.line ≡ st.line + 1 = next_line st (facts_of (record_of (part s at e))) t rp d p.step in
-            record {
-              left = v.left ∙ ap (tally st) (records_on w q st ∙ ap next (sym o ∙ u))
-                  ∙ tally_on st (record_of (part s at e)) (records_from t (rows (drop (e + 2) s))) here.low
-                  ∙ ap (λ (x : State). tally x (records_from t (rows (drop (e + 2) s)))) (sym p.state);
-              midway = record {
-                room = room st (facts_of (record_of (part s at e))) t rp d p.step here.room (omega (arith, l, here.line, here.high, here.small));
-                low = omega (arith, l);
-                line = omega (arith, l, here.line, (whole_line w q).low);
-                high = (whole_line w q).high;
-                small = here.small;
-              };
-            }
+    reading_on : {t : State} {rp d : ℕ} → On t rp d ≡ step_line st (part s at l.end) → Reading st₀ s from t (l.end + 2)
+    unfolding onward next
+    reading_on {t} {rp} {d} u =
+        let p : Placed st (part s at l.end) t rp d = placed st (part s at l.end) t rp d (sym u) in
+        let n : t.line ≡ st.line + 1 = next_line st (facts_of (record_of (part s at l.end))) t rp d p.step in
+        record {
+          left = v.left ∙ ap (tally st) (records_on w st ∙ ap next (sym u))
+              ∙ tally_on st (record_of (part s at l.end)) (records_from t (rows (drop (l.end + 2) s))) here.low
+              ∙ ap (λ (x : State). tally x (records_from t (rows (drop (l.end + 2) s)))) (sym p.state);
+          midway = record {
+            room = room st (facts_of (record_of (part s at l.end))) t rp d p.step here.room (omega (arith, n, here.line, here.high, here.small));
+            low = omega (arith, n);
+            line = omega (arith, n, here.line, (whole_line w).low);
+            high = (whole_line w).high;
+            small = here.small;
+          };
+        }
 
   -- by a turn
-  module _ {stops : List ℕ} {k : Turn} (w : TurnOf st s at stops k) where
-    pub reading_over : {r : Answer} → k ≡ Over → r ≡ tally st (closed st) → r ≡ tally st₀ (records_from st₀ (rows (drop from s)))
-    reading_over q p = ⊎_elim (λ l. reading_end l refl p) (λ l. reading_mark l refl p) (turn_over w q)
+  module _ {stops : List ℕ} where
+    pub reading_over : {r : Answer} → TurnOf st s at stops (Ok None) → r ≡ tally st (closed st) → r ≡ tally st₀ (records_from st₀ (rows (drop from s)))
+    reading_over w p = answer (p ∙ sym (ap (tally st) (records_over st w.means)))
 
-    pub reading_stopped : {n : ℕ} → k ≡ TurnRefused n → Refused n (st.line + 1) ≡ tally st₀ (records_from st₀ (rows (drop from s)))
-    reading_stopped {n} q = go (turn_refused w q)
+    pub reading_stopped : {x : RefusedAtLine} → TurnOf st s at stops (Err x) → Refused (number_of x.refusal) x.line ≡ tally st₀ (records_from st₀ (rows (drop from s)))
+    reading_stopped {x} w = ap (Refused (number_of x.refusal)) w.means.1 ∙ go w.means.0
       where
-        go : RefusedAt st s at stops n → Refused n (st.line + 1) ≡ tally st₀ (records_from st₀ (rows (drop from s)))
-        go (broken l e) = ap (λ (j : ℕ). Refused j (st.line + 1)) e ∙ reading_broken l refl
-        go (faulty e m x) = reading_refused x.line refl x.step refl
+        go : RefusedAt st s at stops (number_of x.refusal) → Refused (number_of x.refusal) (st.line + 1) ≡ tally st₀ (records_from st₀ (rows (drop from s)))
+        go (broken b l e) = ap (λ (j : ℕ). Refused j (st.line + 1)) e ∙ answer (sym (ap (tally st) (records_broken st l)))
+        go (faulty e m y) = reading_refused y.line y.step
 
-    module _ {t : State} {rp d e n : ℕ} (q : k ≡ TurnOn t rp d e n) where
-      pub reading_next : Reading st₀ s from t (e + 2)
-      reading_next = let x = turn_step w q in reading_on x.line refl x.step refl
+    module _ {t : Turn} (w : TurnOf st s at stops (Ok (Some t))) where
+      pub reading_next : Reading st₀ s from t.moved.state (t.end + 2)
+      reading_next = reading_on w.means.line w.means.step
 
-      pub reading_within : Fits w64 (e + 2)
-      reading_within = turn_fits w q here.small
+      pub reading_within : Fits w64 (t.end + 2)
+      reading_within = turn_fits w here.small
 
 pub ruleset reading_laws = (turn_facts, reading_start, reading_closing, reading_fits, reading_room, reading_over, reading_stopped, reading_next, reading_within)
 
@@ -175,13 +162,13 @@ unfolding start
 tally_start provider (refused n line) = refl
 tally_start provider (ok rs) = three (zero-add (length rs)) (zero-add (count 5 rs)) (zero-add (count 201 rs))
 
-module _ {s : List ℕ} {k : Opening} (w : OpeningOf s k) where
-  pub check_refused : {n line : ℕ} → k ≡ OpenRefused n line → Refused n line ≡ answer_in (check_result s) []
+module _ {s : List ℕ} where
+  pub check_refused : {x : RefusedAtLine} → OpeningOf s (Err x) → Refused (number_of x.refusal) x.line ≡ answer_in (check_result s) []
   unfolding answer_in check_result
-  check_refused q = sym (ap answered (opening_refused w q))
+  check_refused w = sym (ap answered w.means)
 
-  pub check_records : {provider : Bool} {from : ℕ} → k ≡ Records provider from → {r : Answer} → r ≡ tally (start provider) (records_from (start provider) (rows (drop from s))) → r ≡ answer_in (check_result s) []
+  pub check_records : {o : Opening} → OpeningOf s (Ok o) → {r : Answer} → r ≡ tally (start o.provider) (records_from (start o.provider) (rows (drop o.from s))) → r ≡ answer_in (check_result s) []
   unfolding answer_in check_result
-  check_records {provider} {from} q t = t ∙ tally_start provider (records_from (start provider) (rows (drop from s))) ∙ sym (ap answered (opening_records w q).read)
+  check_records {o} w t = t ∙ tally_start o.provider (records_from (start o.provider) (rows (drop o.from s))) ∙ sym (ap answered w.means.read)
 
-pub ruleset check_laws = (zeros_size, opening_behind, check_refused, check_records)
+pub ruleset check_laws = (opening_behind, check_refused, check_records)

@@ -1,14 +1,15 @@
 -- Vocabulary of the code.
 -- How a file begins, as the code answers it: its size, its line 1 and the direction that it tells.
-use Rattle.std.specs.Prelude.{ℕ, ◌≤◌, ◌≡◌, Bool, List, ◌∷◌, length, drop}
+use Rattle.std.specs.Prelude.{ℕ, ◌≤◌, ◌≡◌, Bool, List, ◌∷◌, Result, Ok, Err, length, drop}
 use Rattle.lists.specs.Lists.{refused}
 use Rattle.lists.specs.Searching.{part}
 use Rattle.characters.specs.Rows.{rows}
+use Rattle.replies.specs.declared.refusal.Refused.{Refused}
+use Rattle.replies.specs.Refusals.{number_of}
 use Rattle.order.specs.State.{start}
 use Rattle.notebook.specs.Notebook.{records_from, notebook_of, read_file}
 use Rattle.notebook.specs.Canonical.{head_row}
 use Rattle.checking.specs.declared.Opening.{Opening}
-use Rattle.checking.specs.declared.Opening.TheVariants.{Records, Refused}
 
 -- a position after line 1 of a file within the limit
 pub record Behind (s : List ℕ) (from : ℕ) : Type 0 where
@@ -23,9 +24,9 @@ pub record OpensAt (s : List ℕ) (provider : Bool) (from : ℕ) : Type 0 where
   pub cut : rows s ≡ head_row provider ∷ rows (drop from s)
   pub read : read_file s ≡ notebook_of provider (records_from (start provider) (rows (drop from s)))
 
-abbrev pub OpeningMeans : List ℕ → Opening → Type 0
-OpeningMeans s (Records provider from) = OpensAt s provider from
-OpeningMeans s (Refused n line) = read_file s ≡ refused n line
+abbrev pub OpeningMeans : List ℕ → Result Opening Refused → Type 0
+OpeningMeans s (Ok o) = OpensAt s o.provider o.from
+OpeningMeans s (Err r) = read_file s ≡ refused (number_of r.refusal) r.line
 
-pub record OpeningOf (s : List ℕ) (r : Opening) : Type 0 where
+pub record OpeningOf (s : List ℕ) (r : Result Opening Refused) : Type 0 where
   pub means : OpeningMeans s r

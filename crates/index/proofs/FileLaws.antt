@@ -16,8 +16,11 @@ use Rattle.order.specs.State.{start}
 use Rattle.order.proofs.Laws.{line_start}
 use Rattle.buffers.specs.Buffers.{Room, Wrote}
 use Rattle.buffers.proofs.Runs.{sets_all, sets_behind}
-use Rattle.replies.specs.Replies.{Answer}
-use Rattle.replies.specs.Replies.{Done, Refused}
+use Rattle.std.specs.Prelude.{Ok, Err}
+use Rattle.replies.specs.declared.refusal.Refused.{Refused as RefusedAtLine}
+use Rattle.replies.specs.declared.reply.Values.{Values}
+use Rattle.replies.specs.Refusals.{number_of}
+use Rattle.replies.specs.Replies.{Answer, Done, Refused}
 use Rattle.replies.specs.Results.{Result, at_exit, answer_of, fitting, answer_in, output_of}
 use Rattle.replies.specs.CallContracts.{Gives}
 use Rattle.replies.proofs.Results.{gives_refusal, gives_20, gives_result}
@@ -25,14 +28,12 @@ use Rattle.notebook.specs.Notebook.{Notebook, read_file}
 use Rattle.notebook.specs.Check.{check_result}
 use Rattle.notebook.specs.Canonical.{head_row}
 use Rattle.checking.specs.declared.Opening.{Opening}
-use Rattle.checking.specs.declared.Opening.TheVariants.{Records, Refused as OpenRefused}
 use Rattle.checking.specs.Opening.{OpensAt, OpeningOf}
 use Rattle.checking.specs.Walking.{Midway}
-use Rattle.checking.proofs.OpenLaws.{opening_refused, opening_records}
 use Rattle.checking.proofs.CheckLaws.{midway_start, check_records}
 use Rattle.notebook.specs.Index.{Entry, entries_from, entries_after_head, entries_of, listed_from, list_of, numbers, numbers_of, indexed, index_result}
-use Rattle.index.specs.Filling.{numbers_at, FullOf, LastOf, BatchMeans, BatchOf, Onward, ExitMeans, Exit}
-use Rattle.index.specs.declared.Batch.{Batch}
+use Rattle.index.specs.Filling.{MidwayIn, numbers_at, FullOf, LastOf, BatchOf, Onward, ExitMeans, Exit}
+use Rattle.index.specs.declared.Reader.{Reader}
 use Rattle.index.specs.declared.Batch.TheVariants.{Full, Last}
 use Rattle.notebook.proofs.Answered.{Counted, answer_refused, answer_accepted}
 use Rattle.notebook.proofs.Walk.{Accepted as AcceptedFile, accepted, walk_length, listed_length, numbers_length}
@@ -90,9 +91,9 @@ module _ {s : List ℕ} {provider : Bool} {from : ℕ} (o : OpensAt s provider f
       ap (λ (es : List Entry). numbers (listed_from 2 0 es)) file_entries
       ∙ ap (λ (j : ℕ). numbers (listed_from (j + 1) 0 (entries_from (start provider) from (rows (drop from s))))) (sym (line_start provider))
 
-  begins : Onward s (start provider) from 0
+  begins : Onward s (record { st = start provider; clinic = 0; at = from })
   begins = record {
-    checked = sym (check_records (record { means = o }) refl refl);
+    checked = sym (check_records {o = record { provider = provider; from = from }} (record { means = o }) refl);
     before = [];
     listed = file_numbers;
     count = omega (arith, line_start provider);
@@ -100,132 +101,134 @@ module _ {s : List ℕ} {provider : Bool} {from : ℕ} (o : OpensAt s provider f
   }
 
 -- line 1 is read: what is left is the whole
-module _ {s : List ℕ} {k : Opening} (w : OpeningOf s k) where
-  pub index_unopened : {n line : ℕ} (d : List ℕ) → k ≡ OpenRefused n line → Gives (index_result s) d d (Refused n line)
+module _ {s : List ℕ} where
+  pub index_unopened : {x : RefusedAtLine} (d : List ℕ) → OpeningOf s (Err x) → Gives (index_result s) d d (Refused (number_of x.refusal) x.line)
   unfolding index_result
-  index_unopened d q = gives_refusal d (ap (map_res (indexed s)) (opening_refused w q))
+  index_unopened d w = gives_refusal d (ap (map_res (indexed s)) w.means)
 
-  module _ {provider : Bool} {from : ℕ} (q : k ≡ Records provider from) {st : State} (e : st ≡ start provider) where
-    pub index_begins : Onward s st from 0
-    index_begins = subst (λ (x : State). Onward s x from 0) (sym e) (begins (opening_records w q))
+  module _ {o : Opening} (w : OpeningOf s (Ok o)) {st : State} (e : st ≡ start o.provider) where
+    pub index_begins : Onward s (record { st = st; clinic = 0; at = o.from })
+    index_begins = subst (λ (x : State). Onward s (record { st = x; clinic = 0; at = o.from })) (sym e) (begins w.means)
 
-    pub index_whole : {d d' : List ℕ} {r : Answer} → Exit s st from 0 d d' r → Gives (index_result s) d d' r
+    pub index_whole : {d d' : List ℕ} {r : Answer} → Exit s (record { st = st; clinic = 0; at = o.from }) d d' r → Gives (index_result s) d d' r
     index_whole {d} {d'} {r} x = record { answer = x.answer; output = go r x.answer x.output }
       where
-        all : sets d ((st.line - 1) * 7) (numbers_at s st from 0) ≡ sets d 0 (numbers_of s)
+        all : sets d ((st.line - 1) * 7) (numbers_at s st o.from 0) ≡ sets d 0 (numbers_of s)
         all =
-            ap (λ (t : State). sets d ((t.line - 1) * 7) (numbers_at s t from 0)) e
-            ∙ ap₂ (λ (j : ℕ) (v : List ℕ). sets d j v) {x = ((start provider).line - 1) * 7} {y = 0} (omega (arith, line_start provider)) (sym (file_numbers (opening_records w q)))
+            ap (λ (t : State). sets d ((t.line - 1) * 7) (numbers_at s t o.from 0)) e
+            ∙ ap₂ (λ (j : ℕ) (v : List ℕ). sets d j v) {x = ((start o.provider).line - 1) * 7} {y = 0} (omega (arith, line_start o.provider)) (sym (file_numbers w.means))
 
-        go : (r : Answer) → r ≡ answer_in (index_result s) d → ExitMeans s st from 0 d d' r → d' ≡ output_of (index_result s) d
-        go (Refused n line) a o = o ∙ answer_kept (index_result s) d (sym a)
-        go (Done n g y) a o = o ∙ all ∙ (answer_accepts s d (sym a)).output
+        go : (r : Answer) → r ≡ answer_in (index_result s) d → ExitMeans s (record { st = st; clinic = 0; at = o.from }) d d' r → d' ≡ output_of (index_result s) d
+        go (Refused n line) a q = q ∙ answer_kept (index_result s) d (sym a)
+        go (Done n g y) a q = q ∙ all ∙ (answer_accepts s d (sym a)).output
+
+pub ruleset index_laws = (index_unopened, index_begins, index_whole)
 
 -- ---- the answer and the buffer, midway in a file
 
-module _ {s : List ℕ} {st : State} {at clinic : ℕ} (v : Onward s st at clinic) where
-  pub onward_midway : Midway s st at
-  onward_midway = v.midway
+module _ {s : List ℕ} {from : Reader} (v : Onward s from) where
+  pub onward_midway : MidwayIn s from
+  onward_midway = record { is = v.midway }
 
-  pub onward_line : 1 ≤ st.line
+  pub onward_line : 1 ≤ from.st.line
   onward_line = v.midway.low
 
-  module _ (d : List ℕ) {entries : List ℕ} {k : Batch} (b : BatchOf s st at clinic entries k) {c : Answer} {filled : ℕ} (q : k ≡ Last c filled) where
-    last : LastOf s st at clinic entries c filled
-    last = subst (BatchMeans s st at clinic entries) q b.means
+  -- where the records or the end are refused
+  pub batch_refused : (d : List ℕ) {entries : List ℕ} {x : RefusedAtLine} → BatchOf s from entries (Err x) → Exit s from d d (Refused (number_of x.refusal) x.line)
+  unfolding index_result
+  batch_refused d {entries} {x} b = record {
+    answer = (gives_refusal d (ap (map_res (indexed s)) (answer_refused s (number_of x.refusal) x.line (v.checked ∙ sym b.means)))).answer;
+    output = refl;
+    size = refl;
+  }
 
-    checked : c ≡ answer_in (check_result s) []
-    checked = last.answer_is ∙ sym v.checked
+  module _ (d : List ℕ) {entries : List ℕ} {c : Values} {filled : ℕ} (b : BatchOf s from entries (Ok (Last c filled))) where
+    last : LastOf s from entries c filled
+    last = b.means
 
     pub last_end : filled ≤ length entries
     last_end = omega (arith, last.high, b.size)
 
-    pub last_refused : {n line : ℕ} → c ≡ Refused n line → Exit s st at clinic d d (Refused n line)
+    by_count : Counted s c.a
+    by_count = answer_accepted s c.a c.b c.c (v.checked ∙ sym last.answer)
+
+    file : AcceptedFile s by_count.book
+    file = accepted s by_count.book by_count.read
+
+    given : index_result s ≡ ok (indexed s by_count.book)
     unfolding index_result
-    last_refused {n} {line} e = record { answer = (gives_refusal d (ap (map_res (indexed s)) (answer_refused s n line (sym checked ∙ e)))).answer; output = refl; size = refl }
+    given = ap (map_res (indexed s)) by_count.read
 
-    module _ {n g x : ℕ} (e : c ≡ Done n g x) where
-      by_count : Counted s n
-      by_count = answer_accepted s n g x (sym checked ∙ e)
+    size : length (numbers_of s) ≡ c.a * 7
+    unfolding numbers_of list_of
+    size = omega (arith, numbers_length (listed_from 2 0 (entries_of s)), listed_length 2 0 (entries_of s), walk_length file.walked, by_count.count)
 
-      file : AcceptedFile s by_count.book
-      file = accepted s by_count.book by_count.read
+    pub last_short : length d < c.a * 7 → Exit s from d d (Refused 20 0)
+    last_short h = record { answer = (gives_20 d given (omega (arith, size))).answer; output = refl; size = refl }
 
-      given : index_result s ≡ ok (indexed s by_count.book)
-      unfolding index_result
-      given = ap (map_res (indexed s)) by_count.read
+    module _ (h : c.a * 7 ≤ length d) where
+      room : (from.st.line - 1) * 7 + length (numbers_at s from.st from.at from.clinic) ≤ length d
+      room = omega (arith, size, ap length v.listed ∙ length-append v.before (numbers_at s from.st from.at from.clinic), v.count)
 
-      size : length (numbers_of s) ≡ n * 7
-      unfolding numbers_of list_of
-      size = omega (arith, numbers_length (listed_from 2 0 (entries_of s)), listed_length 2 0 (entries_of s), walk_length file.walked, by_count.count)
+      done : Done c.a 0 0 ≡ answer_in (index_result s) d
+      done = subst (λ (k : ℕ). Done k 0 0 ≡ answer_in (index_result s) d) by_count.count (gives_result d given (omega (arith, size))).answer
 
-      pub last_short : length d < n * 7 → Exit s st at clinic d d (Refused 20 0)
-      last_short h = record { answer = (gives_20 d given (omega (arith, size))).answer; output = refl; size = refl }
+      pub last_room : Room d ((from.st.line - 1) * 7) (take filled entries)
+      last_room = omega (arith, room, ap length last.list)
 
-      module _ (h : n * 7 ≤ length d) where
-        room : (st.line - 1) * 7 + length (numbers_at s st at clinic) ≤ length d
-        room = omega (arith, size, ap length v.listed ∙ length-append v.before (numbers_at s st at clinic), v.count)
-
-        done : Done n 0 0 ≡ answer_in (index_result s) d
-        done = subst (λ (k : ℕ). Done k 0 0 ≡ answer_in (index_result s) d) by_count.count (gives_result d given (omega (arith, size))).answer
-
-        pub last_room : Room d ((st.line - 1) * 7) (take (filled - 0) (drop 0 entries))
-        last_room = omega (arith, room, ap length last.list)
-
-        pub last_written : {d' : List ℕ} {r : ℕ} → Wrote d d' ((st.line - 1) * 7) r (take (filled - 0) (drop 0 entries)) → Exit s st at clinic d d' (Done n 0 0)
-        last_written x = record { answer = done; output = x.list ∙ ap (sets d ((st.line - 1) * 7)) last.list; size = x.size }
+      pub last_written : {d' : List ℕ} {r : ℕ} → Wrote d d' ((from.st.line - 1) * 7) r (take filled entries) → Exit s from d d' (Done c.a 0 0)
+      last_written x = record { answer = done; output = x.list ∙ ap (sets d ((from.st.line - 1) * 7)) last.list; size = x.size }
 
   -- a batch was read, and more follow
-  module _ {entries : List ℕ} {k : Batch} (w : BatchOf s st at clinic entries k) {after : State} {kept end : ℕ} (q : k ≡ Full after kept end) where
-    b : FullOf s st at clinic entries after kept end
-    b = subst (BatchMeans s st at clinic entries) q w.means
+  module _ {entries : List ℕ} {after : Reader} (w : BatchOf s from entries (Ok (Full after))) where
+    b : FullOf s from entries after
+    b = w.means
 
     z : length entries ≡ 448
     z = w.size
 
-    pub full_onward : Onward s after end kept
+    pub full_onward : Onward s after
     full_onward = record {
       checked = v.checked ∙ b.answer;
       before = v.before ++ entries;
-      listed = v.listed ∙ ap (λ (r : List ℕ). v.before ++ r) b.list ∙ sym (append_assoc v.before entries (numbers_at s after end kept));
+      listed = v.listed ∙ ap (λ (r : List ℕ). v.before ++ r) b.list ∙ sym (append_assoc v.before entries (numbers_at s after.st after.at after.clinic));
       count = length-append v.before entries ∙ omega (arith, v.count, z, b.lines, v.midway.low);
       midway = b.midway;
     }
 
     -- the measure of the calls
-    pub full_less : length s - end < length s - at
+    pub full_less : length s - after.at < length s - from.at
     full_less = omega (arith, b.less, b.midway.high)
 
-    module _ {d d₁ : List ℕ} {c : Answer} (x : Exit s after end kept d d₁ c) where
-      pub full_refused : {n line : ℕ} → c ≡ Refused n line → Exit s st at clinic d d₁ (Refused n line)
-      full_refused {n} {line} e = record { answer = sym e ∙ x.answer; output = subst (ExitMeans s after end kept d d₁) e x.output; size = x.size }
+    pub full_refused : {d d₁ : List ℕ} {n line : ℕ} → Exit s after d d₁ (Refused n line) → Exit s from d d₁ (Refused n line)
+    full_refused x = record { answer = x.answer; output = x.output; size = x.size }
 
-      module _ {n g y : ℕ} (e : c ≡ Done n g y) where
-        accepts : Accepts s d n
-        accepts = answer_accepts s d (sym x.answer ∙ e)
+    module _ {d d₁ : List ℕ} {n g y : ℕ} (x : Exit s after d d₁ (Done n g y)) where
+      accepts : Accepts s d n
+      accepts = answer_accepts s d (sym x.answer)
 
-        whole_room : length (numbers_of s) ≤ length d
-        whole_room = accepts.room
+      whole_room : length (numbers_of s) ≤ length d
+      whole_room = accepts.room
 
-        parts : length (numbers_of s) ≡ (st.line - 1) * 7 + 448 + length (numbers_at s after end kept)
-        parts =
-            ap length (v.listed ∙ ap (λ (r : List ℕ). v.before ++ r) b.list) ∙ length-append v.before (entries ++ numbers_at s after end kept)
-            ∙ omega (arith, length-append entries (numbers_at s after end kept), z, v.count)
+      parts : length (numbers_of s) ≡ (from.st.line - 1) * 7 + 448 + length (numbers_at s after.st after.at after.clinic)
+      parts =
+          ap length (v.listed ∙ ap (λ (r : List ℕ). v.before ++ r) b.list) ∙ length-append v.before (entries ++ numbers_at s after.st after.at after.clinic)
+          ∙ omega (arith, length-append entries (numbers_at s after.st after.at after.clinic), z, v.count)
 
-        pub full_room : Room d₁ ((st.line - 1) * 7) entries
-        full_room = omega (arith, z, x.size, whole_room, parts)
+      pub full_room : Room d₁ ((from.st.line - 1) * 7) entries
+      full_room = omega (arith, z, x.size, whole_room, parts)
 
-        pub full_written : {d' : List ℕ} {r : ℕ} → Wrote d₁ d' ((st.line - 1) * 7) r entries → Exit s st at clinic d d' (Done n 0 0)
-        full_written {d'} u =
-            let behind : d₁ ≡ sets d ((after.line - 1) * 7) (numbers_at s after end kept) = subst (ExitMeans s after end kept d d₁) e x.output in
-            let place : (after.line - 1) * 7 ≡ (st.line - 1) * 7 + length entries = omega (arith, b.lines, z, v.midway.low) in
-            record {
-              answer = accepts.done;
-              output =
-                  u.list ∙ ap (λ (y : List ℕ). sets y ((st.line - 1) * 7) entries) (behind ∙ ap (λ (k : ℕ). sets d k (numbers_at s after end kept)) place)
-                  ∙ sets_behind entries (numbers_at s after end kept) d ((st.line - 1) * 7) (omega (arith, z, whole_room, parts))
-                  ∙ ap (sets d ((st.line - 1) * 7)) (sym b.list);
-              size = u.size ∙ x.size;
-            }
+      pub full_written : {d' : List ℕ} {r : ℕ} → Wrote d₁ d' ((from.st.line - 1) * 7) r entries → Exit s from d d' (Done n g y)
+      full_written {d'} u =
+          let behind : d₁ ≡ sets d ((after.st.line - 1) * 7) (numbers_at s after.st after.at after.clinic) = x.output in
+          let place : (after.st.line - 1) * 7 ≡ (from.st.line - 1) * 7 + length entries = omega (arith, b.lines, z, v.midway.low) in
+          record {
+            answer = x.answer;
+            output =
+                u.list ∙ ap (λ (y : List ℕ). sets y ((from.st.line - 1) * 7) entries) (behind ∙ ap (λ (k : ℕ). sets d k (numbers_at s after.st after.at after.clinic)) place)
+                ∙ sets_behind entries (numbers_at s after.st after.at after.clinic) d ((from.st.line - 1) * 7) (omega (arith, z, whole_room, parts))
+                ∙ ap (sets d ((from.st.line - 1) * 7)) (sym b.list);
+            size = u.size ∙ x.size;
+          }
 
-pub ruleset last_laws = (last_end, last_refused, last_short, last_room)
+pub ruleset on_laws = (onward_midway, onward_line, batch_refused, last_end, last_short, last_room, last_written, full_onward, full_refused, full_room, full_written)

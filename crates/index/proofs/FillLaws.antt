@@ -10,35 +10,35 @@ use borrow.Author.Tests.{eq-eqb, ne_eqb}
 use lib.ListN.{length, take, drop, length-append}
 use lib.Seq.{take_all}
 use Rattle.lists.specs.Searching.{part}
-use Rattle.scanning.specs.declared.Line.TheVariants.{Whole, Mark, End, Broken}
+use Rattle.std.specs.Prelude.{Option, Some, None, Result, Ok, Err}
+use Rattle.scanning.specs.declared.lines.Scan.{Scan}
 use Rattle.characters.specs.Rows.{rows, is_line, line_end}
-use Rattle.characters.specs.Scanning.{WholeLine, BrokenRow}
+use Rattle.characters.specs.Scanning.{WholeLine}
 use Rattle.scanning.specs.Scans.{LineOf}
 use Rattle.characters.proofs.RowLaws.{line_is, line_text}
 use Rattle.records.specs.Records.{record_of}
 use Rattle.rules.specs.Places.{in_group}
 use Rattle.order.specs.declared.State.{State}
-use Rattle.order.specs.State.{Step}
-use Rattle.order.specs.State.{Fault, On}
-use Rattle.order.specs.State.{group_of, drug_of}
+use Rattle.order.specs.State.{Step, group_of, drug_of}
 use Rattle.order.proofs.Laws.{next_line}
 use Rattle.notebook.specs.Facts.{facts_of}
 use Rattle.buffers.specs.Buffers.{Room, Wrote}
 use Rattle.buffers.specs.Entries.{seven_numbers}
 use Rattle.buffers.proofs.Runs.{front_more, seven_length}
-use Rattle.replies.specs.Replies.{Answer}
-use Rattle.replies.specs.Replies.{Refused}
+use Rattle.replies.specs.declared.refusal.Refused.{Refused as RefusedAtLine}
+use Rattle.replies.specs.declared.reply.Values.{Values}
+use Rattle.replies.specs.Refusals.{number_of}
+use Rattle.replies.specs.Replies.{Done, Refused}
 use Rattle.notebook.specs.Notebook.{step_line, closed}
 use Rattle.checking.specs.Walking.{tally}
 use Rattle.notebook.proofs.Placing.{Placed, placed, place_number}
 use Rattle.checking.specs.declared.Turn.{Turn}
-use Rattle.checking.specs.declared.Turn.TheVariants.{Over, Refused as TurnRefused, On as TurnOn}
-use Rattle.checking.specs.Turns.{StepAt, RefusedAt, broken, faulty, TurnOf}
-use Rattle.checking.proofs.TurnLaws.{turn_over, turn_refused, turn_step}
+use Rattle.checking.specs.Turns.{TurnOf}
 use Rattle.checking.proofs.LineFacts.{whole_line, whole_length}
 use Rattle.checking.proofs.CheckLaws.{Reading, reading_over, reading_stopped}
 use Rattle.notebook.specs.Index.{Entry, entry_of, entered, entries_from, clinic_after, clinic_of, listed_from, numbers}
 use Rattle.index.specs.Filling.{Spanned, answer_at, numbers_at, BatchOf}
+use Rattle.index.specs.declared.Reader.{Reader}
 use Rattle.index.specs.declared.Batch.TheVariants.{Full, Last}
 
 -- ---- the clinic
@@ -70,38 +70,41 @@ module _ (number clinic : ℕ) {b : Bool} (e : b ≡ in_group number) where
 -- ---- one entry
 
 -- room for seven numbers is room for any seven
-pub entry_room : (d : List ℕ) (next a b c x y z k a' b' c' x' y' z' k' : ℕ) → Room d next (seven_numbers a' b' c' x' y' z' k') → Room d next (seven_numbers a b c x y z k)
+pub entry_room : (d : List ℕ) (next a b c x y z k a' b' c' x' y' z' k' : ℕ) → Room d next (seven_numbers a' b' c' x' y' z' k') → Room d next (a ∷ b ∷ c ∷ x ∷ y ∷ z ∷ k ∷ [])
 unfolding seven_numbers
 entry_room d next a b c x y z k a' b' c' x' y' z' k' r = r
 
 pub entry_written : {d d' : List ℕ} {next behind : ℕ} (st : State) (a b doctor clinic : ℕ) {group drug shown : ℕ}
     → group ≡ group_of st → drug ≡ drug_of st → shown ≡ clinic_of st.place clinic
-    → Wrote d d' next behind (seven_numbers st.place a b group doctor drug shown)
+    → Wrote d d' next behind (st.place ∷ a ∷ b ∷ group ∷ doctor ∷ drug ∷ shown ∷ [])
     → Wrote d d' next behind (seven_numbers st.place a b (group_of st) doctor (drug_of st) (clinic_of st.place clinic))
+unfolding seven_numbers
 entry_written st a b doctor clinic g h i w = rw (g, h, i) at w
+
+pub ruleset entry_laws = (entry_room, entry_written)
 
 -- ---- the walk
 
--- from a state at a position on, with this clinic
-pub record Filling (st₀ : State) (s : List ℕ) (from clinic₀ : ℕ) (st : State) (at : ℕ) (d : List ℕ) (next clinic : ℕ) : Type 0 where
-  pub left : numbers_at s st₀ from clinic₀ ≡ take next d ++ numbers_at s st at clinic
-  pub count : next + st₀.line * 7 ≡ st.line * 7
+-- a call began to read at `from`, has come to `r`, and has written the first `next` numbers of its array
+pub record Filling (from : Reader) (s : List ℕ) (r : Reader) (d : List ℕ) (next : ℕ) : Type 0 where
+  pub left : numbers_at s from.st from.at from.clinic ≡ take next d ++ numbers_at s r.st r.at r.clinic
+  pub count : next + from.st.line * 7 ≡ r.st.line * 7
   pub size : length d ≡ 448
   pub few : next ≤ 448
-  pub begun : from ≤ at
-  pub more : 1 ≤ next → from < at
+  pub begun : from.at ≤ r.at
+  pub more : 1 ≤ next → from.at < r.at
 
-pub filling_start : (st₀ : State) (s : List ℕ) (from clinic₀ : ℕ) (d : List ℕ) → length d ≡ 448 → Filling st₀ s from clinic₀ st₀ from d 0 clinic₀
-filling_start st₀ s from clinic₀ d n = record { left = refl; count = omega arith; size = n; few = omega arith; begun = omega arith; more = λ h. absurd (omega arith) }
+pub filling_start : (from : Reader) (s : List ℕ) (d : List ℕ) → length d ≡ 448 → Filling from s from d 0
+filling_start from s d n = record { left = refl; count = omega arith; size = n; few = omega arith; begun = omega arith; more = λ h. absurd (omega arith) }
 
-module _ {st₀ : State} {s : List ℕ} {from clinic₀ : ℕ} {st : State} {at : ℕ} {d : List ℕ} {next clinic : ℕ}
-    (v : Filling st₀ s from clinic₀ st at d next clinic) (o : Reading st₀ s from st at) where
+module _ {from : Reader} {s : List ℕ} {r : Reader} {d : List ℕ} {next : ℕ}
+    (v : Filling from s r d next) (o : Reading from.st s from.at r.st r.at) where
   -- the array is full
-  pub filling_full : 448 ≤ next → BatchOf s st₀ from clinic₀ d (Full st clinic at)
+  pub filling_full : 448 ≤ next → BatchOf s from d (Ok (Full r))
   filling_full h = record {
     means = record {
       answer = o.left;
-      list = v.left ∙ ap (λ (w : List ℕ). w ++ numbers_at s st at clinic) (take_all next d (omega (arith, v.size)));
+      list = v.left ∙ ap (λ (w : List ℕ). w ++ numbers_at s r.st r.at r.clinic) (take_all next d (omega (arith, v.size)));
       midway = o.midway;
       lines = omega (arith, v.count, v.few);
       less = v.more (omega arith);
@@ -110,108 +113,91 @@ module _ {st₀ : State} {s : List ℕ} {from clinic₀ : ℕ} {st : State} {at 
   }
 
   -- nothing is left
-  all_written : {r : Answer} → r ≡ answer_at s st₀ from → entries_from st at (rows (drop at s)) ≡ [] → BatchOf s st₀ from clinic₀ d (Last r next)
+  all_written : {c : Values} → Done c.a c.b c.c ≡ answer_at s from.st from.at → entries_from r.st r.at (rows (drop r.at s)) ≡ [] → BatchOf s from d (Ok (Last c next))
   unfolding numbers listed_from
   all_written q e = record {
     means = record {
-      answer_is = q;
+      answer = q;
       list =
-          ap (λ (k : ℕ). take k d) {x = next - 0} {y = next} (omega arith) ∙ sym (append-nil (take next d))
-          ∙ ap (λ (es : List Entry). take next d ++ numbers (listed_from (st.line + 1) clinic es)) (sym e) ∙ sym v.left;
+          sym (append-nil (take next d))
+          ∙ ap (λ (es : List Entry). take next d ++ numbers (listed_from (r.st.line + 1) r.clinic es)) (sym e) ∙ sym v.left;
       high = v.few;
     };
     size = v.size;
   }
 
   -- where no record is left
-  module _ {stops : List ℕ} where
-    filling_end : LineOf s at stops End → entries_from st at (rows (drop at s)) ≡ []
-    unfolding entries_from
-    filling_end w = ap (entries_from st at) w.means
+  filling_none : {stops : List ℕ} → LineOf s r.at stops (Ok None) → entries_from r.st r.at (rows (drop r.at s)) ≡ []
+  unfolding entries_from is_line
+  filling_none w = ⊎_elim (ap (entries_from r.st r.at)) (ap (entries_from r.st r.at)) w.means
 
-    filling_mark : LineOf s at stops Mark → entries_from st at (rows (drop at s)) ≡ []
-    unfolding entries_from is_line
-    filling_mark w = ap (entries_from st at) w.means
-
-    filling_broken : LineOf s at stops Broken → entries_from st at (rows (drop at s)) ≡ []
-    unfolding entries_from
-    filling_broken w = go (rows (drop at s)) w.means
-      where
-        go : (rs : List (List ℕ)) → BrokenRow rs → entries_from st at rs ≡ []
-        go [] b = absurd b
-        go (r ∷ rs) b = rw b.0
-
-  module _ {stops : List ℕ} {e : ℕ} {good : Bool} {commas : ℕ} (w : LineOf s at stops (Whole e good commas)) where
-    line : WholeLine s at e good
-    line = whole_line w refl
+  module _ {stops : List ℕ} {l : Scan} (w : LineOf s r.at stops (Ok (Some l))) where
+    line : WholeLine s r.at l.end l.good
+    line = whole_line w
 
     -- the entries of the line here and of those after it
     here : Step → List Entry
-    here = entered at (part s at e) (λ t. entries_from t (e + 2) (rows (drop (e + 2) s)))
+    here = entered r.at (part s r.at l.end) (λ t. entries_from t (l.end + 2) (rows (drop (l.end + 2) s)))
 
-    line_entries : entries_from st at (rows (drop at s)) ≡ here (step_line st (part s at e))
+    line_entries : entries_from r.st r.at (rows (drop r.at s)) ≡ here (step_line r.st (part s r.at l.end))
     unfolding entries_from here
     line_entries =
-        let n : at + length (part s at e ++ line_end) ≡ e + 2 = rw (length-append, whole_length w refl) (omega (arith, line.low)) in
-        rw (line.cut, line_is (part s at e) line.clear, line_text (part s at e) line.clear, n)
+        let n : r.at + length (part s r.at l.end ++ line_end) ≡ l.end + 2 = rw (length-append, whole_length w) (omega (arith, line.low)) in
+        rw (line.cut, line_is (part s r.at l.end) line.clear, line_text (part s r.at l.end) line.clear, n)
 
-    filling_faulty : {n : ℕ} → Fault n ≡ step_line st (part s at e) → entries_from st at (rows (drop at s)) ≡ []
-    unfolding here entered
-    filling_faulty u = line_entries ∙ ap here (sym u)
+  module _ {stops : List ℕ} where
+    pub filling_over : {c : Values} → TurnOf r.st s r.at stops (Ok None) → Done c.a c.b c.c ≡ tally r.st (closed r.st) → BatchOf s from d (Ok (Last c next))
+    filling_over w p = all_written (reading_over o w p) (filling_none w.means)
 
-  module _ {stops : List ℕ} {k : Turn} (w : TurnOf st s at stops k) where
-    pub filling_over : {r : Answer} → k ≡ Over → r ≡ tally st (closed st) → BatchOf s st₀ from clinic₀ d (Last r next)
-    filling_over q p = all_written (reading_over o w q p) (⊎_elim filling_end filling_mark (turn_over w q))
+    -- a refusal answers, of a record or of the end
+    pub filling_stopped : {x : RefusedAtLine} → TurnOf r.st s r.at stops (Err x) → BatchOf s from d (Err x)
+    filling_stopped w = record { means = reading_stopped o w; size = v.size }
 
-    pub filling_stopped : {n : ℕ} → k ≡ TurnRefused n → BatchOf s st₀ from clinic₀ d (Last (Refused n (st.line + 1)) next)
-    filling_stopped {n} q = all_written (reading_stopped o w q) (go (turn_refused w q))
-      where
-        go : RefusedAt st s at stops n → entries_from st at (rows (drop at s)) ≡ []
-        go (broken l e) = filling_broken l
-        go (faulty e m x) = filling_faulty x.line x.step
+    pub filling_missing : {x : RefusedAtLine} → TurnOf r.st s r.at stops (Ok None) → Refused (number_of x.refusal) x.line ≡ tally r.st (closed r.st) → BatchOf s from d (Err x)
+    filling_missing w p = record { means = reading_over o w p; size = v.size }
 
-    module _ {after : State} {rp doctor e commas : ℕ} (q : k ≡ TurnOn after rp doctor e commas) where
-      found : StepAt st s at stops e commas (On after rp doctor)
-      found = turn_step w q
+    module _ {t : Turn} (w : TurnOf r.st s r.at stops (Ok (Some t))) where
+      found : LineOf s r.at stops (Ok (Some (record { end = t.end; good = w.means.good; commas = t.commas })))
+      found = w.means.line
 
-      whole : WholeLine s at e found.good
-      whole = whole_line found.line refl
+      whole : WholeLine s r.at t.end w.means.good
+      whole = whole_line found
 
-      pub filling_span : Spanned at e
+      pub filling_span : Spanned r.at t.end
       filling_span = record { low = whole.low; small = omega (arith, whole.high, o.midway.small) }
 
-      taken_here : Placed st (part s at e) after rp doctor
-      taken_here = placed st (part s at e) after rp doctor (sym found.step)
+      taken_here : Placed r.st (part s r.at t.end) t.moved.state t.moved.rp t.moved.doctor
+      taken_here = placed r.st (part s r.at t.end) t.moved.state t.moved.rp t.moved.doctor (sym w.means.step)
 
-      next_here : after.line ≡ st.line + 1
-      next_here = next_line st (facts_of (record_of (part s at e))) after rp doctor taken_here.step
+      next_here : t.moved.state.line ≡ r.st.line + 1
+      next_here = next_line r.st (facts_of (record_of (part s r.at t.end))) t.moved.state t.moved.rp t.moved.doctor taken_here.step
 
       -- the array is filled entry by entry
       pub filling_room : next < 448 → (a b c x y z u : ℕ) → Room d next (seven_numbers a b c x y z u)
       unfolding seven_numbers
       filling_room h a b c x y z u = omega (arith, v.count, v.size)
 
-      module _ {kept : ℕ} (c : kept ≡ clinic_after after.line clinic after.place) where
+      module _ {kept : ℕ} (c : kept ≡ clinic_after t.moved.state.line r.clinic t.moved.state.place) where
         own : List ℕ
-        own = seven_numbers after.place at (e - at) (group_of after) doctor (drug_of after) (clinic_of after.place kept)
+        own = seven_numbers t.moved.state.place r.at (t.end - r.at) (group_of t.moved.state) t.moved.doctor (drug_of t.moved.state) (clinic_of t.moved.state.place kept)
 
         -- the record's own numbers, and those after it
-        written : numbers_at s st at clinic ≡ own ++ numbers_at s after (e + 2) kept
+        written : numbers_at s r.st r.at r.clinic ≡ own ++ numbers_at s t.moved.state (t.end + 2) kept
         unfolding numbers listed_from here entered entry_of own
         written =
-            ap (λ (es : List Entry). numbers (listed_from (st.line + 1) clinic es)) (line_entries found.line ∙ ap (here found.line) (sym found.step))
-            ∙ rw (c, place_number taken_here, whole_length found.line refl, next_here)
+            ap (λ (es : List Entry). numbers (listed_from (r.st.line + 1) r.clinic es)) (line_entries found ∙ ap (here found) (sym w.means.step))
+            ∙ rw (c, place_number taken_here, whole_length found, next_here)
 
         pub filling_on : {behind : ℕ} {d' : List ℕ}
-            → Wrote d d' next behind (seven_numbers after.place at (e - at) (group_of after) doctor (drug_of after) (clinic_of after.place kept))
-            → Filling st₀ s from clinic₀ after (e + 2) d' behind kept
+            → Wrote d d' next behind (seven_numbers t.moved.state.place r.at (t.end - r.at) (group_of t.moved.state) t.moved.doctor (drug_of t.moved.state) (clinic_of t.moved.state.place kept))
+            → Filling from s (record { st = t.moved.state; clinic = kept; at = t.end + 2 }) d' behind
         unfolding own
         filling_on x =
-            let n = seven_length after.place at (e - at) (group_of after) doctor (drug_of after) (clinic_of after.place kept) in
+            let n = seven_length t.moved.state.place r.at (t.end - r.at) (group_of t.moved.state) t.moved.doctor (drug_of t.moved.state) (clinic_of t.moved.state.place kept) in
             record {
               left =
-                  v.left ∙ ap (λ (r : List ℕ). take next d ++ r) written ∙ sym (append_assoc (take next d) own (numbers_at s after (e + 2) kept))
-                  ∙ ap (λ (r : List ℕ). r ++ numbers_at s after (e + 2) kept) (sym (front_more x));
+                  v.left ∙ ap (λ (x : List ℕ). take next d ++ x) written ∙ sym (append_assoc (take next d) own (numbers_at s t.moved.state (t.end + 2) kept))
+                  ∙ ap (λ (x : List ℕ). x ++ numbers_at s t.moved.state (t.end + 2) kept) (sym (front_more x));
               count = omega (arith, x.next, n, v.count, next_here);
               size = x.size ∙ v.size;
               few = omega (arith, x.high, v.size);
@@ -219,4 +205,4 @@ module _ {st₀ : State} {s : List ℕ} {from clinic₀ : ℕ} {st : State} {at 
               more = λ _. omega (arith, v.begun, whole.low);
             }
 
-pub ruleset filling_laws = (filling_start, filling_full, filling_over, filling_stopped, filling_span, filling_room, filling_on)
+pub ruleset filling_laws = (filling_start, filling_full, filling_over, filling_stopped, filling_missing, filling_span, filling_room, filling_on)

@@ -6,19 +6,19 @@
 
 ghost use Rattle.std.specs.Prelude.{◌-◌, length, ◌≡◌};
 ghost use Rattle.order.specs.State.{group_of, drug_of};
-ghost use Rattle.scanning.specs.Scans.{Sixteen};
-ghost use Rattle.codes.specs.Codes.{Lent};
 ghost use Rattle.buffers.specs.Buffers.{Room, Wrote};
 ghost use Rattle.buffers.specs.Entries.{seven_numbers};
-ghost use Rattle.checking.specs.Walking.{Midway};
 ghost use Rattle.notebook.specs.Index.{clinic_after, clinic_of, index_result};
+ghost use Rattle.replies.specs.Replies.{answer};
 ghost use Rattle.replies.specs.CallContracts.{Gives};
-ghost use Rattle.index.specs.Filling.{Spanned, BatchOf, Onward, Exit};
+ghost use Rattle.index.specs.Filling.{Spanned, MidwayIn, BatchOf, Onward, Exit};
 
-use replies::Answer;
+use order::State;
+use replies::{Answer, Refusal, Refused, Values};
 
 // The line of the group's 51, or 0, after a record with this number at a line; before: what it was before the record. The index alone asks
 // for it, so it is no part of the state that every call carries.
+#[tactic(auto, using(crate::proofs::FillLaws::clinic_laws))]
 fn clinic_after(line: u32, before: u32, number: u32) -> u32
     ensures { result ≡ clinic_after line before number }
 {
@@ -30,6 +30,7 @@ fn clinic_after(line: u32, before: u32, number: u32) -> u32
 }
 
 // The clinic that a record shows: none outside groups.
+#[tactic(auto, using(crate::proofs::FillLaws::clinic_inside, crate::proofs::FillLaws::clinic_outside))]
 fn clinic_of(number: u32, clinic: u32) -> u32
     ensures { result ≡ clinic_of number clinic }
 {
@@ -37,12 +38,13 @@ fn clinic_of(number: u32, clinic: u32) -> u32
 }
 
 // The entry of a record whose line stands from at to end and moved the reader to the state; clinic: the line of its group's 51, or 0.
+#[tactic(auto, using(crate::proofs::FillLaws::entry_laws))]
 fn put_entry(
     entries: &mut [u32],
     next: usize,
     at: usize,
     end: usize,
-    st: order::State,
+    st: State,
     doctor: u32,
     clinic: u32,
 ) -> usize
@@ -53,114 +55,92 @@ fn put_entry(
 {
     let offset = at as u32;
     let bytes = (end - at) as u32;
-    let group = st.group();
-    let drug = st.drug();
     let shown = clinic_of(st.place, clinic);
-    buffers::put_seven(
-        entries, next, st.place, offset, bytes, group, doctor, drug, shown,
+    buffers::put_all(
+        entries,
+        next,
+        &[st.place, offset, bytes, st.group(), doctor, st.drug(), shown],
     )
 }
 
-// What a call reads: 64 records, seven numbers each, and then it is in this state, with this clinic kept, at this position; or the last
-// records, with what check answers and how many numbers their entries have.
+// Where a call begins to read: the state, the line of the group's 51 or 0, and the position.
+#[derive(Clone, Copy)]
+pub struct Reader {
+    pub st: State,
+    pub clinic: u32,
+    pub at: usize,
+}
+
+// What a call reads: 64 records, seven numbers each, and where it is then; or the last records, with the counts of the file and how many numbers
+// the entries have.
 #[derive(Clone, Copy)]
 enum Batch {
-    Full(order::State, u32, usize),
-    Last(Answer, usize),
+    Full(Reader),
+    Last(Values, usize),
 }
 
-// Checks the records from a position on and writes their entries, until the array is full or no record follows, or one is refused.
-fn read_batch(
-    codes: &[usize; 83],
-    stops: &mut [usize; 16],
-    start: order::State,
-    clinic: u32,
-    s: &[u8],
-    from: usize,
-    entries: &mut [u32],
-) -> Batch
-    requires lent { Lent codes.now }
-    requires sixteen { Sixteen stops.old }
-    requires midway { Midway s.now start from }
-    requires entries_len { length entries.old ≡ 448 }
-    ensures batch_of { BatchOf s.now start from clinic entries.new result }
-    ensures sixteen_2 { Sixteen stops.new }
+// Checks the records from a position on and writes their entries, until the array is full or no record follows.
+fn read_batch(from: Reader, s: &[u8], entries: &mut [u32; 448]) -> Result<Batch, Refused>
+    requires { MidwayIn s.now from }
+    ensures { BatchOf s.now from entries.new result }
 {
-    let mut st = start;
-    let mut kept = clinic;
-    let mut at = from;
-    let mut next: usize = 0;
+    let mut stops = [0usize; 16];
+    let mut reader = from;
+    let mut next = 0;
     while next < 448 {
-        match checking::read_record(codes, stops, st, s, at) {
-            checking::Turn::Over => return Batch::Last(checking::close(st), next),
-            checking::Turn::Refused(n) => {
-                return Batch::Last(Answer::Refused(n, st.line + 1), next);
-            }
-            checking::Turn::On(after, _, doctor, end, _) => {
-                kept = clinic_after(after.line, kept, after.place);
-                next = put_entry(entries, next, at, end, after, doctor, kept);
-                st = after;
-                at = end + 2;
-            }
-        }
+        let Some(turn) = checking::read_record(&mut stops, reader.st, s, reader.at)? else {
+            return Ok(Batch::Last(checking::close(reader.st)?, next));
+        };
+        let after = turn.moved.state;
+        let clinic = clinic_after(after.line, reader.clinic, after.place);
+        next = put_entry(entries, next, reader.at, turn.end, after, turn.moved.doctor, clinic);
+        reader = Reader {
+            st: after,
+            clinic,
+            at: turn.end + 2,
+        };
     }
-    Batch::Full(st, kept, at)
+    Ok(Batch::Full(reader))
 }
 
-// Reads on from a state at a position, and writes the entries from there on if the file is accepted and the output holds its index. The
-// first of them goes after seven numbers for each record before it.
-fn index_on(
-    codes: &[usize; 83],
-    stops: &mut [usize; 16],
-    st: order::State,
-    clinic: u32,
-    s: &[u8],
-    at: usize,
-    out: &mut [u32],
-) -> Answer
-    requires lent { Lent codes.now }
-    requires sixteen { Sixteen stops.old }
-    requires onward { Onward s.now st at clinic }
-    ensures { Exit s.now st at clinic out.old out.new result }
+// Reads on from a position, and writes the entries from there on if the file is accepted and the output holds its index. The first of them goes
+// after seven numbers for each record before it.
+fn index_on(from: Reader, s: &[u8], out: &mut [u32]) -> Answer
+    requires { Onward s.now from }
+    ensures { Exit s.now from out.old out.new (answer result) }
 {
     let mut entries = [0u32; 448];
-    let first = 0;
-    match read_batch(codes, stops, st, clinic, s, at, &mut entries) {
-        Batch::Last(answer, filled) => match answer {
-            Answer::Refused(number, line) => Answer::Refused(number, line),
-            Answer::Done(records, _, _) => {
-                if out.len() < (records as usize) * 7 {
-                    return Answer::Refused(20, 0);
-                }
-                let next = ((st.line - 1) as usize) * 7;
-                buffers::copy_numbers(out, next, &entries[first..filled]);
-                Answer::Done(records, 0, 0)
+    let next = (from.st.line - 1) as usize * 7;
+    match read_batch(from, s, &mut entries)? {
+        Batch::Last(counts, filled) => {
+            let records = counts.a;
+            if out.len() < records as usize * 7 {
+                return Err(Refusal::Short.at(0));
             }
-        },
-        Batch::Full(after, kept, end) => {
-            match index_on(codes, stops, after, kept, s, end, out) {
-                Answer::Refused(number, line) => Answer::Refused(number, line),
-                Answer::Done(records, _, _) => {
-                    let next = ((st.line - 1) as usize) * 7;
-                    buffers::copy_numbers(out, next, &entries);
-                    Answer::Done(records, 0, 0)
-                }
-            }
+            buffers::put_all(out, next, &entries[..filled]);
+            Ok(Values {
+                a: records,
+                b: 0,
+                c: 0,
+            })
+        }
+        Batch::Full(after) => {
+            let written = index_on(after, s, out)?;
+            buffers::put_all(out, next, &entries);
+            Ok(written)
         }
     }
 }
 
 // The index of an accepted file, or the one refusal.
 pub fn index(s: &[u8], out: &mut [u32]) -> Answer
-    ensures { Gives (index_result s.now) out.old out.new result }
+    ensures { Gives (index_result s.now) out.old out.new (answer result) }
 {
-    match checking::open_file(s) {
-        checking::Opening::Refused(number, line) => Answer::Refused(number, line),
-        checking::Opening::Records(provider, from) => {
-            let codes = codes::item_codes();
-            let mut stops = [0usize; 16];
-            let st = order::State::new(provider);
-            index_on(&codes, &mut stops, st, 0, s, from, out)
-        }
-    }
+    let opening = checking::open_file(s)?;
+    let start = Reader {
+        st: State::new(opening.provider),
+        clinic: 0,
+        at: opening.from,
+    };
+    index_on(start, s, out)
 }

@@ -1,12 +1,10 @@
-use Prim.Native.Nat.{◌-◌}
+use Rattle.std.proofs.Common.{◌-◌, length}
 use Rattle.checking.proofs.CheckLaws.{Reading}
 use Rattle.index.proofs.FillLaws.{Filling}
-use Rattle.scanning.specs.Scans.{Sixteen}
-use lib.ListN.{length}
 use Rattle.index.proofs.read_batch.Given as goal
 
-abbrev pub invariant-loop-next : goal.invariant-loop-next
-invariant-loop-next l = Reading l.initial.st l.s l.from l.st l.at × Filling l.initial.st l.s l.from l.initial.kept l.st l.at l.entries l.next l.kept × Sixteen l.stops
+abbrev pub invariant-loop-reader : goal.invariant-loop-reader
+invariant-loop-reader l = Reading l.initial.from.st l.s l.initial.from.at l.reader.st l.reader.at × Filling l.initial.from l.s l.reader l.entries l.next
 
-abbrev pub decreases-loop-next : goal.decreases-loop-next
-decreases-loop-next l = length l.s - l.at
+abbrev pub decreases-loop-reader : goal.decreases-loop-reader
+decreases-loop-reader l = length l.s - l.reader.at
