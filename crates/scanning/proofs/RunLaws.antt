@@ -447,19 +447,26 @@ pub ruleset telling_laws = (telling_start, telling_fits, telling_over, telling_c
 -- ---- the ways through scan_text, each after a run
 
 module _ {s : List ℕ} {at : ℕ} {a₀ a : List ℕ} {i e : ℕ} {good : Bool} {n : ℕ} (v : Scanned s at a₀ a i good n) (w : RunOf s i e) where
-  pub run_comma : e < length s → get_or s e 0 ≡ 0x2c → n < 16 → Scanned s at a₀ (set a n (e - at)) (e + 1) good (n + 1)
-  run_comma h c k = scan_comma (run_scanned v w) h c k
+  pub run_over : length s ≤ e → ScanOf s at a (record { end = e; good = good; commas = n })
+  run_over h = scan_end (run_scanned v w) h
 
-  pub run_more : e < length s → get_or s e 0 ≡ 0x2c → 16 ≤ n → Scanned s at a₀ a (e + 1) good (n + 1)
-  run_more h c k = scan_more (run_scanned v w) h c k
+  module _ (h : e < length s) where
+    pub run_stop : {x : Bool} → x ≡ is_stop (get_or s e 0) → x ≡ true → ScanOf s at a (record { end = e; good = good; commas = n })
+    run_stop p t = scan_stop (run_scanned v w) h p t
 
-  pub run_stop : e < length s → {x : Bool} → x ≡ is_stop (get_or s e 0) → x ≡ true → ScanOf s at a (record { end = e; good = good; commas = n })
-  run_stop h p t = scan_stop (run_scanned v w) h p t
+    -- what is kept after the byte: a', good' and n'
+    module _ {a' : List ℕ} {good' : Bool} {n' : ℕ} where
+      pub run_comma : get_or s e 0 ≡ 0x2c → n < 16 → a' ≡ set a n (e - at) → good' ≡ good → n' ≡ n + 1 → Scanned s at a₀ a' (e + 1) good' n'
+      run_comma c k p q r = rw (p, q, r) (scan_comma (run_scanned v w) h c k)
 
-  pub run_bad : e < length s → RunEnds s e → (get_or s e 0 ≡ 0x2c → ⊥) → {x : Bool} → x ≡ is_stop (get_or s e 0) → x ≡ false → Scanned s at a₀ a (e + 1) false n
-  run_bad h z c p f = ⊎_elim (λ k. absurd (c k)) (λ b. scan_bad (run_scanned v w) h b p f) (z.holds h)
+      pub run_more : get_or s e 0 ≡ 0x2c → 16 ≤ n → a' ≡ a → good' ≡ good → n' ≡ n + 1 → Scanned s at a₀ a' (e + 1) good' n'
+      run_more c k p q r = rw (p, q, r) (scan_more (run_scanned v w) h c k)
 
-pub ruleset pass_laws = (scan_start, scan_end, run_scanned, run_comma, run_more, run_stop, run_bad)
+      pub run_bad : RunEnds s e → (get_or s e 0 ≡ 0x2c → ⊥) → {x : Bool} → x ≡ is_stop (get_or s e 0) → x ≡ false
+          → a' ≡ a → good' ≡ false → n' ≡ n → Scanned s at a₀ a' (e + 1) good' n'
+      run_bad z c f t p q r = rw (p, q, r) (⊎_elim (λ k. absurd (c k)) (λ b. scan_bad (run_scanned v w) h b f t) (z.holds h))
+
+pub ruleset pass_laws = (scan_end, run_over, run_stop)
 
 -- ---- the character 8140h, as `is_blank_pair` reads it
 
