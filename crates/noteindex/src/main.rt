@@ -6,8 +6,11 @@
 
 ghost use Rattle.std.specs.Prelude.{◌≤◌, length};
 
+// The numbers of a record.
+const NUMBERS: usize = 7;
+
 // The lines of at most 64 records at the text's front; a line has at most 147 bytes.
-fn put_lines(text: &mut [u8; 9408], records: &[[u32; 7]]) -> usize
+fn put_lines(text: &mut [u8; 9408], records: &[[u32; NUMBERS]]) -> usize
     requires { length records.now ≤ 64 }
     ensures { result ≤ 9408 }
 {
@@ -19,7 +22,7 @@ fn put_lines(text: &mut [u8; 9408], records: &[[u32; 7]]) -> usize
 }
 
 // The lines of 64 records by one write.
-fn write_records(rt: &HostRuntime, records: &[[u32; 7]]) {
+fn write_records(rt: &HostRuntime, records: &[[u32; NUMBERS]]) {
     for part in records.chunks(64) {
         let mut text = [0u8; 9408];
         let end = put_lines(&mut text, part);
@@ -34,11 +37,12 @@ fn main(rt: HostRuntime) {
     let Ok(n) = inputs::read_all(&mut rt.stdin(), &mut file) else {
         return answers::write_error(&mut rt.stderr(), b"read");
     };
-    let mut records = [[0u32; 7]; 8192];
-    let reply = gateway::notebook_index(&file[..n], records.as_flattened_mut());
+    let mut entries = [0u32; 57344];
+    let reply = gateway::notebook_index(&file[..n], &mut entries);
     if reply.refusal != 0 {
         return answers::write_reply(&mut rt.stdout(), &mut rt.stderr(), 1, reply);
     }
+    let (records, _) = entries.as_chunks::<NUMBERS>();
     if let Some(records) = records.get(..reply.a as usize) {
         write_records(&rt, records);
     }
