@@ -1,10 +1,7 @@
 -- Known bytes over several writes: those that one write adds stand behind those of the writes before it. Assumes nothing.
-use Rattle.std.proofs.Common.{ℕ, ◌+◌, ◌≡◌, List, length, take, drop, Option, sym, ap, ◌∙◌, take-add, take_all, ◌-◌, ◌≤◌, length-drop, arith}
+use Rattle.std.proofs.Common.{ℕ, ◌+◌, ◌≡◌, List, length, take, drop, Option, take-add, take_all, ◌-◌, ◌≤◌, length-drop, arith}
 use Rattle.std.proofs.KnownBytes.{Appends-trans}
-use Rattle.std.proofs.lemmas.List.{take_at}
 use Rattle.std.specs.Io.KnownBytes.{Appends}
-use Rattle.replies.specs.declared.reply.Reply.{Reply}
-use Rattle.printing.specs.Printed.{printed, Prints}
 use Rattle.answers.specs.Written.{WrittenInPart}
 
 pub appends_more : (a b c : Option (List ℕ)) (done more : ℕ) (s : List ℕ) → Appends a b (take done s)
@@ -17,6 +14,3 @@ appends_more a b c done more s h k =
 -- what was written of a buffer's front
 pub part_of : (a b : Option (List ℕ)) {s t : List ℕ} → s ≡ t → WrittenInPart a b s → WrittenInPart a b t
 part_of a b e w = rw e at w
-
-pub prints_front : {values : ℕ} {r : Reply} {d d' : List ℕ} {n : ℕ} → Prints values r d d' n → take n d' ≡ printed values r
-prints_front {values} {r} {d} {d'} {n} w = ap (λ v. take n v) w.buffer ∙ take_at (printed values r) (drop n d) n (sym w.count)

@@ -4,7 +4,6 @@ use Rattle.std.proofs.Math.Seq.{take-suc}
 use Rattle.std.proofs.lemmas.Fmt.{decimal_by_steps}
 use Rattle.std.specs.Fmt as Fmt
 use Rattle.inputs.specs.Counts.{IsPrefixLen}
-use Rattle.inputs.proofs.Bytes.{prefix_len_of_le}
 use Rattle.lists.specs.Lists.{bytes}
 use Rattle.buffers.specs.Buffers.{Wrote}
 use Rattle.buffers.proofs.Runs.{sets_all, then}
@@ -50,8 +49,6 @@ one_more {ns} {d} {d₁} {d₂} {at} {i} {r} {e} h w x k =
     rw (add-one i, take-suc ns i 0 h, spaced_append, spaced_one) in
     record { wrote = rw text (then w.wrote x); short = omega (arith, w.short) }
 
-pub ruleset numbers_laws = (none_spaced, one_more)
-
 -- ---- a line
 
 module _ {d d₁ d₂ : List ℕ} {at i j : ℕ} {word : List ℕ} (ns : List ℕ) (x : Wrote d d₁ at i word) (y : Wrote d₁ d₂ i j (spaced ns)) where
@@ -65,10 +62,6 @@ pub entry_wrote : {d d₁ d₂ d₃ text others : List ℕ} {at i j k : ℕ} (fi
 entry_wrote {others = others} first x y e z = line_wrote others x (rw e at y) z
 
 -- ---- at a buffer's front
-
--- the bytes there are counted
-pub front_counts : {d d' : List ℕ} {n : ℕ} {w : List ℕ} → Wrote d d' 0 n w → IsPrefixLen n d'
-front_counts {d} {d'} {n} w = prefix_len_of_le n d' (omega (arith, w.high, w.size))
 
 module _ {d d' : List ℕ} {n : ℕ} (values : ℕ) (r : Reply) where
   -- a line at a buffer's front

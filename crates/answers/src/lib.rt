@@ -13,8 +13,7 @@ ghost use Rattle.printing.specs.Printed.{decimal, spaced, line, printed, Prints}
 ghost use Rattle.answers.specs.Written.{Written, WrittenInPart};
 
 use replies::Reply;
-use std::io;
-use std::io::{ErrorKind, Write};
+use std::io::{ErrorKind, Result, Write};
 
 // A number, which has at most 20 digits.
 pub fn put_decimal(out: &mut [u8], at: usize, n: u64) -> usize
@@ -95,7 +94,7 @@ pub fn put_entry(out: &mut [u8], at: usize, numbers: &[u64; 7]) -> usize
 }
 
 // Writes bytes whole. A write that takes nothing ends it, and so does one that fails, also where a signal interrupts it before it takes a byte.
-pub fn write_whole<W: Write>(to: &mut W, bytes: &[u8]) -> io::Result<()>
+pub fn write_whole<W: Write>(to: &mut W, bytes: &[u8]) -> Result<()>
     ensures { Written result (W.contents to.old) (W.contents to.new) bytes.now }
 {
     let mut done: usize = 0;
@@ -137,7 +136,7 @@ pub fn write_error_at<E: Write>(err: &mut E, word: &[u8], k: u64)
 }
 
 // Writes bytes whole to standard output; where that fails, tells it.
-pub fn write_output<O: Write, E: Write>(out: &mut O, err: &mut E, bytes: &[u8]) -> io::Result<()>
+pub fn write_output<O: Write, E: Write>(out: &mut O, err: &mut E, bytes: &[u8]) -> Result<()>
     ensures written { Written result (O.contents out.old) (O.contents out.new) bytes.now }
     ensures silent { OnOk result (Keeps (E.contents err.old) (E.contents err.new)) }
 {
@@ -149,7 +148,7 @@ pub fn write_output<O: Write, E: Write>(out: &mut O, err: &mut E, bytes: &[u8]) 
 }
 
 // Writes the line of a reply.
-fn write_reply_to<W: Write>(to: &mut W, values: usize, r: Reply) -> io::Result<()>
+fn write_reply_to<W: Write>(to: &mut W, values: usize, r: Reply) -> Result<()>
     ensures { Written result (W.contents to.old) (W.contents to.new) (printed values r) }
 {
     let mut text = [0u8; 66];

@@ -16,354 +16,294 @@
 //   line 3; the sign is `.` where check accepts the file, the refusal's digit where it refuses line 3, and `?` where it refuses another.
 #![tactic(auto)]
 
-ghost use Rattle.std.specs.Prelude.{◌≤◌, length};
+use replies::Reply;
 
-use inputs::Input;
+// Room for every input, every run of used IDs and every result.
+const ROOM: usize = 140000;
 
 // --- reading and writing ---
 
-// At the end of the input every byte is 255, which is no call.
+// The next bytes of the input; after its end every byte is 255.
+fn read_array<const N: usize>(rt: &HostRuntime) -> [u8; N] {
+    let mut bytes = [255u8; N];
+    let _ = inputs::read_all(&mut rt.stdin(), &mut bytes);
+    bytes
+}
+
 fn read_byte(rt: &HostRuntime) -> u8 {
-    let mut one = [255u8; 1];
-    inputs::read_all(&mut rt.stdin(), &mut one);
-    one[0]
+    u8::from_be_bytes(read_array(rt))
 }
 
-fn read_two(rt: &HostRuntime) -> u64
-    ensures { result ≤ 65535 }
-{
-    let high = read_byte(rt);
-    let low = read_byte(rt);
-    high as u64 * 256 + low as u64
-}
-
-fn read_four(rt: &HostRuntime) -> u64
-    ensures { result ≤ 4294967295 }
-{
-    let high = read_two(rt);
-    let low = read_two(rt);
-    high * 65536 + low
+fn read_four(rt: &HostRuntime) -> u32 {
+    u32::from_be_bytes(read_array(rt))
 }
 
 fn read_eight(rt: &HostRuntime) -> u64 {
-    let high = read_four(rt);
-    let low = read_four(rt);
-    high * 4294967296 + low
+    u64::from_be_bytes(read_array(rt))
 }
 
-// Reads so many bytes to the front of the buffer, none where it has no room for them; how many it read.
-fn read_run(rt: &HostRuntime, buf: &mut [u8], count: u64) -> usize
-    ensures { result ≤ length buf.new }
-{
-    let start = 0;
-    let end = count as usize;
-    if buf.len() < end {
-        return 0;
+// Reads so many bytes to the front of the buffer, none where it has no room for them; those that it read.
+fn read_run<'a>(rt: &HostRuntime, buffer: &'a mut [u8], count: u32) -> &'a [u8] {
+    let Some(run) = buffer.get_mut(..count as usize) else {
+        return &[];
+    };
+    let n = inputs::read_all(&mut rt.stdin(), run).unwrap_or(0);
+    &run[..n]
+}
+
+fn write(rt: &HostRuntime, bytes: &[u8]) {
+    let _ = answers::write_whole(&mut rt.stdout(), bytes);
+}
+
+// --- the elements of a buffer that is lent ---
+
+trait Element: Copy {
+    // What stands at an index before the call.
+    fn pattern(index: usize) -> Self;
+
+    // Writes the element, with a space before the first or before each.
+    fn write(self, rt: &HostRuntime, first: bool);
+
+    // The sum with the element's bytes.
+    fn add_to(self, sum: u32) -> u32;
+}
+
+impl Element for u8 {
+    fn pattern(index: usize) -> u8 {
+        ((index % 251 * 7 + 3) % 251) as u8
     }
-    match inputs::read_all(&mut rt.stdin(), &mut buf[start..end]) {
-        Input::Bytes(n) => n,
-        Input::Failed => 0,
+
+    fn write(self, rt: &HostRuntime, first: bool) {
+        if first {
+            write(rt, b" ");
+        }
+        let byte = self;
+        let _ = print!(rt; "{byte:02x}");
+    }
+
+    fn add_to(self, sum: u32) -> u32 {
+        adler(sum, self)
     }
 }
 
-fn write_byte(rt: &HostRuntime, b: u8) {
-    let one = [b; 1];
-    answers::write_whole(&mut rt.stdout(), &one);
-}
+impl Element for u32 {
+    fn pattern(index: usize) -> u32 {
+        ((index % 1000003 * 7919 + 13) % 1000003) as u32
+    }
 
-// --- the buffer before the call ---
+    fn write(self, rt: &HostRuntime, _first: bool) {
+        answers::write_number(&mut rt.stdout(), u64::from(self));
+    }
 
-fn fill_bytes(out: &mut [u8]) {
-    let mut i: usize = 0;
-    while i < out.len() {
-        out[i] = ((i % 251 * 7 + 3) % 251) as u8;
-        i += 1;
+    fn add_to(self, sum: u32) -> u32 {
+        self.to_be_bytes()
+            .iter()
+            .fold(sum, |sum, byte| adler(sum, *byte))
     }
 }
-
-fn fill_numbers(out: &mut [u32]) {
-    let mut i: usize = 0;
-    while i < out.len() {
-        out[i] = ((i % 1000003 * 7919 + 13) % 1000003) as u32;
-        i += 1;
-    }
-}
-
-// --- the buffer after the call ---
 
 // The Adler-32 sum (RFC 1950) with one more byte.
-fn adler(sum: u64, byte: u64) -> u64 {
-    let a = (sum % 65536 + byte % 256) % 65521;
-    let b = (sum / 65536 % 65536 + a) % 65521;
+fn adler(sum: u32, byte: u8) -> u32 {
+    let a = (sum % 65536 + u32::from(byte)) % 65521;
+    let b = (sum / 65536 + a) % 65521;
     b * 65536 + a
 }
 
-// The sum with one more element; the element is written where the buffer has few.
-fn add_byte(rt: &HostRuntime, sum: u64, element: u8, count: usize) -> u64 {
-    let n = element as u64;
-    if count <= 200 {
-        let _ = print!(rt; "{n:02x}");
+// The elements, or where there are more than 200 their count and their sum.
+fn write_buffer<T: Element>(rt: &HostRuntime, buffer: &[T]) {
+    if buffer.len() <= 200 {
+        for (i, element) in buffer.iter().enumerate() {
+            element.write(rt, i == 0);
+        }
+    } else {
+        let sum = buffer.iter().fold(1, |sum, element| element.add_to(sum));
+        answers::write_number(&mut rt.stdout(), buffer.len() as u64);
+        let _ = print!(rt; " {sum:08x}");
     }
-    adler(sum, n)
-}
-
-fn add_number(rt: &HostRuntime, sum: u64, element: u32, count: usize) -> u64 {
-    let n = element as u64;
-    if count <= 200 {
-        answers::write_number(&mut rt.stdout(), n);
-    }
-    let high = adler(adler(sum, n / 16777216), n / 65536);
-    adler(adler(high, n / 256), n)
-}
-
-// The space before bytes that are written; a number has its own.
-fn begin_bytes(rt: &HostRuntime, count: usize) {
-    if (0 < count) & (count <= 200) {
-        write_byte(rt, b' ');
-    }
-}
-
-fn end_buffer(rt: &HostRuntime, sum: u64, count: usize) {
-    if 200 < count {
-        answers::write_number(&mut rt.stdout(), count as u64);
-        write_byte(rt, b' ');
-        let _ = print!(rt; "{sum:08x}");
-    }
-    write_byte(rt, b'\n');
-}
-
-fn write_bytes(rt: &HostRuntime, out: &[u8]) {
-    begin_bytes(rt, out.len());
-    let mut sum: u64 = 1;
-    let mut i: usize = 0;
-    while i < out.len() {
-        sum = add_byte(rt, sum, out[i], out.len());
-        i += 1;
-    }
-    end_buffer(rt, sum, out.len());
-}
-
-fn write_numbers(rt: &HostRuntime, out: &[u32]) {
-    let mut sum: u64 = 1;
-    let mut i: usize = 0;
-    while i < out.len() {
-        sum = add_number(rt, sum, out[i], out.len());
-        i += 1;
-    }
-    end_buffer(rt, sum, out.len());
+    write(rt, b"\n");
 }
 
 // --- the reply ---
 
 // The fields that a reply of index, canonical, cut or join does not use.
-fn unused(values: usize, r: replies::Reply) -> u64 {
-    if r.refusal != 0 {
-        return r.a | r.b | r.c;
+fn unused(values: usize, reply: Reply) -> u64 {
+    if reply.refusal != 0 {
+        return reply.a | reply.b | reply.c;
     }
     if values == 2 {
-        return r.line | r.c;
+        return reply.line | reply.c;
     }
-    r.line | r.b | r.c
+    reply.line | reply.b | reply.c
 }
 
 // The line of a reply without its 0Ah, and a semicolon. Fields that the reply does not use are 0; where one is not, an exclamation mark shows it.
-fn write_reply(rt: &HostRuntime, values: usize, r: replies::Reply) {
-    let start = 0;
+fn write_reply(rt: &HostRuntime, values: usize, reply: Reply) {
     let mut text = [0u8; 66];
-    let end = lists::before(answers::print(values, r, &mut text));
-    answers::write_whole(&mut rt.stdout(), &text[start..end]);
-    if unused(values, r) != 0 {
-        write_byte(rt, b'!');
+    let end = answers::print(values, reply, &mut text).saturating_sub(1);
+    write(rt, &text[..end]);
+    if unused(values, reply) != 0 {
+        write(rt, b"!");
     }
-    write_byte(rt, b';');
-}
-
-// --- the calls with a lent buffer ---
-
-fn index(rt: &HostRuntime, input: &[u8], out: &mut [u32]) {
-    fill_numbers(out);
-    write_reply(rt, 1, gateway::notebook_index(input, out));
-    write_numbers(rt, out);
-}
-
-// Room for the index of a file with the most records, 8,192. A function of its own, as `bytes` is, for the same reason.
-fn numbers() -> [u32; 57344] {
-    [0u32; 57344]
-}
-
-fn lend_numbers(rt: &HostRuntime, input: &[u8], room: usize) {
-    let start = 0;
-    let mut space = numbers();
-    if room <= space.len() {
-        index(rt, input, &mut space[start..room]);
-    }
-}
-
-fn reply_of(
-    call: u8,
-    input: &[u8],
-    capacity: u64,
-    id: &[u8],
-    used: &[u8],
-    out: &mut [u8],
-) -> replies::Reply {
-    match call {
-        b'c' => gateway::notebook_canonical(input, out),
-        b'k' => gateway::notebook_cut(input, capacity, id, used, out),
-        _ => gateway::notebook_join(input, out),
-    }
-}
-
-fn values_of(call: u8) -> usize {
-    match call {
-        b'k' => 2,
-        _ => 1,
-    }
-}
-
-fn rewrite(
-    rt: &HostRuntime,
-    call: u8,
-    input: &[u8],
-    capacity: u64,
-    id: &[u8],
-    used: &[u8],
-    space: &mut [u8],
-    room: usize,
-) {
-    let start = 0;
-    if space.len() < room {
-        return;
-    }
-    let out = &mut space[start..room];
-    fill_bytes(out);
-    let r = reply_of(call, input, capacity, id, used, out);
-    write_reply(rt, values_of(call), r);
-    write_bytes(rt, out);
-}
-
-// Room for every input, every run of used IDs and every result. It is a function of its own so that a proof has the length from the type: where the zeros
-// stand beside the part that is lent, the prover counts them, for seconds.
-fn bytes() -> [u8; 140000] {
-    [0u8; 140000]
-}
-
-fn lend_bytes(
-    rt: &HostRuntime,
-    call: u8,
-    input: &[u8],
-    capacity: u64,
-    id: &[u8],
-    used: &[u8],
-    room: usize,
-) {
-    let mut space = bytes();
-    rewrite(rt, call, input, capacity, id, used, &mut space, room);
+    write(rt, b";");
 }
 
 // --- all pairs of bytes ---
 
 // 48 is the digit 0; the signs of 10 and more follow those of the digits.
-fn sign(r: replies::Reply) -> u8 {
-    if r.refusal == 0 {
+fn sign(reply: Reply) -> u8 {
+    if reply.refusal == 0 {
         return b'.';
     }
-    if r.line != 3 {
+    if reply.line != 3 {
         return b'?';
     }
-    (48 + r.refusal % 200) as u8
-}
-
-fn write_pair(rt: &HostRuntime, n: usize) {
-    let mut file = *b"JAHISTC04,2\r\n1,A,1,19890108,,,,,,,\r\n4,x__x,,2\r\n";
-    file[39] = (n / 256 % 256) as u8;
-    file[40] = (n % 256) as u8;
-    write_byte(rt, sign(gateway::notebook_check(&file)));
-    if n % 256 == 255 {
-        write_byte(rt, b'\n');
-    }
+    (48 + reply.refusal % 200) as u8
 }
 
 fn write_pairs(rt: &HostRuntime) {
-    answers::write_whole(&mut rt.stdout(), b"256 lines\n");
-    let mut n: usize = 0;
-    while n < 65536 {
-        write_pair(rt, n);
-        n += 1;
+    write(rt, b"256 lines\n");
+    let mut file = *b"JAHISTC04,2\r\n1,A,1,19890108,,,,,,,\r\n4,x__x,,2\r\n";
+    for first in 0..=u8::MAX {
+        for second in 0..=u8::MAX {
+            file[39] = first;
+            file[40] = second;
+            write(rt, &[sign(gateway::notebook_check(&file))]);
+        }
+        write(rt, b"\n");
     }
 }
 
 // --- frames ---
 
-fn answer(
-    rt: &HostRuntime,
-    call: u8,
-    room: u64,
+#[derive(Clone, Copy)]
+enum Call {
+    Check,
+    Index,
+    Canonical,
+    Cut,
+    Join,
+    Pairs,
+}
+
+impl Call {
+    // None at the end of the input; a letter that names no call is taken for join's.
+    fn from_letter(letter: u8) -> Option<Call> {
+        match letter {
+            b'v' => Some(Call::Check),
+            b'i' => Some(Call::Index),
+            b'c' => Some(Call::Canonical),
+            b'k' => Some(Call::Cut),
+            b'p' => Some(Call::Pairs),
+            255 => None,
+            _ => Some(Call::Join),
+        }
+    }
+}
+
+// What a frame asks for.
+#[derive(Clone, Copy)]
+struct Frame<'a> {
+    call: Call,
+    room: usize,
     capacity: u64,
-    id: &[u8],
-    used: &[u8],
-    input: &[u8],
-) {
-    match call {
-        b'v' => answers::write_reply(
+    id: &'a [u8],
+    used: &'a [u8],
+    input: &'a [u8],
+}
+
+// Lends a call the front of a buffer, and writes its reply and what it leaves; nothing where the buffer has no such room.
+fn lend<T: Element, F: FnOnce(&mut [T]) -> Reply>(
+    rt: &HostRuntime,
+    buffer: &mut [T],
+    room: usize,
+    values: usize,
+    call: F,
+)
+    requires { F.IsAlwaysCallable call }
+{
+    let Some(out) = buffer.get_mut(..room) else {
+        return;
+    };
+    for (i, element) in out.iter_mut().enumerate() {
+        *element = T::pattern(i);
+    }
+    let reply = call(out);
+    write_reply(rt, values, reply);
+    write_buffer(rt, out);
+}
+
+// Room for the index of a file with the most records, 8,192.
+fn lend_numbers(rt: &HostRuntime, frame: Frame) {
+    let mut numbers = [0u32; 57344];
+    lend(
+        rt,
+        &mut numbers,
+        frame.room,
+        1,
+        |out| gateway::notebook_index(frame.input, out),
+    );
+}
+
+fn lend_bytes<F: FnOnce(&mut [u8]) -> Reply>(rt: &HostRuntime, frame: Frame, values: usize, call: F)
+    requires { F.IsAlwaysCallable call }
+{
+    let mut bytes = [0u8; ROOM];
+    lend(rt, &mut bytes, frame.room, values, call);
+}
+
+fn answer(rt: &HostRuntime, frame: Frame) {
+    let input = frame.input;
+    match frame.call {
+        Call::Check => answers::write_reply(
             &mut rt.stdout(),
             &mut rt.stderr(),
             3,
             gateway::notebook_check(input),
         ),
-        b'i' => lend_numbers(rt, input, room as usize),
-        b'p' => write_pairs(rt),
-        _ => lend_bytes(rt, call, input, capacity, id, used, room as usize),
+        Call::Index => lend_numbers(rt, frame),
+        Call::Canonical => lend_bytes(rt, frame, 1, |out| gateway::notebook_canonical(input, out)),
+        Call::Cut => lend_bytes(rt, frame, 2, |out| {
+            gateway::notebook_cut(input, frame.capacity, frame.id, frame.used, out)
+        }),
+        Call::Join => lend_bytes(rt, frame, 1, |out| gateway::notebook_join(input, out)),
+        Call::Pairs => write_pairs(rt),
     }
-}
-
-fn copy_label(rt: &HostRuntime, label: &mut [u8]) {
-    let start = 0;
-    let l = read_run(rt, label, read_byte(rt) as u64);
-    answers::write_whole(&mut rt.stdout(), &label[start..l]);
-    write_byte(rt, b':');
-    write_byte(rt, b' ');
-}
-
-// The part of a frame after its label.
-fn answer_rest(rt: &HostRuntime, call: u8, id: &mut [u8], used: &mut [u8], input: &mut [u8]) {
-    let start = 0;
-    let room = read_four(rt);
-    let capacity = read_eight(rt);
-    let i = read_run(rt, id, read_byte(rt) as u64);
-    let u = read_run(rt, used, read_four(rt));
-    let n = read_run(rt, input, read_four(rt));
-    answer(
-        rt,
-        call,
-        room,
-        capacity,
-        &id[start..i],
-        &used[start..u],
-        &input[start..n],
-    );
 }
 
 // One frame: whether there was one.
-fn next_frame(rt: &HostRuntime) -> bool {
-    let call = read_byte(rt);
-    if call == 255 {
+fn answer_next(rt: &HostRuntime) -> bool {
+    let Some(call) = Call::from_letter(read_byte(rt)) else {
         return false;
-    }
+    };
     let mut short = [0u8; 255];
-    let mut run = bytes();
-    let mut long = bytes();
-    copy_label(rt, &mut short);
-    answer_rest(rt, call, &mut short, &mut run, &mut long);
+    let label = read_run(rt, &mut short, u32::from(read_byte(rt)));
+    write(rt, label);
+    write(rt, b": ");
+    let mut ids = [0u8; ROOM];
+    let mut file = [0u8; ROOM];
+    let room = read_four(rt) as usize;
+    let capacity = read_eight(rt);
+    let id = read_run(rt, &mut short, u32::from(read_byte(rt)));
+    let used = read_run(rt, &mut ids, read_four(rt));
+    let input = read_run(rt, &mut file, read_four(rt));
+    answer(
+        rt,
+        Frame {
+            call,
+            room,
+            capacity,
+            id,
+            used,
+            input,
+        },
+    );
     true
 }
 
 fn main(rt: HostRuntime) {
-    let mut frames: usize = 0;
-    while frames < 100000 {
-        if !next_frame(&rt) {
+    for _ in 0..100000 {
+        if !answer_next(&rt) {
             return;
         }
-        frames += 1;
     }
 }

@@ -1,5 +1,5 @@
 -- A buffer that is read into behind an end. Assumes nothing.
-use Rattle.std.proofs.Common.{ℕ, ◌≡◌, List, ◌++◌, length, take, drop, sym, ap, ◌∙◌, ◌+◌, ◌≤◌, arith}
+use Rattle.std.proofs.Common.{ℕ, ◌≡◌, List, ◌++◌, length, take, drop, sym, ap, ◌∙◌, ◌+◌, ◌≤◌, arith, length-append}
 use Rattle.std.proofs.lemmas.List.{take-append-le, drop-append-le, length-take-le}
 use Rattle.std.proofs.Math.Seq.{take-append-add}
 use borrow.Rule.Slice.PartMut.{put_mid, post_of}
@@ -14,3 +14,9 @@ read_more at end more k xs ys h i j =
     let t : take (end + more) (p ++ rest) ≡ p ++ take more ys
     = ap (λ v. take (v + more) (p ++ rest)) (sym n) ∙ take-append-add p rest more ∙ ap (λ v. p ++ v) (take-append-le more ys (post_of end k xs) j) in
     ap (λ v. drop at v) t ∙ drop-append-le at p (take more ys) (omega (arith, n))
+
+-- and are inside the buffer
+pub read_inside : (end more k : ℕ) (xs ys : List ℕ) → end ≤ length xs → more ≤ length ys → end + more ≤ length (put_mid end k xs ys)
+read_inside end more k xs ys h i =
+    let rest = post_of end k xs in
+    omega (arith, length-take-le end xs h, length-append (take end xs) (ys ++ rest), length-append ys rest)

@@ -3,18 +3,11 @@
 // the word that says which goes to standard error.
 #![tactic(auto)]
 
-use inputs::Input;
-
 fn main(rt: HostRuntime) {
     let mut buffer = [0u8; 65537];
-    let read = inputs::read_all(&mut rt.stdin(), &mut buffer);
-    match read {
-        Input::Bytes(n) => answers::write_reply(
-            &mut rt.stdout(),
-            &mut rt.stderr(),
-            3,
-            gateway::notebook_check(&buffer[..n]),
-        ),
-        Input::Failed => answers::write_error(&mut rt.stderr(), b"read"),
-    }
+    let Ok(n) = inputs::read_all(&mut rt.stdin(), &mut buffer) else {
+        return answers::write_error(&mut rt.stderr(), b"read");
+    };
+    let reply = gateway::notebook_check(&buffer[..n]);
+    answers::write_reply(&mut rt.stdout(), &mut rt.stderr(), 3, reply);
 }

@@ -6,73 +6,41 @@
 
 ghost use Rattle.inputs.specs.AtFront.{AtFront};
 
-use inputs::Input;
-
-// --- joining ---
-
-fn write_file(rt: &HostRuntime, file: &[u8], bytes: u64) {
-    if bytes <= 65536 {
-        let start: usize = 0;
-        let end = bytes as usize;
-        if end <= file.len() {
-            answers::write_output(&mut rt.stdout(), &mut rt.stderr(), &file[start..end]);
-        }
-    }
-}
-
+// Joins pieces, and writes the joined file or the refusal.
 fn join(rt: &HostRuntime, pieces: &[u8]) {
     let mut file = [0u8; 65536];
-    let r = gateway::notebook_join(pieces, &mut file);
-    if r.refusal == 0 {
-        write_file(rt, &file, r.a);
-    } else {
-        answers::write_reply_as_error(&mut rt.stderr(), 1, r);
-    }
+    let reply = gateway::notebook_join(pieces, &mut file);
+    answers::write_file(&mut rt.stdout(), &mut rt.stderr(), reply, &file);
 }
 
-// --- reading ---
-
-// Reads until the buffer is full, and tells which file cannot be read.
-fn read_files(rt: &HostRuntime, words: usize, pieces: &mut [u8]) -> Input
+// Reads the files named until the buffer is full; or the number of the one that cannot be read.
+fn read_files(rt: &HostRuntime, words: usize, pieces: &mut [u8]) -> Result<usize, usize>
     ensures { AtFront result pieces.new }
 {
-    let mut at: usize = 0;
-    let mut word: usize = 1;
-    while word < words {
-        if pieces.len() <= at {
-            return Input::Bytes(at);
+    let mut end = 0;
+    for word in 1..words {
+        if end == pieces.len() {
+            break;
         }
-        let read = inputs::read_word(rt, word, pieces, at);
-        match read {
-            Input::Bytes(end) => at = end,
-            Input::Failed => {
-                answers::write_error_at(&mut rt.stderr(), b"read", word as u64);
-                return Input::Failed;
-            }
-        }
-        word += 1;
+        end = inputs::read_word(rt, word, pieces, end).map_err(|_| word)?;
     }
-    Input::Bytes(at)
+    Ok(end)
 }
-
-// --- the program ---
 
 fn join_files(rt: &HostRuntime, words: usize) {
     let mut pieces = [0u8; 131073];
-    let read = read_files(rt, words, &mut pieces);
-    match read {
-        Input::Bytes(n) => join(rt, &pieces[..n]),
-        Input::Failed => {}
+    match read_files(rt, words, &mut pieces) {
+        Ok(n) => join(rt, &pieces[..n]),
+        Err(number) => answers::write_error_at(&mut rt.stderr(), b"read", number as u64),
     }
 }
 
 fn join_input(rt: &HostRuntime) {
     let mut pieces = [0u8; 131073];
-    let read = inputs::read_all(&mut rt.stdin(), &mut pieces);
-    match read {
-        Input::Bytes(n) => join(rt, &pieces[..n]),
-        Input::Failed => answers::write_error(&mut rt.stderr(), b"read"),
-    }
+    let Ok(n) = inputs::read_all(&mut rt.stdin(), &mut pieces) else {
+        return answers::write_error(&mut rt.stderr(), b"read");
+    };
+    join(rt, &pieces[..n]);
 }
 
 // The program's own name is among the words.
