@@ -9,6 +9,7 @@ use lib.Seq.{sets, length-sets}
 use Rattle.lists.specs.Searching.{part}
 use Rattle.buffers.specs.Buffers.{Room, Wrote}
 use Rattle.buffers.proofs.Runs.{sets_append, then}
+use Rattle.records.specs.Table.{Kind}
 use Rattle.canonical.specs.declared.Run.{Run}
 use Rattle.canonical.specs.Writing.{item_bytes, OwnUnless, ahead, reach, Ready, Passed, Lies}
 use Rattle.lists.proofs.Parts.{part_length, part_none, part_join}
@@ -55,7 +56,7 @@ copied s {d} {d₁} {d₂} run p e {a} {b} {w} l h x y =
 
 -- ---- one item
 
-module _ (s d : List ℕ) (run : Run) (a e c : ℕ) (t : Lies s a e) (r : Ready d run a (item_bytes c (take (e - a) (drop a s)))) where
+module _ (s d : List ℕ) (run : Run) (a e : ℕ) (c : Kind) (t : Lies s a e) (r : Ready d run a (item_bytes c (take (e - a) (drop a s)))) where
   pub respell_from : run.from ≤ a
   respell_from = r.low
 

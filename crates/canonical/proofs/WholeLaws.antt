@@ -6,25 +6,26 @@ use mathlib.Core.Bool.{Bool}
 use mathlib.Core.List.{List, ◌++◌}
 use lib.ListN.{length, take, drop}
 use lib.Seq.{sets, length-sets, length-take-le}
+use Rattle.std.specs.Prelude.{Result, Ok, Err}
 use Rattle.lists.specs.Lists.{Res, ok, refused, map_res}
 use Rattle.lists.specs.Searching.{part}
 use Rattle.characters.specs.Rows.{rows, flat}
 use Rattle.records.specs.Records.{Record}
 use Rattle.order.specs.State.{start}
-use Rattle.buffers.specs.Buffers.{Room, Wrote}
-use Rattle.buffers.proofs.Runs.{then, front}
-use Rattle.notebook.specs.Notebook.{records_from, notebook_of, read_file}
-use Rattle.checking.specs.declared.Opening.{Opening}
-use Rattle.checking.specs.declared.Opening.TheVariants.{Records, Refused as OpenRefused}
-use Rattle.checking.specs.Opening.{OpensAt, OpeningOf}
-use Rattle.checking.proofs.OpenLaws.{zeros_size, opening_refused, opening_records, opening_behind}
-use Rattle.replies.specs.Replies.{Answer}
-use Rattle.replies.specs.Replies.{Done, Refused}
-use Rattle.notebook.specs.Canonical.{head_row, record_rows, write_file, canonical_bytes, canonical_file, canonical_result}
-use Rattle.notebook.proofs.Arranging.{arrange_as_is}
+use Rattle.replies.specs.declared.refusal.Refused.{Refused as RefusedAtLine}
+use Rattle.replies.specs.Refusals.{number_of}
+use Rattle.replies.specs.Replies.{Answer, Done, Refused, answer}
 use Rattle.replies.specs.Results.{writes}
 use Rattle.replies.specs.CallContracts.{Gives}
-use Rattle.replies.proofs.Results.{gives_refusal, front_20, front_room, front_written}
+use Rattle.replies.proofs.Results.{gives_refusal, gives_20, gives_written}
+use Rattle.buffers.specs.Buffers.{Wrote}
+use Rattle.buffers.proofs.Runs.{then, front}
+use Rattle.notebook.specs.Notebook.{records_from, notebook_of, read_file}
+use Rattle.notebook.specs.Canonical.{head_row, record_rows, write_file, canonical_bytes, canonical_file, canonical_result}
+use Rattle.notebook.proofs.Arranging.{arrange_as_is}
+use Rattle.checking.specs.declared.Opening.{Opening}
+use Rattle.checking.specs.Opening.{OpensAt, OpeningOf}
+use Rattle.checking.proofs.OpenLaws.{opening_behind}
 use Rattle.canonical.specs.Writing.{Output, poured, Poured, MadeMeans, MadeOf, Holds}
 
 -- ---- the array
@@ -40,11 +41,11 @@ made s d d₁ d₂ from provider (refused n line) (Refused m l) w q v = record {
 made s d d₁ d₂ from provider (refused n line) (Done t b c) w q v = absurd (no v.means.0)
   where
     no : ◌≡◌ {A = Res Output} (refused n line) (ok (record { buffer = d₂; end = t })) → ⊥
-    no f = let y : ◌≡◌ {A = ℕ} 0 1 = cc in omega arith
+    no f = cc
 made s d d₁ d₂ from provider (ok rs) (Refused m l) w q v = absurd (no v.means)
   where
     no : ◌≡◌ {A = Res Output} (ok (record { buffer = sets d₁ from (flat (record_rows rs)); end = from + length (flat (record_rows rs)) })) (refused m l) → ⊥
-    no f = let y : ◌≡◌ {A = ℕ} 0 1 = cc in omega arith
+    no f = cc
 made s d d₁ d₂ from provider (ok rs) (Done t b c) w q v = record { means = (ap (map_res canonical_bytes) q ∙ ap ok (ap write_file (arrange_as_is (record { provider = provider; records = rs })) ∙ sym all), v.means.2); size = v.size }
   where
     rest : List ℕ
@@ -67,58 +68,51 @@ made s d d₁ d₂ from provider (ok rs) (Done t b c) w q v = record { means = (
     all : take t d₂ ≡ head_row provider ++ rest
     all = front (then w behind) (omega (arith, (then w behind).high, (then w behind).next))
 
-module _ {s d : List ℕ} (z : Holds s d) {k : Opening} (w : OpeningOf s k) where
-  pub into_refused : {n line : ℕ} → k ≡ OpenRefused n line → MadeOf (length d) (canonical_file s) d (Refused n line)
-  unfolding canonical_file
-  into_refused q = record { means = ap (map_res canonical_bytes) (opening_refused w q); size = refl }
+pub into_refused : {s d : List ℕ} {x : RefusedAtLine} → OpeningOf s (Err x) → MadeOf (length d) (canonical_file s) d (Refused (number_of x.refusal) x.line)
+unfolding canonical_file
+into_refused w = record { means = ap (map_res canonical_bytes) w.means; size = refl }
 
-  module _ {provider : Bool} {from : ℕ} (q : k ≡ Records provider from) where
-    opens : OpensAt s provider from
-    opens = opening_records w q
+module _ {s : List ℕ} {o : Opening} (w : OpeningOf s (Ok o)) {d : List ℕ} (z : Holds s d) where
+  opens : OpensAt s o.provider o.from
+  opens = w.means
 
-    pub into_room : length s ≤ length d
-    into_room = z.room opens.behind.small
+  pub into_room : length s ≤ length d
+  into_room = z.room opens.behind.small
 
-    first_length_lem : length (part s 0 from) ≡ from
-    first_length_lem = length-take-le (from - 0) s (omega (arith, opens.behind.high)) ∙ omega arith
+  first_length_lem : length (part s 0 o.from) ≡ o.from
+  first_length_lem = length-take-le (o.from - 0) s (omega (arith, opens.behind.high)) ∙ omega arith
 
-    -- the array with line 1
-    first_wrote : Wrote d (sets d 0 (part s 0 from)) 0 from (part s 0 from)
-    first_wrote = record { next = omega (arith, first_length_lem); list = refl; size = length-sets d 0 (part s 0 from); high = omega (arith, opens.behind.high, into_room) }
+  -- the array with line 1
+  first_wrote : Wrote d (sets d 0 (part s 0 o.from)) 0 o.from (part s 0 o.from)
+  first_wrote = record { next = omega (arith, first_length_lem); list = refl; size = length-sets d 0 (part s 0 o.from); high = omega (arith, opens.behind.high, into_room) }
 
-    pub into_records : {d₂ : List ℕ} {c : Answer} → Poured (length d) (poured (sets d 0 (part s 0 from)) from (records_from (start provider) (rows (drop from s)))) d₂ c
-        → MadeOf (length d) (canonical_file s) d₂ c
-    into_records {d₂} {c} v =
-        made s d (sets d 0 (part s 0 from)) d₂ from provider (records_from (start provider) (rows (drop from s))) c
-        (subst (λ (x : List ℕ). Wrote d (sets d 0 (part s 0 from)) 0 from x) opens.first first_wrote) opens.read v
+  pub into_records : {d₂ : List ℕ} {c : Answer} → Poured (length d) (poured (sets d 0 (part s 0 o.from)) o.from (records_from (start o.provider) (rows (drop o.from s)))) d₂ c
+      → MadeOf (length d) (canonical_file s) d₂ c
+  into_records {d₂} {c} v =
+      made s d (sets d 0 (part s 0 o.from)) d₂ o.from o.provider (records_from (start o.provider) (rows (drop o.from s))) c
+      (subst (λ (x : List ℕ). Wrote d (sets d 0 (part s 0 o.from)) 0 o.from x) opens.first first_wrote) opens.read v
 
-pub ruleset into_laws = (zeros_size, opening_behind, into_room, into_refused, into_records)
+pub ruleset into_laws = (opening_behind, into_room, into_refused, into_records)
 
 -- ---- the output
 
-module _ (s d a : List ℕ) {l : ℕ} {c : Answer} (m : MadeOf l (canonical_file s) a c) where
-  means : {j : Answer} → c ≡ j → MadeMeans (canonical_file s) a j
-  means e = subst (MadeMeans (canonical_file s) a) e m.means
-
-  pub canonical_refused : {n line : ℕ} → c ≡ Refused n line → Gives (canonical_result s) d d (Refused n line)
+module _ (s d a : List ℕ) {l : ℕ} where
+  pub canonical_refused : (x : RefusedAtLine) → MadeOf l (canonical_file s) a (Refused (number_of x.refusal) x.line) → Gives (canonical_result s) d d (Refused (number_of x.refusal) x.line)
   unfolding canonical_result
-  canonical_refused e = gives_refusal d (ap (map_res writes) (means e))
+  canonical_refused x m = gives_refusal d (ap (map_res writes) m.means)
 
-  module _ {t b b' : ℕ} (e : c ≡ Done t b b') where
+  module _ {t b c : ℕ} (m : MadeOf l (canonical_file s) a (Done t b c)) where
     pub canonical_inside : t ≤ length a
-    canonical_inside = (means e).1
+    canonical_inside = m.means.1
 
-    given : canonical_result s ≡ ok (writes (take (t - 0) (drop 0 a)))
+    given : canonical_result s ≡ ok (writes (take t a))
     unfolding canonical_result
-    given = let z : t ≡ t - 0 = omega arith in ap (map_res writes) (means e).0 ∙ ap (λ (n : ℕ). ok (writes (take n a))) z
+    given = ap (map_res writes) m.means.0
 
-    pub canonical_short : length d < t → Gives (canonical_result s) d d (Refused 20 0)
-    canonical_short h = front_20 a d canonical_inside given h
+    pub canonical_short : length d < length (take t a) → Gives (canonical_result s) d d (Refused 20 0)
+    canonical_short h = gives_20 d given h
 
-    pub canonical_room : t ≤ length d → Room d 0 (take (t - 0) (drop 0 a))
-    canonical_room h = front_room a d canonical_inside given h
+    pub canonical_written : {d' : List ℕ} {r : ℕ} → Wrote d d' 0 r (take t a) → Gives (canonical_result s) d d' (Done t 0 0)
+    canonical_written {d'} w = subst (λ (n : ℕ). Gives (canonical_result s) d d' (Done n 0 0)) (length-take-le t a canonical_inside) (gives_written d given w)
 
-    pub canonical_written : {d' : List ℕ} {r : ℕ} → Wrote d d' 0 r (take (t - 0) (drop 0 a)) → Gives (canonical_result s) d d' (Done t 0 0)
-    canonical_written w = front_written a d canonical_inside given w
-
-pub ruleset canonical_laws = (canonical_refused, canonical_inside, canonical_short, canonical_room, canonical_written)
+pub ruleset canonical_laws = (canonical_inside, canonical_short, canonical_written)

@@ -3,25 +3,29 @@
 // Definitions: notebook, specs/Canonical.antt; the same as the code writes it: specs/Writing.antt.
 #![tactic(auto)]
 
-ghost use Rattle.std.specs.Prelude.{◌≡◌, [], ◌∷◌, ◌+◌, ◌≤◌, length, drop};
+ghost use Rattle.std.specs.Prelude.{◌≡◌, ◌∷◌, ◌+◌, ◌≤◌, length, drop, map};
 ghost use Rattle.std.proofs.lemmas.List.Edits.{sets};
 ghost use Rattle.lists.specs.Searching.{part};
 ghost use Rattle.characters.specs.Rows.{rows};
-ghost use Rattle.scanning.specs.Scans.{Stops, Sixteen};
-ghost use Rattle.records.specs.Records.{record_of};
+ghost use Rattle.records.specs.Records.{record_of, write};
 ghost use Rattle.order.specs.State.{start};
-ghost use Rattle.codes.specs.Codes.{place_of, Lent};
-ghost use Rattle.lines.specs.Codes.{Commas, LineIn, ItemOf};
+ghost use Rattle.items.specs.Kinds.{kind_of};
+ghost use Rattle.lines.specs.Items.{text_of};
 ghost use Rattle.buffers.specs.Buffers.{Room, Wrote};
 ghost use Rattle.notebook.specs.Notebook.{records_from};
-ghost use Rattle.checking.specs.Walking.{Closing};
+ghost use Rattle.notebook.specs.Canonical.{canonical_file, canonical_result};
 ghost use Rattle.checking.specs.Opening.{Behind};
-ghost use Rattle.notebook.specs.Canonical.{record_row, canonical_file, canonical_result};
+ghost use Rattle.checking.specs.Walking.{Closing};
+ghost use Rattle.replies.specs.Replies.{answer};
 ghost use Rattle.replies.specs.CallContracts.{Gives};
-ghost use Rattle.canonical.specs.Writing.{postal_bytes, number_bytes, day_bytes, item_bytes, Spellable, OwnUnless, Items, Sound};
-ghost use Rattle.canonical.specs.Writing.{Lies, Ready, Passed, spots_of, begins, ends, item_at, tail_at, Stays, Ended, reach, Finished, poured, Poured, closing, MadeOf, Holds};
+ghost use Rattle.canonical.specs.Writing.{postal_bytes, number_bytes, day_bytes, item_bytes, Spellable, OwnUnless, Stays, Lies, Ready, Passed};
+ghost use Rattle.canonical.specs.Writing.{spots_of, spot_of, Sound, ItemOf, begins, ends, bytes_of, poured, Poured, closing, Holds, MadeOf};
 
-use replies::Answer;
+use items::Kind;
+use lines::Items;
+use order::State;
+use replies::{Answer, Refusal, Values};
+use std::ops::Range;
 
 // ---- one item
 
@@ -31,8 +35,8 @@ fn put_postal(out: &mut [u8], at: usize, s: &[u8]) -> usize
     ensures { Wrote out.old out.new at result (postal_bytes s.now) }
 {
     if s.len() == 8 {
-        let next = buffers::put_all(out, at, &s[0..3]);
-        return buffers::put_all(out, next, &s[4..8]);
+        let next = buffers::put_all(out, at, &s[..3]);
+        return buffers::put_all(out, next, &s[4..]);
     }
     buffers::put_all(out, at, s)
 }
@@ -42,11 +46,10 @@ fn put_value(out: &mut [u8], at: usize, s: &[u8]) -> usize
     requires { Room out.old at (number_bytes s.now) }
     ensures { Wrote out.old out.new at result (number_bytes s.now) }
 {
-    let v = digits::short_value(s);
-    if v <= 999 {
-        return buffers::put_number(out, at, v);
+    match digits::short_value(s) {
+        Some(value) => buffers::put_number(out, at, value),
+        None => at,
     }
-    at
 }
 
 // A date in the era form; nothing where there is none.
@@ -55,49 +58,67 @@ fn put_date(out: &mut [u8], at: usize, s: &[u8]) -> usize
     ensures { Wrote out.old out.new at result (day_bytes s.now) }
 {
     match calendar::Day::read(s) {
-        calendar::DateRead::Date(day) => {
-            let form = day.era_form();
-            buffers::put_all(out, at, &form)
-        }
-        calendar::DateRead::NotADate => at,
+        Some(day) => buffers::put_all(out, at, &day.era_form()),
+        None => at,
     }
 }
 
-// An item in its one spelling; c: the item of the table, as one number.
-fn put_item(out: &mut [u8], at: usize, c: usize, s: &[u8]) -> usize
-    requires spellable { Spellable c s.now }
-    requires room { Room out.old at (item_bytes c s.now) }
-    ensures { Wrote out.old out.new at result (item_bytes c s.now) }
+// An item in its one spelling.
+fn put_item(out: &mut [u8], at: usize, kind: Kind, s: &[u8]) -> usize
+    requires spellable { Spellable (kind_of kind) s.now }
+    requires room { Room out.old at (item_bytes (kind_of kind) s.now) }
+    ensures { Wrote out.old out.new at result (item_bytes (kind_of kind) s.now) }
 {
-    let kind = c / 4 % 16;
     match kind {
-        6 => put_postal(out, at, s),
-        7 => put_value(out, at, s),
-        10 => put_date(out, at, s),
+        Kind::PostalCode => put_postal(out, at, s),
+        Kind::Number => put_value(out, at, s),
+        Kind::Date => put_date(out, at, s),
         _ => buffers::put_all(out, at, s),
     }
 }
 
-// Whether an item without a fault may have another spelling than its own bytes: a number with a leading zero, a date that is not what is written for its
-// day, or eight bytes, as a postal code with its hyphen has.
-fn respelled(c: usize, s: &[u8]) -> bool
-    requires { Spellable c s.now }
-    ensures { OwnUnless result c s.now }
+// Whether an item without a fault may have another spelling than its own bytes: a postal code with its hyphen, a number with a leading zero, or a date
+// that is not what is written for its day.
+#[tactic(auto, using(crate::proofs::ItemLaws::own_laws))]
+fn respelled(kind: Kind, s: &[u8]) -> bool
+    requires { Spellable (kind_of kind) s.now }
+    ensures { OwnUnless result (kind_of kind) s.now }
 {
-    let kind = c / 4 % 16;
-    if kind == 7 {
-        let first = lists::byte_at(s, 0);
-        return first == 0x30;
+    match kind {
+        Kind::PostalCode => s.len() == 8,
+        Kind::Number => matches!(s, [b'0', ..]),
+        Kind::Date => s.len() == 8 || s.len() == 7 && !calendar::Day::is_written_form(s),
+        _ => false,
     }
-    if s.len() == 8 {
-        return true;
+}
+
+// Whether an item that begins at a position is surely its own spelling: a number that does not begin with a zero. Where it is empty, a comma or the
+// line's end stands there, which is no zero either, so that most numbers are passed before their end is looked at.
+fn stays(kind: Kind, s: &[u8], at: usize) -> bool
+    ensures { Stays result (kind_of kind) s.now at }
+{
+    kind == Kind::Number && s.get(at) != Some(&b'0')
+}
+
+// ---- one line
+
+// The items of a record that may have another spelling, each by its number in the line and its kind. They are listed apart from the row, since a walk over
+// each record's row takes a twentieth of the call's time.
+#[tactic(auto, unfolding(crate::specs::Writing::spots_of, crate::specs::Writing::spots_from, table::specs::Rows::row_by, records::specs::Table::table))]
+fn spots(number: u32) -> &'static [(usize, Kind)]
+    ensures { map spot_of result.now ≡ spots_of number }
+{
+    match number {
+        1 => &[(3, Kind::Date), (4, Kind::PostalCode)],
+        3 => &[(2, Kind::Date), (3, Kind::Date)],
+        4 | 601 => &[(2, Kind::Date)],
+        5 => &[(1, Kind::Date)],
+        11 => &[(5, Kind::PostalCode)],
+        201 | 281 | 291 | 311 | 391 => &[(1, Kind::Number)],
+        301 => &[(1, Kind::Number), (3, Kind::Number)],
+        701 => &[(4, Kind::Date), (5, Kind::Date)],
+        _ => &[],
     }
-    if kind == 10 {
-        if s.len() == 7 {
-            return !calendar::Day::is_written_form(s);
-        }
-    }
-    false
 }
 
 // ---- runs
@@ -110,257 +131,126 @@ pub struct Run {
     pub at: usize,
 }
 
-// An item from a to e: its spelling after the run before it; or nothing, where its bytes are its spelling.
-fn respell(c: usize, s: &[u8], a: usize, e: usize, out: &mut [u8], run: Run) -> Run
-    requires lies { Lies s.now a e }
-    requires spellable { Spellable c (part s.now a e) }
-    requires ready { Ready out.old run a (item_bytes c (part s.now a e)) }
-    ensures { Passed s.now out.old out.new run result a e (item_bytes c (part s.now a e)) }
-{
-    if respelled(c, &s[a..e]) {
-        let from = run.from;
-        let at = run.at;
-        let next = buffers::put_all(out, at, &s[from..a]);
-        let behind = put_item(out, next, c, &s[a..e]);
-        return Run {
-            from: e,
-            at: behind,
-        };
+impl Run {
+    // An item of a file: its spelling after the run before it; or nothing, where its bytes are its spelling.
+    fn respell(self, kind: Kind, s: &[u8], item: Range<usize>, out: &mut [u8]) -> Run
+        requires lies { Lies s.now item.start item.end }
+        requires spellable { Spellable (kind_of kind) (part s.now item.start item.end) }
+        requires ready { Ready out.old self item.start (item_bytes (kind_of kind) (part s.now item.start item.end)) }
+        ensures { Passed s.now out.old out.new self result item.start item.end (item_bytes (kind_of kind) (part s.now item.start item.end)) }
+    {
+        let Range { start, end } = item;
+        let bytes = &s[start..end];
+        if !respelled(kind, bytes) {
+            return self;
+        }
+        let next = buffers::put_all(out, self.at, &s[self.from..start]);
+        let at = put_item(out, next, kind, bytes);
+        Run { from: end, at }
     }
-    run
-}
 
-// ---- one line
-
-// Whether an item from a on is surely its own spelling: a number that does not begin with a zero. Where it is empty, a comma or the line's end stands at
-// a, which is no zero either, so that most numbers are passed before their end is looked at.
-fn stays(c: usize, s: &[u8], a: usize) -> bool
-    ensures { Stays result c s.now a }
-{
-    if c / 4 % 16 == 7 {
-        let first = lists::byte_at(s, a);
-        return first != 0x30;
+    // Item number j of a line, after the items before it.
+    fn pass_item(self, kind: Kind, items: &Items, j: usize, out: &mut [u8]) -> Run
+        requires item_of { ItemOf j items.now.commas }
+        requires spellable { Spellable (kind_of kind) (bytes_of items.now j) }
+        requires ready { Ready out.old self (begins items.now j) (0x2c ∷ item_bytes (kind_of kind) (bytes_of items.now j)) }
+        ensures { Passed items.now.file.now out.old out.new self result (begins items.now j) (ends items.now j) (0x2c ∷ item_bytes (kind_of kind) (bytes_of items.now j)) }
+    {
+        let item = items.range(j);
+        if stays(kind, items.file, item.start) {
+            return self;
+        }
+        self.respell(kind, items.file, item, out)
     }
-    false
-}
 
-// Item number j of the line from at to end, after the items before it; c: the item of the table, as one number.
-fn pass_item(
-    c: usize,
-    stops: &[usize; 16],
-    n: usize,
-    j: usize,
-    s: &[u8],
-    at: usize,
-    end: usize,
-    out: &mut [u8],
-    run: Run,
-) -> Run
-    requires line_in { LineIn s.now at end stops.now n }
-    requires item_of { ItemOf j n }
-    requires spellable { Spellable c (item_at s.now at end j) }
-    requires ready { Ready out.old run (begins s.now at end j) (0x2c ∷ item_bytes c (item_at s.now at end j)) }
-    ensures { Passed s.now out.old out.new run result (begins s.now at end j) (ends s.now at end j) (0x2c ∷ item_bytes c (item_at s.now at end j)) }
-{
-    let item = lines::item_in(stops, n, s, at, end, j);
-    let a = item.from;
-    let e = item.to;
-    if stays(c, s, a) {
-        return run;
+    // The record of a line; number: the record's.
+    fn put_record(self, number: u32, items: &Items, out: &mut [u8]) -> Run
+        requires sound { Sound number (text_of items.now) }
+        requires ready { Ready out.old self items.now.at (write (record_of (text_of items.now))) }
+        ensures { Passed items.now.file.now out.old out.new self result items.now.at items.now.end (write (record_of (text_of items.now))) }
+    {
+        let mut run = self;
+        for (j, kind) in spots(number) {
+            run = run.pass_item(*kind, items, *j, out);
+        }
+        run
     }
-    respell(c, s, a, e, out, run)
-}
-
-// The items of a record's row that may have another spelling, of kinds P, R and D: 16 times the item of the table plus its number, each
-// later one times 1,024 more.
-fn spots(number: u32) -> usize
-    ensures { result ≡ spots_of number }
-{
-    match number {
-        1 => 430723,
-        2 => 0,
-        3 => 691874,
-        4 => 674,
-        5 => 641,
-        11 => 421,
-        15 => 0,
-        51 => 0,
-        55 => 0,
-        201 => 449,
-        281 => 449,
-        311 => 449,
-        291 => 449,
-        391 => 449,
-        301 => 478657,
-        401 => 0,
-        501 => 0,
-        411 => 0,
-        601 => 674,
-        701 => 693924,
-        _ => 0,
-    }
-}
-
-// The items of a line after its number; number: its record's.
-fn put_items(
-    number: u32,
-    stops: &[usize; 16],
-    n: usize,
-    s: &[u8],
-    at: usize,
-    end: usize,
-    out: &mut [u8],
-    start: Run,
-) -> Run
-    requires line_in { LineIn s.now at end stops.now n }
-    requires items { Items (place_of number) n (part s.now at end) }
-    requires ready { Ready out.old start (begins s.now at end 1) (tail_at (place_of number) s.now at end) }
-    ensures { Passed s.now out.old out.new start result (begins s.now at end 1) end (tail_at (place_of number) s.now at end) }
-{
-    let mut left = spots(number);
-    let mut run = start;
-    while left != 0 {
-        let c = left % 1024 / 16;
-        let j = left % 1024 % 16;
-        run = pass_item(c, stops, n, j, s, at, end, out, run);
-        left /= 1024;
-    }
-    run
-}
-
-// The record of the line from at to end, and its line end; number: the record's; n: the line's commas; stops: their places.
-fn put_record(
-    number: u32,
-    stops: &[usize; 16],
-    n: usize,
-    s: &[u8],
-    at: usize,
-    end: usize,
-    out: &mut [u8],
-    run: Run,
-) -> Run
-    requires ended { Ended s.now at end }
-    requires commas { Commas (part s.now at end) n }
-    requires stops { Stops (part s.now at end) stops.now }
-    requires sixteen { Sixteen stops.now }
-    requires sound { Sound number (part s.now at end) }
-    requires ready { Ready out.old run at (record_row (record_of (part s.now at end))) }
-    ensures { Passed s.now out.old out.new run result at (end + 2) (record_row (record_of (part s.now at end))) }
-{
-    put_items(number, stops, n, s, at, end, out, run)
 }
 
 // ---- the file
 
 // The end of a file: what is missing there, or how many bytes are written.
-fn close(st: order::State, at: usize) -> Answer
+#[tactic(auto, using(crate::proofs::FileLaws::close_laws))]
+fn close(st: State, at: usize) -> Answer
     requires closing { Closing st }
     requires at_bound { at ≤ 65536 }
-    ensures { result ≡ closing st at }
+    ensures { answer result ≡ closing st at }
 {
-    let missing = st.finish();
-    if missing == 0 {
-        return Answer::Done(at as u32, 0, 0);
-    }
-    Answer::Refused(missing, st.line + 1)
-}
-
-// The end of a file at a position: the last run, then as `close`.
-fn finish(st: order::State, s: &[u8], at: usize, out: &mut [u8], run: Run) -> Answer
-    requires closing { Closing st }
-    requires at_in_bounds { at ≤ length s.now }
-    requires ready { Ready out.old run at [] }
-    requires at_bound { reach run at ≤ 65536 }
-    ensures { Finished st s.now at out.old out.new run result }
-{
-    let from = run.from;
-    let next = run.at;
-    let end = buffers::put_all(out, next, &s[from..at]);
-    close(st, end)
+    st.finish().map_err(|refusal| refusal.at(st.line + 1))?;
+    Ok(Values {
+        a: at as u32,
+        b: 0,
+        c: 0,
+    })
 }
 
 // Line 1, which is kept, and the records from after it on.
-fn write_records(
-    codes: &[usize; 83],
-    stops: &mut [usize; 16],
-    provider: bool,
-    s: &[u8],
-    from: usize,
-    out: &mut [u8],
-) -> Answer
-    requires lent { Lent codes.now }
-    requires sixteen { Sixteen stops.old }
+fn write_records(provider: bool, s: &[u8], from: usize, out: &mut [u8]) -> Answer
     requires behind { Behind s.now from }
     requires s_in_bounds { length s.now ≤ length out.old }
-    ensures { Poured (length out.old) (poured (sets out.old 0 (part s.now 0 from)) from (records_from (start provider) (rows (drop from s.now)))) out.new result }
+    ensures { Poured (length out.old) (poured (sets out.old 0 (part s.now 0 from)) from (records_from (start provider) (rows (drop from s.now)))) out.new (answer result) }
 {
-    let mut st = order::State::new(provider);
+    let mut stops = [0usize; 16];
+    let mut st = State::new(provider);
     let mut at = from;
     let mut run = Run { from: 0, at: 0 };
-    loop {
-        match checking::read_record(codes, stops, st, s, at) {
-            checking::Turn::Over => return finish(st, s, at, out, run),
-            checking::Turn::Refused(n) => {
-                let line = st.line + 1;
-                return Answer::Refused(n, line);
-            }
-            checking::Turn::On(after, _, _, end, commas) => {
-                let number = after.place;
-                run = put_record(number, stops, commas, s, at, end, out, run);
-                st = after;
-                at = end + 2;
-            }
-        }
+    while let Some(turn) = checking::read_record(&mut stops, st, s, at)? {
+        let items = Items {
+            file: s,
+            at,
+            end: turn.end,
+            stops: &stops,
+            commas: turn.commas,
+        };
+        st = turn.moved.state;
+        run = run.put_record(st.place, &items, out);
+        at = turn.end + 2;
     }
+    let end = buffers::put_all(out, run.at, &s[run.from..at]);
+    close(st, end)
 }
 
 // The canonical file of an accepted file at the front of an array that holds the file; or the one refusal.
+#[tactic(auto, using(crate::proofs::WholeLaws::into_laws))]
 pub fn canonical_into(s: &[u8], out: &mut [u8]) -> Answer
     requires { Holds s.now out.old }
-    ensures { MadeOf (length out.old) (canonical_file s.now) out.new result }
+    ensures { MadeOf (length out.old) (canonical_file s.now) out.new (answer result) }
 {
-    match checking::open_file(s) {
-        checking::Opening::Refused(number, line) => Answer::Refused(number, line),
-        checking::Opening::Records(provider, from) => {
-            let codes = codes::item_codes();
-            let mut stops = [0usize; 16];
-            write_records(&codes, &mut stops, provider, s, from, out)
-        }
-    }
+    let opening = checking::open_file(s)?;
+    write_records(opening.provider, s, opening.from, out)
 }
 
 // The canonical file of an accepted file, or the one refusal; file: an array for it, so that a refusal leaves the output as it was.
 fn canonical_by(s: &[u8], file: &mut [u8], out: &mut [u8]) -> Answer
     requires { Holds s.now file.old }
-    ensures { Gives (canonical_result s.now) out.old out.new result }
+    ensures { Gives (canonical_result s.now) out.old out.new (answer result) }
 {
-    match canonical_into(s, file) {
-        Answer::Refused(number, line) => Answer::Refused(number, line),
-        Answer::Done(bytes, _, _) => {
-            let start = 0;
-            let end = bytes as usize;
-            if out.len() < end {
-                return Answer::Refused(20, 0);
-            }
-            buffers::put_all(out, start, &file[start..end]);
-            Answer::Done(bytes, 0, 0)
-        }
+    let made = canonical_into(s, file)?;
+    let bytes = &file[..made.a as usize];
+    if out.len() < bytes.len() {
+        return Err(Refusal::Short.at(0));
     }
+    buffers::put_all(out, 0, bytes);
+    Ok(Values {
+        a: made.a,
+        b: 0,
+        c: 0,
+    })
 }
 
 // The same with an array of its own.
 pub fn canonical_file(s: &[u8], out: &mut [u8]) -> Answer
-    ensures { Gives (canonical_result s.now) out.old out.new result }
+    ensures { Gives (canonical_result s.now) out.old out.new (answer result) }
 {
-    let len = s.len();
-    if len <= buffers::SHORT {
-        let mut file = [0u8; buffers::SHORT];
-        return canonical_by(s, &mut file, out);
-    }
-    if len <= buffers::MIDDLING {
-        let mut file = [0u8; buffers::MIDDLING];
-        return canonical_by(s, &mut file, out);
-    }
-    let mut file = [0u8; buffers::ANY];
-    canonical_by(s, &mut file, out)
+    buffers::with_room(s.len(), out, |room, out| canonical_by(s, room, out))
 }

@@ -5,8 +5,8 @@ use Rattle.canonical.proofs.put_date.Goals as goal
 pub put_all-requires : goal.put_all-requires
 put_all-requires c = search (rules, day_laws)
 
-pub returns-in-Date : goal.returns-in-Date
-returns-in-Date c = search (rules, day_laws)
+pub returns-in-Some : goal.returns-in-Some
+returns-in-Some c = search (rules, day_laws)
 
-pub returns-in-NotADate : goal.returns-in-NotADate
-returns-in-NotADate c = search (rules, day_laws)
+pub returns-in-None : goal.returns-in-None
+returns-in-None c = search (rules, day_laws)

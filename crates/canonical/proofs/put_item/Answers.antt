@@ -14,14 +14,14 @@ put_date-requires c = search (rules, item_laws)
 pub put_all-requires : goal.put_all-requires
 put_all-requires c = search (rules, item_laws)
 
-pub returns-in-6 : goal.returns-in-6
-returns-in-6 c = search (rules, item_laws)
+pub returns-in-PostalCode : goal.returns-in-PostalCode
+returns-in-PostalCode c = search (rules, item_laws)
 
-pub returns-in-7 : goal.returns-in-7
-returns-in-7 c = search (rules, item_laws)
+pub returns-in-Number : goal.returns-in-Number
+returns-in-Number c = search (rules, item_laws)
 
-pub returns-in-10 : goal.returns-in-10
-returns-in-10 c = search (rules, item_laws)
+pub returns-in-Date : goal.returns-in-Date
+returns-in-Date c = search (rules, item_laws)
 
 pub returns-in_default : goal.returns-in_default
 returns-in_default c = search (rules, item_laws)

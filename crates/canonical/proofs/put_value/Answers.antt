@@ -1,12 +1,15 @@
 use Rattle.std.proofs.Common.{rules}
-use Rattle.canonical.proofs.ItemLaws.{number_laws, number_room}
+use Rattle.canonical.proofs.ItemLaws.{number_laws}
 use Rattle.canonical.proofs.put_value.Goals as goal
 
+pub put_number-requires-clause-v_bound : goal.put_number-requires-clause-v_bound
+put_number-requires-clause-v_bound c = search (rules, number_laws)
+
 pub put_number-requires-clause-room : goal.put_number-requires-clause-room
-put_number-requires-clause-room c = search (rules, number_room, number_laws)
+put_number-requires-clause-room c = search (rules, number_laws)
 
-pub returns-then-v-le999 : goal.returns-then-v-le999
-returns-then-v-le999 c = search (rules, number_laws)
+pub returns-in-Some : goal.returns-in-Some
+returns-in-Some c = search (rules, number_laws)
 
-pub returns : goal.returns
-returns c = search (rules, number_laws)
+pub returns-in-None : goal.returns-in-None
+returns-in-None c = search (rules, number_laws)

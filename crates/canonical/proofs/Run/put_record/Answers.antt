@@ -1,9 +1,9 @@
 use Rattle.std.proofs.Common.{rules}
 use Rattle.canonical.proofs.LineLaws.{spotting_laws, spotting_item, spotting_spellable, spotting_ready}
-use Rattle.canonical.proofs.put_items.Goals as goal
+use Rattle.canonical.proofs.Run.put_record.Goals as goal
 
-pub loop-left-init : goal.loop-left-init
-loop-left-init c = search (rules, spotting_laws)
+pub loop-j-init : goal.loop-j-init
+loop-j-init c = search (rules, spotting_laws, spotting_item, spotting_spellable, spotting_ready)
 
 pub pass_item-run-requires-clause-item_of : goal.pass_item-run-requires-clause-item_of
 pass_item-run-requires-clause-item_of c = search (rules, spotting_laws, spotting_item, spotting_spellable, spotting_ready)
@@ -14,8 +14,8 @@ pass_item-run-requires-clause-spellable c = search (rules, spotting_laws, spotti
 pub pass_item-run-requires-clause-ready : goal.pass_item-run-requires-clause-ready
 pass_item-run-requires-clause-ready c = search (rules, spotting_laws, spotting_item, spotting_spellable, spotting_ready)
 
-pub loop-left-preserved : goal.loop-left-preserved
-loop-left-preserved c = search (rules, spotting_laws)
+pub loop-j-preserved : goal.loop-j-preserved
+loop-j-preserved c = search (rules, spotting_laws, spotting_item, spotting_spellable, spotting_ready)
 
 pub returns : goal.returns
-returns c = search (rules, spotting_laws)
+returns c = search (rules, spotting_laws, spotting_item, spotting_spellable, spotting_ready)
