@@ -7,7 +7,7 @@
 mod kinds;
 
 ghost use Rattle.std.specs.Prelude.{◌≡◌, Some, None, cond, not, ◌&&◌, ◌||◌, ◌+◌, ◌≤◌, ◌<◌, eqb, length, get_or};
-ghost use Rattle.lists.specs.Lists.{member, unless as unless_of};
+ghost use Rattle.lists.specs.Lists.{all, member, unless as unless_of};
 ghost use Rattle.scanning.specs.Scans.{RunOf, Counted};
 ghost use Rattle.replies.specs.Refusals.{number_of, fault_in};
 ghost use Rattle.records.specs.Table.{N, X, R, required};
@@ -29,6 +29,12 @@ fn is_code(b: u8) -> bool
     ensures { result ≡ is_code b }
 {
     matches!(b, b'A'..=b'Z' | b'a'..=b'z' | b'0'..=b'9' | b'.' | b'-')
+}
+
+fn all_code(s: &[u8]) -> bool
+    ensures { result ≡ all is_code s.now }
+{
+    s.iter().all(|b| is_code(*b))
 }
 
 // What all characters of an item of kind U or K have in common.
@@ -84,6 +90,7 @@ fn ends_wide(s: &[u8]) -> bool
         && scanning::all_chars(&s[..before])
 }
 
+#[tactic(auto, unfolding(records::specs::Items::edge))]
 fn edge(s: &[u8]) -> bool
     ensures { result ≡ edge_of s.now }
 {
@@ -101,28 +108,35 @@ fn edge(s: &[u8]) -> bool
         | ((2 <= n) & ((a == b'\'') & (z == b'\'')))
 }
 
+#[tactic(auto, unfolding(records::specs::Items::seven))]
 fn seven(s: &[u8]) -> bool
     ensures { result ≡ seven_of s.now }
 {
     s.len() == 7 && digits::all_digits(s)
 }
 
+#[tactic(auto, using(crate::proofs::FormLaws::seven_laws))]
 fn hyphened(s: &[u8]) -> bool
     ensures { result ≡ seven_of (unhyphened s.now) }
 {
     s.len() == 8 && digits::all_digits(&s[..3]) && digits::all_digits(&s[4..])
 }
 
+#[tactic(auto, unfolding(records::specs::Items::postal))]
 fn postal(s: &[u8]) -> bool
     ensures { result ≡ postal_of s.now }
 {
     seven(s) || (lists::byte_at(s, 3) == b'-' && hyphened(s))
 }
 
+#[tactic(auto, using(crate::proofs::FormLaws::prefecture_laws))]
 fn prefecture(s: &[u8]) -> bool
     ensures { result ≡ prefecture_of s.now }
 {
-    s.len() == 2 && matches!(digits::short_value(s), Some(1..=47))
+    match digits::short_value(s) {
+        Some(n) => s.len() == 2 && 1 <= n && n <= 47,
+        None => false,
+    }
 }
 
 fn whole(w: usize, a: &[u8]) -> bool
@@ -139,12 +153,14 @@ fn decimals(f: usize, b: &[u8]) -> bool
     (1 <= n && n <= f) && (digits::all_digits(b) && b[n - 1] != b'0')
 }
 
+#[tactic(auto, using(crate::proofs::FormLaws::fraction_some))]
 fn fraction(f: usize, s: &[u8]) -> bool
     ensures { result ≡ fraction_of f s.now }
 {
     s.is_empty() || decimals(f, &s[1..])
 }
 
+#[tactic(auto, using(crate::proofs::FormLaws::decimal_laws))]
 fn decimal(w: usize, f: usize, s: &[u8]) -> bool
     ensures { result ≡ decimal_of w f s.now }
 {
@@ -158,7 +174,7 @@ fn is_author(n: u32) -> bool
     matches!(n, 1 | 2 | 8 | 9)
 }
 
-#[tactic(auto, using(crate::proofs::SetLaws::set_laws))]
+#[tactic(auto, using(crate::proofs::SetLaws::author_laws))]
 fn author(s: &[u8]) -> bool
     ensures { result ≡ spelled_as authors s.now }
 {
@@ -168,7 +184,7 @@ fn author(s: &[u8]) -> bool
     }
 }
 
-#[tactic(auto, using(crate::proofs::SetLaws::set_laws))]
+#[tactic(auto, using(crate::proofs::SetLaws::among_laws))]
 fn among(values: Values, s: &[u8]) -> bool
     ensures { result ≡ spelled_as (values_of values) s.now }
 {
@@ -185,15 +201,21 @@ fn unless(good: bool, refusal: Refusal) -> Verdict
 }
 
 // The kinds N, U, X and K: too long, then an edge, then the form.
+#[tactic(auto, unfolding(records::specs::Items::sized))]
 fn sized(most: u16, s: &[u8], good: bool) -> Verdict
     ensures { fault_in result ≡ sized_of most s.now good }
 {
-    unless(s.len() <= usize::from(most), Long)?;
-    unless(!edge(s), Edge)?;
+    if usize::from(most) < s.len() {
+        return Err(Long);
+    }
+    if edge(s) {
+        return Err(Edge);
+    }
     unless(good, Form)
 }
 
 // The fault of an item that is not empty, by its kind.
+#[tactic(auto, unfolding(records::specs::Items::fault))]
 fn kind_fault(kind: Kind, s: &[u8]) -> Verdict
     ensures { fault_in result ≡ fault_of (kind_of kind) s.now }
 {
@@ -201,7 +223,7 @@ fn kind_fault(kind: Kind, s: &[u8]) -> Verdict
         Kind::Text(most) => sized(most, s, true),
         Kind::OneWidth(most) => sized(most, s, Uniform::Width.holds_in(s)),
         Kind::Kana(most) => sized(most, s, Uniform::Script.holds_in(s)),
-        Kind::Code(most) => sized(most, s, s.iter().all(|b| is_code(*b))),
+        Kind::Code(most) => sized(most, s, all_code(s)),
         Kind::Author => unless(author(s), Form),
         Kind::Prefecture => unless(prefecture(s), Form),
         Kind::SevenDigits => unless(seven(s), Form),
@@ -215,6 +237,7 @@ fn kind_fault(kind: Kind, s: &[u8]) -> Verdict
 }
 
 /// What the rules say of an item of the table.
+#[tactic(auto, unfolding(records::specs::Records::item_fault))]
 pub fn item_fault(item: Item, provider: bool, s: &[u8]) -> Result<(), Refusal>
     ensures { fault_in result ≡ item_fault provider (item_of item) s.now }
 {
