@@ -1,6 +1,6 @@
 -- Promises, to be believed.
 -- DOCUMENT 02 (i), Reiwa, as statements about the days that are read and the files that the call canonical writes. proofs/Promises.antt proves each.
-use Rattle.std.specs.Prelude.{ℕ, ◌-◌, ◌≤◌, ◌≡◌, ◌↔◌, true, List, [], ◌∷◌, ◌++◌, get_or, drop}
+use Rattle.std.specs.Prelude.{ℕ, ◌-◌, ◌≤◌, ◌≡◌, ◌↔◌, true, List, [], ◌∷◌, ◌++◌, Some, get_or, drop}
 use Rattle.lists.specs.Lists.{All, ok}
 use Rattle.characters.specs.Text.{text}
 use Rattle.characters.specs.Rows.{rows}
@@ -8,7 +8,6 @@ use Rattle.eras.specs.declared.Era.{Era}
 use Rattle.eras.specs.Day.{is_day}
 use Rattle.eras.specs.Era.{eras, six_digits}
 use Rattle.eras.specs.Newest.{Newest}
-use Rattle.std.specs.Prelude.{Some}
 use Rattle.calendar.specs.Era.{read_day}
 use Rattle.records.specs.Split.{items_of}
 use Rattle.records.specs.Items.{Value, raw, num, day}

@@ -2,8 +2,7 @@
 -- The call cut. Document 01, "Cutting and joining": "Piece k is line 1, a run of canonical records, and 911,ID,n,k"; "Pieces are written one
 -- after another; the result holds their count and total length"; "Cutting: 1–16, 17, 18, 20". Document 02 (vii): "Cutting now also takes the used
 -- IDs"; 24 "after 17 and before 18".
-use Rattle.std.specs.Prelude.{ℕ, suc, Bool, cond, List, [], ◌∷◌, ◌++◌, length}
-use Rattle.std.specs.Prelude.{Option, Some, None}
+use Rattle.std.specs.Prelude.{ℕ, suc, Bool, cond, List, [], ◌∷◌, ◌++◌, Option, Some, None, length}
 use Rattle.lists.specs.Lists.{Res, ok, refused, map_res, and_then}
 use Rattle.characters.specs.Rows.{flat}
 use Rattle.notebook.specs.Notebook.{Notebook, read_file}

@@ -1,8 +1,7 @@
 -- Examples, computed.
 -- Worked examples of cutting and joining, written from document 01: records 911, inputs of joining with what is joined or refused, and the
 -- refusals of cutting. proofs/AllExamples.antt computes them. The marked cases are in Cases.antt.
-use Rattle.std.specs.Prelude.{ℕ, List, [], ◌∷◌, ◌++◌}
-use Rattle.std.specs.Prelude.{Option, Some, None}
+use Rattle.std.specs.Prelude.{ℕ, List, [], ◌∷◌, ◌++◌, Option, Some, None}
 use Rattle.lists.specs.Lists.{bytes, Res, ok, refused}
 use Rattle.characters.specs.Rows.{line_end, end_mark}
 use Rattle.replies.specs.Replies.{Answer}

@@ -3,9 +3,8 @@
 -- record 911 of items ID, n, k as its last line, all with equal line 1, ID (14 digits) and n (2–999, value); k takes each value 1 to n
 -- once"; "The joined file is line 1 and the records by k, without 911 and 1Ah; it is then checked as a file". "Joining: 1 and 2 on the input,
 -- 19, then 1–16 on the joined file, then 20".
-use Rattle.std.specs.Prelude.{ℕ, zero, suc, Bool, true, cond, not, ◌&&◌, List, [], ◌∷◌, ◌++◌, leb, eqb, length}
+use Rattle.std.specs.Prelude.{ℕ, zero, suc, Bool, true, cond, not, ◌&&◌, List, [], ◌∷◌, ◌++◌, Option, Some, None, leb, eqb, length}
 use Rattle.std.specs.Bool.{beq}
-use Rattle.std.specs.Prelude.{Option, Some, None}
 use Rattle.lists.specs.Lists.{same, Res, ok, refused, map_res, and_then}
 use Rattle.characters.specs.Text.{text}
 use Rattle.records.specs.Records.{is_mark}

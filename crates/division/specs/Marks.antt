@@ -1,7 +1,6 @@
 -- Definitions, to be believed.
 -- The record 911 of a piece: `911,ID,n,k`. Document 01, "Cutting and joining"; 15-106 3.2.9, record 911.
-use Rattle.std.specs.Prelude.{ℕ, Bool, cond, ◌&&◌, List, [], ◌∷◌, eqb, length}
-use Rattle.std.specs.Prelude.{Option, Some, None}
+use Rattle.std.specs.Prelude.{ℕ, Bool, cond, ◌&&◌, List, [], ◌∷◌, Option, Some, None, eqb, length}
 use Rattle.lists.specs.Lists.{all, same}
 use Rattle.digits.specs.Digits.{is_digit, number, spell}
 use Rattle.records.specs.Split.{items_of, joined}

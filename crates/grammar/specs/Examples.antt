@@ -2,8 +2,7 @@
 -- Worked examples of the grammar, written from document 01: notebooks that meet the conditions, notebooks that break one, and records that no
 -- notebook has. proofs/AllExamples.antt shows that they come out so, of the wrong records
 -- proofs/Examples.antt of verdict.
-use Rattle.std.specs.Prelude.{ℕ, Bool, true, false, List, [], ◌∷◌}
-use Rattle.std.specs.Prelude.{Option, Some, None}
+use Rattle.std.specs.Prelude.{ℕ, Bool, true, false, List, [], ◌∷◌, Option, Some, None}
 use Rattle.order.specs.declared.Facts.{Facts}
 use Rattle.grammar.specs.Grammar.{Details, Usage, Prescription, Prescriptions, without_doctors, with_doctors, Group, Tree, rec}
 

@@ -4,8 +4,7 @@
 -- wholes that name them; the conditions are in document 01's order. Two of its sentences need no line: "A 201 with another value than the open
 -- RP begins a new RP; so does any 201 after a 301 or 391" and what closes a part. They tell where a fault stands, and in a notebook without
 -- fault they follow from the pattern and the values.
-use Rattle.std.specs.Prelude.{ℕ, ◌+◌, ◌≡◌, Bool, true, false, not, ◌&&◌, ◌||◌, List, [], ◌∷◌, leb, eqb}
-use Rattle.std.specs.Prelude.{Option, Some, None}
+use Rattle.std.specs.Prelude.{ℕ, ◌+◌, ◌≡◌, Bool, true, false, not, ◌&&◌, ◌||◌, List, [], ◌∷◌, Option, Some, None, leb, eqb}
 use Rattle.order.specs.declared.Facts.{Facts}
 
 -- ---- the pattern: 15-106 3.2.7, patterns 1 and 2; how many of a number, 3.2.8, last column

@@ -1,8 +1,7 @@
 -- A second statement, proved equal.
 -- Document 01, "Index", and document 02, (v), read off the tree: the group of each record, the line of the 55 under which the tree puts its RP, the line of
 -- the 201 to whose drug a 281 or 291 belongs, the line of its group's 51 from that record on. No record before is looked for.
-use Rattle.std.specs.Prelude.{ℕ, ◌+◌, List, [], ◌∷◌}
-use Rattle.std.specs.Prelude.{Option, Some, None}
+use Rattle.std.specs.Prelude.{ℕ, ◌+◌, List, [], ◌∷◌, Option, Some, None}
 use Rattle.grammar.specs.Grammar.{Details, Drug, Usage, Prescription, Later, Prescriptions, without_doctors, with_doctors, Group, Tree}
 
 -- the columns that the order of records decides

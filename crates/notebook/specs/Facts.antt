@@ -1,8 +1,7 @@
 -- Definitions, to be believed.
 -- What the order of records looks at in a record. Document 01, "Order of records" and "Pairs" name these and no
 -- others, so a respelled file takes the same steps.
-use Rattle.std.specs.Prelude.{ℕ, cond, not, ◌&&◌, eqb}
-use Rattle.std.specs.Prelude.{Option, Some, None}
+use Rattle.std.specs.Prelude.{ℕ, cond, not, ◌&&◌, eqb, Option, Some, None}
 use Rattle.digits.specs.Digits.{number}
 use Rattle.order.specs.declared.Facts.{Facts}
 use Rattle.records.specs.Items.{Value, raw, num, day}

@@ -3,8 +3,7 @@
 -- together, and no other division has the shape `Shaped` (proofs/GroupLaws.antt). Then what is asked of a group (`group_day`, `institution`), of the
 -- groups (`NewestFirst`) and of a notebook (`person`). Proved equal to what the index and check say are the groups, their ordinals and their days; `institution`
 -- and `person` are held by examples alone until a call rests on them. Document 01, "Order of records", "Index"; 15-106 3.2.7, 3.2.9.
-use Rattle.std.specs.Prelude.{ℕ, ◌+◌, ◌≤◌, ◌≡◌, false, cond, ◌||◌, eqb}
-use Rattle.std.specs.Prelude.{Option, Some, None}
+use Rattle.std.specs.Prelude.{ℕ, ◌+◌, ◌≤◌, ◌≡◌, false, cond, ◌||◌, eqb, Option, Some, None}
 use mathlib.Core.List.{List, [], ◌∷◌, ◌++◌, map, flatten}
 use Rattle.lists.specs.Lists.{All}
 use Rattle.records.specs.Items.{Value, raw, num, day}

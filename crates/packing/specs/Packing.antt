@@ -1,8 +1,7 @@
 -- Definitions, to be believed.
 -- Packing things of a length into numbered pieces of a capacity. Document 01, "Cutting and joining": "Records are packed as many as fit,
 -- in order." Nothing here is about bytes or records: `len` is a thing's length, `o k` is what piece k holds besides its things.
-use Rattle.std.specs.Prelude.{ℕ, suc, ◌+◌, cond, List, [], ◌∷◌, leb}
-use Rattle.std.specs.Prelude.{Option, Some, None}
+use Rattle.std.specs.Prelude.{ℕ, suc, ◌+◌, cond, List, [], ◌∷◌, Option, Some, None, leb}
 use Rattle.std.specs.Option.{option_map}
 
 -- the length of all

@@ -2,8 +2,7 @@
 -- The plan of a cutting: one piece where all fits, else the first width of the count that serves. Document 01, "Cutting and joining":
 -- "Numbers n of one, two, three digits are tried in turn until one width serves: every record finds a piece and the count of pieces has
 -- that many digits."
-use Rattle.std.specs.Prelude.{ℕ, zero, suc, ◌+◌, Bool, cond, ◌&&◌, List, leb, eqb, length}
-use Rattle.std.specs.Prelude.{Option, Some, None}
+use Rattle.std.specs.Prelude.{ℕ, zero, suc, ◌+◌, Bool, cond, ◌&&◌, List, Option, Some, None, leb, eqb, length}
 use Rattle.digits.specs.Digits.{digit_count}
 use Rattle.packing.specs.Packing.{total, pack}
 

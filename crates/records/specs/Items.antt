@@ -1,8 +1,7 @@
 -- Definitions, to be believed.
 -- What an item of each kind may be, and what it is read to. Document 01, "Items"; refusals 8 to 11; 15-106 3.2.2, 3.2.5, 3.2.9.
 -- A fault is a number of document 01's table, 0 for none; a value is told of every item and means something where the fault is 0.
-use Rattle.std.specs.Prelude.{ℕ, ◌-◌, Bool, true, false, cond, not, ◌&&◌, ◌||◌, List, [], ◌∷◌, ◌++◌, leb, eqb, length, get_or, take, drop}
-use Rattle.std.specs.Prelude.{Option, Some, None}
+use Rattle.std.specs.Prelude.{ℕ, ◌-◌, Bool, true, false, cond, not, ◌&&◌, ◌||◌, List, [], ◌∷◌, ◌++◌, Option, Some, None, leb, eqb, length, get_or, take, drop}
 use Rattle.lists.specs.Lists.{within, all, same, last, up_to, ◌or_else◌, unless}
 use Rattle.digits.specs.Digits.{is_digit, value as digits_value, number, spell}
 use Rattle.calendar.specs.declared.Day.{Day}
