@@ -1,6 +1,6 @@
 -- Vocabulary of the code.
 -- What a scan finds, as the code answers it: the text from a position on, its commas and their places, and what stands where a row begins.
-use Rattle.std.specs.Prelude.{ℕ, ◌+◌, ◌≤◌, ◌<◌, ◌≡◌, Bool, true, ◌⊎◌, List, [], ◌∷◌, length, drop, get_or}
+use Rattle.std.specs.Prelude.{ℕ, ◌+◌, ◌≤◌, ◌<◌, ◌^◌, ◌≡◌, Option, is_some, IfSome, Bool, true, ◌⊎◌, List, [], ◌∷◌, length, drop, get_or}
 use Rattle.lists.specs.Searching.{part}
 use Rattle.characters.specs.declared.Char.TheVariants.{Bad}
 use Rattle.characters.specs.Text.{all_chars, text}
@@ -9,7 +9,6 @@ use Rattle.characters.specs.Scanning.{char_at, bytes_of, is_own_hiragana, is_own
 use Rattle.characters.specs.Rows.{rows, end_mark}
 use Rattle.scanning.specs.declared.runs.Scripts.{Scripts}
 use Rattle.scanning.specs.declared.runs.Run.{Run}
-use Rattle.scanning.specs.declared.runs.Told.{Told}
 use Rattle.scanning.specs.declared.lines.Scan.{Scan}
 use Rattle.scanning.specs.declared.lines.Line.{Line}
 use Rattle.scanning.specs.declared.lines.Line.TheVariants.{Whole, Mark, End, Broken}
@@ -48,6 +47,16 @@ pub record Bytes (l : List ℕ) (k : Scripts) : Type 0 where
   pub katakana : k.katakana ≡ bytes_of is_own_katakana l
   pub either : k.either ≡ bytes_of is_either l
 
+-- two such counts whose sums fit, and the sums
+pub record SumFits (a b : Scripts) : Type 0 where
+  pub one : a.one + b.one < 2 ^ 64
+  pub hiragana : a.hiragana + b.hiragana < 2 ^ 64
+  pub katakana : a.katakana + b.katakana < 2 ^ 64
+  pub either : a.either + b.either < 2 ^ 64
+
+abbrev pub sum_of : Scripts → Scripts → Scripts
+sum_of a b = record { one = a.one + b.one; hiragana = a.hiragana + b.hiragana; katakana = a.katakana + b.katakana; either = a.either + b.either }
+
 -- and from a to e
 abbrev pub Counted : List ℕ → ℕ → ℕ → Scripts → Type 0
 Counted s a e k = Bytes (part s a e) k
@@ -56,10 +65,10 @@ Counted s a e k = Bytes (part s a e) k
 pub record Finished (s : List ℕ) (i : ℕ) (k : Scripts) (r : Run) : Type 0 where
   pub holds : (a : ℕ) → RunOf s a i → Counted s a i k → RunOf s a r.end × RunEnds s r.end × Counted s a r.end r.scripts
 
--- whether a list is characters, and their scripts if it is
-pub record ToldOf (s : List ℕ) (t : Told) : Type 0 where
-  pub chars : t.good ≡ all_chars s
-  pub bytes : t.good ≡ true → Bytes s t.scripts
+-- the scripts of a list, if it is characters
+pub record ToldOf (s : List ℕ) (t : Option Scripts) : Type 0 where
+  pub chars : is_some t ≡ all_chars s
+  pub bytes : IfSome t (Bytes s)
 
 -- a whole line with its n commas and their places
 pub record ScannedLine (s : List ℕ) (at : ℕ) (stops : List ℕ) (e : ℕ) (good : Bool) (n : ℕ) : Type 0 where

@@ -11,4 +11,4 @@ mod lines;
 mod runs;
 
 pub use lines::{Line, Scan, line_at, scan_text};
-pub use runs::{Run, Scripts, Told, all_chars, is_blank_pair, run_at, run_end, scripts_of};
+pub use runs::{Run, Scripts, all_chars, is_blank_pair, run_at, run_end, scripts_of};

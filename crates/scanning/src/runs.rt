@@ -1,13 +1,14 @@
 // Characters one after another.
 ghost use Rattle.std.specs.Prelude.{◌≡◌, ◌&&◌, ◌+◌, ◌≤◌, eqb, length};
 ghost use Rattle.characters.specs.Text.{all_chars};
-ghost use Rattle.scanning.specs.Scans.{RunOf, RunEnds, Counted, Finished, ToldOf};
+ghost use Rattle.scanning.specs.Scans.{RunOf, RunEnds, SumFits, sum_of, Counted, Finished, ToldOf};
 
 use crate::chars::char_of;
 use characters::Char;
+use std::ops::AddAssign;
 
 // How many bytes the characters of each script take. Those of no script of their own are what is left.
-#[derive(Clone, Copy)]
+#[derive(Clone, Copy, Debug, Default, PartialEq, Eq)]
 pub struct Scripts {
     pub one: usize,
     pub hiragana: usize,
@@ -15,59 +16,42 @@ pub struct Scripts {
     pub either: usize,
 }
 
+impl AddAssign for Scripts {
+    ghost can_add_assign = { λ a b. SumFits a b };
+
+    ghost add_assign_gives = { λ a b r. r ≡ sum_of a b };
+
+    fn add_assign(&mut self, other: Scripts) {
+        self.one += other.one;
+        self.hiragana += other.hiragana;
+        self.katakana += other.katakana;
+        self.either += other.either;
+    }
+}
+
 // Characters from a position on: where they end, and their scripts.
-#[derive(Clone, Copy)]
+#[derive(Clone, Copy, Debug, PartialEq, Eq)]
 pub struct Run {
     pub end: usize,
     pub scripts: Scripts,
 }
 
 // The run that has come to the last byte, or past it. A last byte is read with 0 after it, which is no trail: it is a character of one byte, or none.
+#[tactic(auto, using(crate::proofs::RunLaws::last_laws))]
 fn last_run(s: &[u8], i: usize, seen: Scripts) -> Run
     requires s_len_bound { length s.now ≤ i + 1 }
     requires one_le_i { seen.one ≤ i }
     ensures { Finished s.now i seen result }
 {
-    if s.len() <= i {
-        return Run {
-            end: i,
-            scripts: seen,
-        };
-    }
-    let z = s[i];
-    if z == 0x2c {
-        return Run {
-            end: i,
-            scripts: seen,
-        };
-    }
-    match char_of(z, 0) {
-        Char::One => Run {
+    match s.get(i) {
+        Some(&a) if a != 0x2c && char_of(a, 0) == Char::One => Run {
             end: i + 1,
             scripts: Scripts {
                 one: seen.one + 1,
-                hiragana: seen.hiragana,
-                katakana: seen.katakana,
-                either: seen.either,
+                ..seen
             },
         },
-        Char::Hiragana => Run {
-            end: i,
-            scripts: seen,
-        },
-        Char::Katakana => Run {
-            end: i,
-            scripts: seen,
-        },
-        Char::Either => Run {
-            end: i,
-            scripts: seen,
-        },
-        Char::Other => Run {
-            end: i,
-            scripts: seen,
-        },
-        Char::Bad => Run {
+        _ => Run {
             end: i,
             scripts: seen,
         },
@@ -82,77 +66,43 @@ pub fn run_at(s: &[u8], from: usize) -> Run
     ensures ends { RunEnds s.now result.end }
     ensures counted { Counted s.now from result.end result.scripts }
 {
-    let len = s.len();
-    if len == 0 {
-        return Run {
-            end: from,
-            scripts: Scripts {
-                one: 0,
-                hiragana: 0,
-                katakana: 0,
-                either: 0,
-            },
-        };
-    }
-    let last = len - 1;
+    let last = s.len().saturating_sub(1);
     let mut i = from;
-    let mut one = 0;
-    let mut hiragana = 0;
-    let mut katakana = 0;
-    let mut either = 0;
+    let mut seen = Scripts::default();
+    // No `for`: a step is one byte or two.
     while i < last {
         let a = s[i];
-        let next = i + 1;
-        match char_of(a, s[next]) {
+        match char_of(a, s[i + 1]) {
             Char::One => {
                 if a == 0x2c {
                     return Run {
                         end: i,
-                        scripts: Scripts {
-                            one,
-                            hiragana,
-                            katakana,
-                            either,
-                        },
+                        scripts: seen,
                     };
                 }
-                one += 1;
+                seen.one += 1;
                 i += 1;
             }
             Char::Hiragana => {
-                hiragana += 2;
+                seen.hiragana += 2;
                 i += 2;
             }
             Char::Katakana => {
-                katakana += 2;
+                seen.katakana += 2;
                 i += 2;
             }
             Char::Either => {
-                either += 2;
+                seen.either += 2;
                 i += 2;
             }
             Char::Other => i += 2,
             Char::Bad => return Run {
                 end: i,
-                scripts: Scripts {
-                    one,
-                    hiragana,
-                    katakana,
-                    either,
-                },
+                scripts: seen,
             },
         }
     }
-    last_run(
-        s,
-        i,
-        Scripts {
-            one,
-            hiragana,
-            katakana,
-            either,
-        },
-    )
+    last_run(s, i, seen)
 }
 
 // Where that run ends.
@@ -161,59 +111,25 @@ pub fn run_end(s: &[u8], from: usize) -> usize
     ensures run { RunOf s.now from result }
     ensures ends { RunEnds s.now result }
 {
-    let r = run_at(s, from);
-    r.end
+    run_at(s, from).end
 }
 
-// A whole list: whether all of it is characters, and their scripts if so.
-#[derive(Clone, Copy)]
-pub struct Told {
-    pub good: bool,
-    pub scripts: Scripts,
-}
-
-pub fn scripts_of(s: &[u8]) -> Told
+// The scripts of a whole list, if all of it is characters.
+pub fn scripts_of(s: &[u8]) -> Option<Scripts>
     ensures { ToldOf s.now result }
 {
     let mut i = 0;
-    let mut one = 0;
-    let mut hiragana = 0;
-    let mut katakana = 0;
-    let mut either = 0;
-    while i < s.len() {
-        let r = run_at(s, i);
-        let e = r.end;
-        let k = r.scripts;
-        one += k.one;
-        hiragana += k.hiragana;
-        katakana += k.katakana;
-        either += k.either;
-        if s.len() <= e {
-            i = e;
-            continue;
+    let mut seen = Scripts::default();
+    // No `for`: a step is a run.
+    loop {
+        let run = run_at(s, i);
+        seen += run.scripts;
+        match s.get(run.end) {
+            None => return Some(seen),
+            Some(0x2c) => seen.one += 1,
+            Some(_) => return None,
         }
-        if s[e] != 0x2c {
-            return Told {
-                good: false,
-                scripts: Scripts {
-                    one,
-                    hiragana,
-                    katakana,
-                    either,
-                },
-            };
-        }
-        one += 1;
-        i = e + 1;
-    }
-    Told {
-        good: true,
-        scripts: Scripts {
-            one,
-            hiragana,
-            katakana,
-            either,
-        },
+        i = run.end + 1;
     }
 }
 
@@ -221,19 +137,13 @@ pub fn scripts_of(s: &[u8]) -> Told
 pub fn all_chars(s: &[u8]) -> bool
     ensures { result ≡ all_chars s.now }
 {
-    let t = scripts_of(s);
-    t.good
+    scripts_of(s).is_some()
 }
 
 // Whether two bytes are the character 8140h: of the two in both kana scripts the one with this trail.
+#[tactic(auto, using(crate::proofs::RunLaws::blank_laws))]
 pub fn is_blank_pair(a: u8, b: u8) -> bool
     ensures { result ≡ (eqb a 0x81 && eqb b 0x40) }
 {
-    if b != 0x40 {
-        return false;
-    }
-    let two = [a, b];
-    let t = scripts_of(&two);
-    let k = t.scripts;
-    t.good & (k.either == 2)
+    b == 0x40 && scripts_of(&[a, b]).is_some_and(|k| k.either == 2)
 }

@@ -1,24 +1,18 @@
-use Rattle.std.proofs.Common.{rules}
-use Rattle.scanning.proofs.RunLaws.{telling_laws, telling_stuck, telling_run}
+use Rattle.std.proofs.Common.{rules, arith}
+use Rattle.scanning.proofs.RunLaws.{telling_laws, telling_stuck}
 use Rattle.scanning.proofs.runs.scripts_of.Goals as goal
 
-pub overflow_add-one : goal.overflow_add-one
-overflow_add-one c = search (rules, telling_laws)
+pub add_assign-requires : goal.add_assign-requires
+add_assign-requires c = search (rules, telling_laws)
 
-pub overflow_add-hiragana : goal.overflow_add-hiragana
-overflow_add-hiragana c = search (rules, telling_laws)
+pub returns-in-None : goal.returns-in-None
+returns-in-None c = search (rules, telling_laws, c.in-None.ensures.lookup)
 
-pub overflow_add-katakana : goal.overflow_add-katakana
-overflow_add-katakana c = search (rules, telling_laws)
+pub overflow_add-seen : goal.overflow_add-seen
+overflow_add-seen c = search (rules, telling_laws, c.in-Some-eq44.ensures.lookup)
 
-pub overflow_add-either : goal.overflow_add-either
-overflow_add-either c = search (rules, telling_laws)
+pub returns-in-Some : goal.returns-in-Some
+returns-in-Some c = telling_stuck c.loop-seen.invariant c.run_at-run.ensures.run c.run_at-run.ensures.counted (omega (arith, c.in-Some.ensures.lookup)) (search c.in-Some.ensures.lookup) c.in-Some.field-0-test.1 c.run_at-run.ensures.ends
 
-pub returns-then-s-e-ne44 : goal.returns-then-s-e-ne44
-returns-then-s-e-ne44 c = telling_stuck (telling_run c.loop-i.invariant c.run_at-r.ensures.run c.run_at-r.ensures.counted) c.if-s-e.false _ c.run_at-r.ensures.ends c.if-s-e-ne44.true
-
-pub overflow_add-one-in-loop-i : goal.overflow_add-one-in-loop-i
-overflow_add-one-in-loop-i c = search (rules, telling_laws)
-
-pub loop-i-preserved : goal.loop-i-preserved
-loop-i-preserved c = search (rules, telling_laws)
+pub loop-seen-preserved : goal.loop-seen-preserved
+loop-seen-preserved c = search (rules, telling_laws, c.in-Some-eq44.ensures.lookup)

@@ -2,8 +2,8 @@ use Rattle.std.proofs.Common.{◌-◌, length}
 use Rattle.scanning.proofs.RunLaws.{Telling}
 use Rattle.scanning.proofs.runs.scripts_of.Given as goal
 
-abbrev pub invariant-loop-i : goal.invariant-loop-i
-invariant-loop-i l = Telling l.s l.i l.one l.hiragana l.katakana l.either'
+abbrev pub invariant-loop-seen : goal.invariant-loop-seen
+invariant-loop-seen l = Telling l.s l.i l.seen
 
-abbrev pub decreases-loop-i : goal.decreases-loop-i
-decreases-loop-i l = length l.s - l.i
+abbrev pub decreases-loop-seen : goal.decreases-loop-seen
+decreases-loop-seen l = length l.s - l.i
