@@ -64,16 +64,15 @@ module _ (s : List ℕ) {o : Option ℕ} (e : o ≡ number s) where
       go true h = sym (prefecture_by s (eqb-true _ _ h) ∙ ap in_range (sym e ∙ q))
       go false h = simp h
 
-  module _ {n : ℕ} (q : o ≡ Some n) where
-    pub prefecture_some : {r : Bool} → length s ≡ 2 → r ≡ within 1 47 n → r ≡ prefecture s
-    unfolding in_range
-    prefecture_some h w = w ∙ sym (prefecture_by s h ∙ ap in_range (sym e ∙ q))
+  pub prefecture_some : {n : ℕ} → o ≡ Some n → (eqb (length s) 2 && (leb 1 n && leb n 47)) ≡ prefecture s
+  unfolding prefecture in_range
+  prefecture_some {n} q = go (eqb (length s) 2) refl
+    where
+      go : (x : Bool) → eqb (length s) 2 ≡ x → (x && within 1 47 n) ≡ prefecture s
+      go true h = sym (prefecture_by s (eqb-true _ _ h) ∙ ap in_range (sym e ∙ q))
+      go false h = simp h
 
-pub no_prefecture : (s : List ℕ) {r : Bool} → (length s ≡ 2 → ⊥) → r ≡ false → r ≡ prefecture s
-unfolding prefecture
-no_prefecture s h r = r ∙ simp (ne_eqb (length s) 2 h)
-
-pub ruleset prefecture_laws = (prefecture_none, prefecture_some, no_prefecture)
+pub ruleset prefecture_laws = (prefecture_none, prefecture_some)
 
 -- ---- W and Q
 
@@ -90,6 +89,9 @@ module _ (w f : ℕ) (s : List ℕ) {p : ℕ} (e : p ≡ find_from 0x2e s 0) whe
   pub period_inside : p ≤ length s
   period_inside = omega (arith, e, find_high 0x2e s 0 (omega arith))
 
+  pub period_length : p ≡ length (take p s)
+  period_length = omega (arith, period_inside, length-take p s)
+
   module _ {x : Bool} (a : x ≡ whole_part w (take p s)) where
     decimal_parts : is_decimal w f s ≡ (x && fraction f (drop p s))
     unfolding is_decimal find_from
@@ -104,4 +106,4 @@ module _ (w f : ℕ) (s : List ℕ) {p : ℕ} (e : p ≡ find_from 0x2e s 0) whe
     pub decimal_is : {y : Bool} → x ≡ true → y ≡ fraction f (take (length s - p) (drop p s)) → y ≡ is_decimal w f s
     decimal_is q r = r ∙ ap (fraction f) (rest_all p s) ∙ sym (rw (decimal_parts, q) refl)
 
-pub ruleset decimal_laws = (period_inside, decimal_not, decimal_is)
+pub ruleset decimal_laws = (period_inside, period_length, decimal_not, decimal_is)

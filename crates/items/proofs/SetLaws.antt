@@ -38,7 +38,7 @@ no_zero (n ∷ ns) h =
     let q : (1 ≤ n) × (n ≤ 999) = small_is n p.0 in
     rw (ne_eqb 0 n (λ e. omega arith), no_zero ns p.1)
 
-values_small : (v : Values) → all small (values_of v) ≡ true
+pub values_small : (v : Values) → all small (values_of v) ≡ true
 values_small Sex = refl
 values_small NoteKind = refl
 values_small FeeSchedule = refl

@@ -72,11 +72,14 @@ impl Uniform {
     }
 
     // The same of a whole item.
+    #[tactic(auto, using(crate::proofs::TextLaws::told_none))]
     fn holds_in(self, s: &[u8]) -> bool
         ensures { result ≡ uniform_text self s.now }
     {
-        let t = scanning::scripts_of(s);
-        t.good && self.holds(t.scripts, s.len())
+        match scanning::scripts_of(s) {
+            Some(k) => self.holds(k, s.len()),
+            None => false,
+        }
     }
 }
 
@@ -134,7 +137,7 @@ fn prefecture(s: &[u8]) -> bool
     ensures { result ≡ prefecture_of s.now }
 {
     match digits::short_value(s) {
-        Some(n) => s.len() == 2 && 1 <= n && n <= 47,
+        Some(n) => (s.len() == 2) & ((1 <= n) & (n <= 47)),
         None => false,
     }
 }
@@ -284,6 +287,7 @@ fn no_wide_edge(k: Scripts, s: &[u8], from: usize, z: u8) -> bool
 
 // Where a run that is not empty ends, if it is not too long and has no edge. A blank or a quote at an end is 8140h or a character of one byte below
 // 28h: most runs have neither.
+#[tactic(auto, using(crate::proofs::EndLaws::sized_laws))]
 fn sized_end(most: u16, s: &[u8], from: usize, run: Run) -> Option<usize>
     requires run_of { RunOf s.now from run.end }
     requires counted { Counted s.now from run.end run.scripts }
@@ -297,7 +301,7 @@ fn sized_end(most: u16, s: &[u8], from: usize, run: Run) -> Option<usize>
     }
     let a = s[from];
     let z = s[end - 1];
-    if k.one == 0 || (0x28 <= a && 0x28 <= z) {
+    if (k.one == 0) | ((0x28 <= a) & (0x28 <= z)) {
         if no_wide_edge(k, s, from, z) {
             return Some(end);
         }
@@ -306,6 +310,7 @@ fn sized_end(most: u16, s: &[u8], from: usize, run: Run) -> Option<usize>
 }
 
 // Kind N: too long, then an edge.
+#[tactic(auto, using(crate::proofs::EndLaws::text_item_laws))]
 fn text_item(most: u16, need: Need, provider: bool, s: &[u8], from: usize) -> Option<usize>
     requires { from ≤ length s.now }
     ensures { EndOf provider (record { kind = N most; need = need_of need }) s.now from result }
@@ -318,6 +323,7 @@ fn text_item(most: u16, need: Need, provider: bool, s: &[u8], from: usize) -> Op
 }
 
 // Kinds U and K: the scripts of the run, then as kind N.
+#[tactic(auto, using(crate::proofs::EndLaws::uniform_item_laws))]
 fn uniform_item(
     uniform: Uniform,
     most: u16,
@@ -340,6 +346,7 @@ fn uniform_item(
 }
 
 // Kind X: a code has no edge, so its length and whether it must not be empty are all that is left to look at.
+#[tactic(auto, using(crate::proofs::EndLaws::code_item_laws))]
 fn code_item(most: u16, need: Need, provider: bool, s: &[u8], from: usize) -> Option<usize>
     requires { from ≤ length s.now }
     ensures { EndOf provider (record { kind = X most; need = need_of need }) s.now from result }
@@ -356,6 +363,7 @@ fn code_item(most: u16, need: Need, provider: bool, s: &[u8], from: usize) -> Op
 }
 
 // Any other kind: its bytes are those of a code (digits, a period, a hyphen, an era's letter), so that the run of these is looked at.
+#[tactic(auto, using(crate::proofs::EndLaws::other_item_laws))]
 fn other_item(item: Item, provider: bool, s: &[u8], from: usize) -> Option<usize>
     requires { from ≤ length s.now }
     ensures { EndOf provider (item_of item) s.now from result }
@@ -368,6 +376,7 @@ fn other_item(item: Item, provider: bool, s: &[u8], from: usize) -> Option<usize
 }
 
 // The value of a digit with a comma or 0Dh after it, which is an item of one byte.
+#[tactic(auto, using(crate::proofs::DigitLaws::digit_laws))]
 fn digit_at(s: &[u8], from: usize) -> Option<u32>
     requires { from ≤ length s.now }
     ensures { DigitAt s.now from result }
@@ -382,6 +391,7 @@ fn digit_at(s: &[u8], from: usize) -> Option<u32>
 }
 
 // Whether an item of one digit has no fault, by its kind. False says nothing.
+#[tactic(auto, using(crate::proofs::DigitLaws::fits_laws))]
 fn digit_fits(kind: Kind, d: u32) -> bool
     ensures { DigitFits (kind_of kind) d result }
 {
@@ -394,6 +404,7 @@ fn digit_fits(kind: Kind, d: u32) -> bool
 }
 
 // The kinds of which most items are one digit.
+#[tactic(auto, using(crate::proofs::EndLaws::end_digit))]
 fn digit_item(item: Item, provider: bool, s: &[u8], from: usize) -> Option<usize>
     requires { from ≤ length s.now }
     ensures { EndOf provider (item_of item) s.now from result }
@@ -412,6 +423,7 @@ pub struct Spelled {
 }
 
 /// The digits at a position, if there are any. None are told of the last two bytes of all, which end no record.
+#[tactic(auto, using(crate::proofs::NumberLaws::spelled_laws))]
 pub fn spelled_at(s: &[u8], at: usize) -> Option<Spelled>
     requires { at ≤ length s.now }
     ensures { SpelledAt s.now at result }
@@ -440,6 +452,7 @@ pub fn spelled_at(s: &[u8], at: usize) -> Option<Spelled>
 }
 
 // Kind R.
+#[tactic(auto, using(crate::proofs::NumberLaws::number_fine))]
 fn number_item(need: Need, provider: bool, s: &[u8], from: usize) -> Option<usize>
     requires { from ≤ length s.now }
     ensures { EndOf provider (record { kind = R; need = need_of need }) s.now from result }
