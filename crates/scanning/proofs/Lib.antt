@@ -1,3 +1,3 @@
 pub mod TextLaws
-pub mod LineLaws
 pub mod RunLaws
+pub mod LineLaws

@@ -1,6 +1,6 @@
 -- Vocabulary of the code.
 -- What a scan finds, as the code answers it: the text from a position on, its commas and their places, and what stands where a row begins.
-use Rattle.std.specs.Prelude.{ℕ, ◌+◌, ◌≤◌, ◌<◌, ◌^◌, ◌≡◌, Option, is_some, IfSome, Bool, true, ◌⊎◌, List, [], ◌∷◌, length, drop, get_or}
+use Rattle.std.specs.Prelude.{ℕ, ◌+◌, ◌≤◌, ◌<◌, ◌^◌, ◌≡◌, Option, Some, None, is_some, IfSome, Result, Ok, Err, Bool, true, ◌⊎◌, List, [], ◌∷◌, length, drop, get_or}
 use Rattle.lists.specs.Searching.{part}
 use Rattle.characters.specs.declared.Char.TheVariants.{Bad}
 use Rattle.characters.specs.Text.{all_chars, text}
@@ -10,8 +10,7 @@ use Rattle.characters.specs.Rows.{rows, end_mark}
 use Rattle.scanning.specs.declared.runs.Scripts.{Scripts}
 use Rattle.scanning.specs.declared.runs.Run.{Run}
 use Rattle.scanning.specs.declared.lines.Scan.{Scan}
-use Rattle.scanning.specs.declared.lines.Line.{Line}
-use Rattle.scanning.specs.declared.lines.Line.TheVariants.{Whole, Mark, End, Broken}
+use Rattle.scanning.specs.declared.lines.Broken.{Broken}
 
 -- a list of places, as the code keeps it: the first sixteen commas of a line
 pub record Stops (l : List ℕ) (stops : List ℕ) : Type 0 where
@@ -76,12 +75,12 @@ pub record ScannedLine (s : List ℕ) (at : ℕ) (stops : List ℕ) (e : ℕ) (g
   pub commas : n ≡ comma_count (part s at e)
   pub places : Stops (part s at e) stops
 
-abbrev pub LineMeans : List ℕ → ℕ → List ℕ → Line → Type 0
-LineMeans s at stops (Whole e good n) = ScannedLine s at stops e good n
-LineMeans s at stops Mark = rows (drop at s) ≡ end_mark ∷ []
-LineMeans s at stops End = rows (drop at s) ≡ []
-LineMeans s at stops Broken = BrokenRow (rows (drop at s))
+-- the line that begins at a position; none, where no row is left but the end mark; or the first row is broken
+abbrev pub LineMeans : List ℕ → ℕ → List ℕ → Result (Option Scan) Broken → Type 0
+LineMeans s at stops (Ok (Some r)) = ScannedLine s at stops r.end r.good r.commas
+LineMeans s at stops (Ok None) = (rows (drop at s) ≡ []) ⊎ (rows (drop at s) ≡ end_mark ∷ [])
+LineMeans s at stops (Err e) = BrokenRow (rows (drop at s))
 
-pub record LineOf (s : List ℕ) (at : ℕ) (stops : List ℕ) (r : Line) : Type 0 where
+pub record LineOf (s : List ℕ) (at : ℕ) (stops : List ℕ) (r : Result (Option Scan) Broken) : Type 0 where
   pub means : LineMeans s at stops r
   pub size : Sixteen stops

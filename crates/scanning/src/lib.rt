@@ -10,5 +10,5 @@ mod chars;
 mod lines;
 mod runs;
 
-pub use lines::{Line, Scan, line_at, scan_text};
+pub use lines::{Broken, Scan, line_at, scan_text};
 pub use runs::{Run, Scripts, all_chars, is_blank_pair, run_at, run_end, scripts_of};

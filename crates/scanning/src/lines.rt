@@ -1,17 +1,18 @@
-// Lines.
+// The text of a line, and the line that begins at a position.
 ghost use Rattle.std.specs.Prelude.{◌≡◌};
 ghost use Rattle.characters.specs.Text.{is_stop};
-ghost use Rattle.scanning.specs.Scans.{ScanOf, Sixteen, LineOf};
+ghost use Rattle.scanning.specs.Scans.{ScanOf, LineOf};
 
 use crate::runs::run_end;
 
 fn is_stop(a: u8) -> bool
     ensures { result ≡ is_stop a }
 {
-    (a == 0x0d) | (a == 0x0a) | (a == 0x1a)
+    matches!(a, 0x0d | 0x0a | 0x1a)
 }
 
-#[derive(Clone, Copy)]
+// A text: where it ends, whether it is characters, and how many commas it has.
+#[derive(Clone, Copy, Debug, PartialEq, Eq)]
 pub struct Scan {
     pub end: usize,
     pub good: bool,
@@ -22,39 +23,29 @@ pub struct Scan {
 // commas, the first sixteen with their places from the position on. None of the three is a character or a trail, so a run never
 // passes one, after a bad byte too.
 pub fn scan_text(stops: &mut [usize; 16], s: &[u8], at: usize) -> Scan
-    requires { Sixteen stops.old }
     ensures { ScanOf s.now at stops.new result }
 {
     let mut i = at;
     let mut good = true;
     let mut commas = 0;
+    // No `for`: a step is a run and the byte after it.
     while i < s.len() {
-        let e = run_end(s, i);
-        if s.len() <= e {
-            i = e;
-            continue;
+        let end = run_end(s, i);
+        if s.len() <= end {
+            return Scan { end, good, commas };
         }
-        let b = s[e];
+        let b = s[end];
         if b == 0x2c {
             if commas < 16 {
-                stops[commas] = e - at;
-                commas += 1;
-                i = e + 1;
-            } else {
-                commas += 1;
-                i = e + 1;
+                stops[commas] = end - at;
             }
-            continue;
+            commas += 1;
+        } else if is_stop(b) {
+            return Scan { end, good, commas };
+        } else {
+            good = false;
         }
-        if is_stop(b) {
-            return Scan {
-                end: e,
-                good,
-                commas,
-            };
-        }
-        good = false;
-        i = e + 1;
+        i = end + 1;
     }
     Scan {
         end: i,
@@ -63,49 +54,22 @@ pub fn scan_text(stops: &mut [usize; 16], s: &[u8], at: usize) -> Scan
     }
 }
 
-// What stands at a position where a row begins.
-#[derive(Clone, Copy)]
-pub enum Line {
-    // A line that 0Dh 0Ah ends: where its text ends, whether it is characters, and its commas.
-    Whole(usize, bool, usize),
-    // 1Ah as the last byte.
-    Mark,
-    // Nothing.
-    End,
-    // The rule of line ends is broken.
-    Broken,
-}
+// The rule of line ends is broken.
+#[derive(Clone, Copy, Debug, PartialEq, Eq)]
+pub struct Broken;
 
-// The line that begins at a position; stops: the places of its commas, from its beginning.
-pub fn line_at(stops: &mut [usize; 16], s: &[u8], at: usize) -> Line
-    requires { Sixteen stops.old }
+// The line that begins at a position: its text, which 0Dh 0Ah follow, with the places of its commas, from its beginning; or none, where nothing
+// is left, or 1Ah alone.
+pub fn line_at(stops: &mut [usize; 16], s: &[u8], at: usize) -> Result<Option<Scan>, Broken>
     ensures { LineOf s.now at stops.new result }
 {
     if s.len() <= at {
-        return Line::End;
+        return Ok(None);
     }
-    let r = scan_text(stops, s, at);
-    let end = r.end;
-    let good = r.good;
-    let commas = r.commas;
-    if s.len() <= end {
-        return Line::Broken;
+    let text = scan_text(stops, s, at);
+    match &s[text.end..] {
+        [0x0d, 0x0a, ..] => Ok(Some(text)),
+        [0x1a] if text.end == at => Ok(None),
+        _ => Err(Broken),
     }
-    let next = end + 1;
-    if s.len() <= next {
-        if at < end {
-            return Line::Broken;
-        }
-        if s[end] == 0x1a {
-            return Line::Mark;
-        }
-        return Line::Broken;
-    }
-    if s[end] != 0x0d {
-        return Line::Broken;
-    }
-    if s[next] != 0x0a {
-        return Line::Broken;
-    }
-    Line::Whole(end, good, commas)
 }
