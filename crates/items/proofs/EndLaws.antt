@@ -10,7 +10,7 @@ use borrow.Author.Tests.{leb-true, leb-false, le-leb, lt-leb, eqb-true, ne_eqb}
 use lib.Dec.{leb, eqb}
 use lib.ListN.{length, get_or, take, drop, length-drop}
 use lib.Seq.{get_or-drop}
-use Rattle.lists.specs.Lists.{within, all, unless}
+use Rattle.lists.specs.Lists.{within, all}
 use Rattle.lists.specs.Searching.{part}
 use Rattle.lists.proofs.Cuts.{rest_all}
 use Rattle.lists.proofs.Loops.{past_end}

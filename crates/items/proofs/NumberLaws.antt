@@ -7,7 +7,7 @@ use native.Mathlib.Omega.{arith}
 use Rattle.std.specs.Prelude.{Option, Some, None}
 use borrow.Author.Tests.{le-leb}
 use lib.ListN.{length, get_or}
-use Rattle.lists.specs.Lists.{all, unless}
+use Rattle.lists.specs.Lists.{all}
 use Rattle.lists.specs.Searching.{part}
 use Rattle.lists.proofs.Tests.{all_append}
 use Rattle.lists.proofs.Parts.{part_length, part_none, part_more}

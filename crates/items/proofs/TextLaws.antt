@@ -1,7 +1,7 @@
 -- The kinds of text: what the scripts of their characters tell, and the first and the last character. Assumes nothing.
-use Prim.Native.Nat.{ℕ, suc, ◌+◌, ◌-◌, ◌≤◌, ◌<◌}
+use Prim.Native.Nat.{ℕ, suc, ◌+◌, ◌-◌, ◌≤◌}
 use mathlib.Core.Path.{◌≡◌, refl, sym, ap, ap₂, ◌∙◌, subst}
-use mathlib.Core.Bool.{Bool, true, false, cond, not, ◌&&◌, ◌||◌, true≢false, and-false, or-true}
+use mathlib.Core.Bool.{Bool, true, false, cond, not, ◌&&◌, true≢false, and-false}
 use mathlib.Core.Logic.{◌⊎◌, ⊎_elim}
 use mathlib.Core.List.{List, [], ◌∷◌, ◌++◌}
 use native.Mathlib.Omega.{arith}
@@ -21,7 +21,7 @@ use Rattle.characters.proofs.CharLaws.{pair_parts}
 use Rattle.scanning.proofs.TextLaws.{lead_from_81, trail_from_40}
 use Rattle.scanning.specs.declared.runs.Scripts.{Scripts}
 use Rattle.scanning.specs.Scans.{Bytes, ToldOf}
-use Rattle.records.specs.Items.{is_code, one_width, one_script, ends_wide, edge}
+use Rattle.records.specs.Items.{one_width, one_script, ends_wide, edge}
 use Rattle.items.specs.declared.Uniform.{Uniform}
 use Rattle.items.specs.declared.Uniform.TheVariants.{Width, Script}
 use Rattle.items.specs.Ends.{Within, uniform_scripts, uniform_text}

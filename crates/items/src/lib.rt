@@ -17,7 +17,6 @@ ghost use Rattle.items.specs.Kinds.{authors, values_of, need_of, kind_of, item_o
 ghost use Rattle.items.specs.Ends.{Within, uniform_scripts, uniform_text, uniform_kind, sized_end, EndOf, SpelledAt, CodeRun, DigitAt, DigitFits};
 
 pub use kinds::{Item, Kind, Need, Values};
-
 use replies::Refusal;
 use replies::Refusal::{Edge, Empty, Form, Long};
 use scanning::{Run, Scripts};
@@ -409,7 +408,9 @@ fn digit_item(item: Item, provider: bool, s: &[u8], from: usize) -> Option<usize
     requires { from ≤ length s.now }
     ensures { EndOf provider (item_of item) s.now from result }
 {
-    if let Some(d) = digit_at(s, from) && digit_fits(item.kind, d) {
+    if let Some(d) = digit_at(s, from)
+        && digit_fits(item.kind, d)
+    {
         return Some(from + 1);
     }
     other_item(item, provider, s, from)
@@ -457,7 +458,9 @@ fn number_item(need: Need, provider: bool, s: &[u8], from: usize) -> Option<usiz
     requires { from ≤ length s.now }
     ensures { EndOf provider (record { kind = R; need = need_of need }) s.now from result }
 {
-    if let Some(number) = spelled_at(s, from) && number.value != 0 {
+    if let Some(number) = spelled_at(s, from)
+        && number.value != 0
+    {
         return Some(number.end);
     }
     let kind = Kind::Number;
