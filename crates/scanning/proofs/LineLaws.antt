@@ -4,13 +4,12 @@ use mathlib.Core.Path.{◌≡◌, sym, ap, ◌∙◌, subst}
 use mathlib.Core.Logic.{inl, inr}
 use mathlib.Core.List.{List, [], ◌∷◌}
 use native.Mathlib.Omega.{arith}
-use lib.ListN.{length, take, drop, get_or, length-drop}
+use lib.ListN.{length, drop, get_or, length-drop}
 use lib.Seq.{get_or-drop}
-use Rattle.std.specs.Prelude.{Option, Some, None, Result, Ok, Err}
+use Rattle.std.specs.Prelude.{Some, None, Ok, Err}
 use Rattle.lists.specs.Searching.{part}
 use Rattle.lists.proofs.Cuts.{drop_end, last_on, rest_all, up_to_le}
 use Rattle.scanning.specs.declared.lines.Scan.{Scan}
-use Rattle.scanning.specs.declared.lines.Broken.{Broken}
 use Rattle.characters.specs.Text.{is_stop, text}
 use Rattle.characters.specs.Scanning.{comma_count}
 use Rattle.characters.specs.Rows.{rows}
@@ -22,9 +21,6 @@ module _ (s : List ℕ) (at : ℕ) (stops : List ℕ) where
   line_over z h = record { means = inl (ap rows (drop_end s at h)); size = z }
 
   module _ {r : Scan} (k : at < length s) (v : ScanOf s at stops r) where
-    e_low : at ≤ r.end
-    e_low = omega (arith, v.ends)
-
     pub line_range : r.end ≤ length s
     line_range = omega (arith, v.ends, up_to_le is_stop (drop at s), length-drop at s)
 
