@@ -16,6 +16,7 @@ use Rattle.std.specs.Prelude.{Option, Some, None, Result, Ok, Err}
 use Rattle.scanning.specs.declared.lines.Scan.{Scan}
 use Rattle.scanning.specs.declared.lines.Broken.{Broken}
 use Rattle.scanning.specs.Scans.{Stops, ScannedLine, LineMeans, LineOf}
+use Rattle.scanning.proofs.LineLaws.{over_rows}
 use Rattle.characters.specs.Rows.{rows}
 use Rattle.characters.specs.Scanning.{comma_count, WholeLine, BrokenRow}
 use Rattle.characters.proofs.RowLaws.{line_is, line_text, line_no_mark}
@@ -28,7 +29,7 @@ module _ {s : List ℕ} {at : ℕ} {stops : List ℕ} where
 
   pub records_over : (st : State) → LineOf s at stops (Ok None) → records_from st (rows (drop at s)) ≡ closed st
   unfolding records_from
-  records_over st w = ⊎_elim (ap (records_from st)) (ap (records_from st)) w.means
+  records_over st w = ⊎_elim (ap (records_from st)) (ap (records_from st)) (over_rows w.means)
 
   pub records_broken : (st : State) {b : Broken} → LineOf s at stops (Err b) → records_from st (rows (drop at s)) ≡ refused 2 (st.line + 1)
   unfolding records_from

@@ -19,6 +19,7 @@ use Rattle.scanning.specs.declared.lines.Broken.{Broken}
 use Rattle.characters.specs.Rows.{rows, flat, is_line, line_end}
 use Rattle.characters.specs.Scanning.{WholeLine, BrokenRow}
 use Rattle.scanning.specs.Scans.{LineOf}
+use Rattle.scanning.proofs.LineLaws.{over_rows}
 use Rattle.characters.proofs.RowLaws.{line_is, line_text, flat_rows}
 use Rattle.records.specs.Records.{header}
 use Rattle.notebook.specs.Notebook.{read_rows, read_file}
@@ -43,7 +44,7 @@ module _ (s : List ℕ) where
 
     pub open_over : LineOf s 0 stops (Ok None) → OpeningOf s (Err (record { refusal = LineEnd; line = 1 }))
     unfolding read_rows is_line
-    open_over w = record { means = by_rows ∙ ⊎_elim (ap read_rows) (ap read_rows) w.means }
+    open_over w = record { means = by_rows ∙ ⊎_elim (ap read_rows) (ap read_rows) (over_rows w.means) }
 
     pub open_broken : {b : Broken} → LineOf s 0 stops (Err b) → OpeningOf s (Err (record { refusal = LineEnd; line = 1 }))
     unfolding read_rows

@@ -15,6 +15,7 @@ use Rattle.scanning.specs.declared.lines.Scan.{Scan}
 use Rattle.characters.specs.Rows.{rows, is_line, line_end}
 use Rattle.characters.specs.Scanning.{WholeLine}
 use Rattle.scanning.specs.Scans.{LineOf}
+use Rattle.scanning.proofs.LineLaws.{over_rows}
 use Rattle.characters.proofs.RowLaws.{line_is, line_text}
 use Rattle.records.specs.Records.{record_of}
 use Rattle.rules.specs.Places.{in_group}
@@ -129,7 +130,7 @@ module _ {from : Reader} {s : List ℕ} {r : Reader} {d : List ℕ} {next : ℕ}
   -- where no record is left
   filling_none : {stops : List ℕ} → LineOf s r.at stops (Ok None) → entries_from r.st r.at (rows (drop r.at s)) ≡ []
   unfolding entries_from is_line
-  filling_none w = ⊎_elim (ap (entries_from r.st r.at)) (ap (entries_from r.st r.at)) w.means
+  filling_none w = ⊎_elim (ap (entries_from r.st r.at)) (ap (entries_from r.st r.at)) (over_rows w.means)
 
   module _ {stops : List ℕ} {l : Scan} (w : LineOf s r.at stops (Ok (Some l))) where
     line : WholeLine s r.at l.end l.good

@@ -75,10 +75,15 @@ pub record ScannedLine (s : List ℕ) (at : ℕ) (stops : List ℕ) (e : ℕ) (g
   pub commas : n ≡ comma_count (part s at e)
   pub places : Stops (part s at e) stops
 
--- the line that begins at a position; none, where no row is left but the end mark; or the first row is broken
+-- no line is left from a position on: nothing at the end of the bytes, before it 1Ah alone
+pub record Over (s : List ℕ) (at : ℕ) : Type 0 where
+  pub nothing : length s ≤ at → rows (drop at s) ≡ []
+  pub mark : at < length s → rows (drop at s) ≡ end_mark ∷ []
+
+-- the line that begins at a position; none, where no line is left; or the first row is broken
 abbrev pub LineMeans : List ℕ → ℕ → List ℕ → Result (Option Scan) Broken → Type 0
 LineMeans s at stops (Ok (Some r)) = ScannedLine s at stops r.end r.good r.commas
-LineMeans s at stops (Ok None) = (rows (drop at s) ≡ []) ⊎ (rows (drop at s) ≡ end_mark ∷ [])
+LineMeans s at stops (Ok None) = Over s at
 LineMeans s at stops (Err e) = BrokenRow (rows (drop at s))
 
 pub record LineOf (s : List ℕ) (at : ℕ) (stops : List ℕ) (r : Result (Option Scan) Broken) : Type 0 where
