@@ -17,7 +17,7 @@ use Rattle.replies.specs.declared.refusal.Refusal.{Refusal}
 use Rattle.replies.specs.declared.refusal.Refused.{Refused}
 use Rattle.replies.specs.Refusals.{number_of}
 use Rattle.order.specs.declared.Moved.{Moved}
-use Rattle.order.specs.State.{Step, Fault, On, step_in, step_of}
+use Rattle.order.specs.State.{Step, Fault, On, step_of}
 use Rattle.notebook.specs.Notebook.{step_line}
 use Rattle.lines.specs.declared.Line.{Line}
 use Rattle.lines.specs.Found.{FaultAt, broken as broken_line_lem, faulty as faulty_line, OverAt, ReadOf}

@@ -11,7 +11,7 @@ ghost use Rattle.order.specs.Room.{Room};
 ghost use Rattle.notebook.specs.Notebook.{closed as closed_of, records_from};
 ghost use Rattle.checking.specs.Turns.{TurnOf};
 ghost use Rattle.notebook.specs.Check.{check_result};
-ghost use Rattle.replies.specs.Replies.{answer};
+ghost use Rattle.replies.specs.Refusals.{answer};
 ghost use Rattle.replies.specs.Results.{answer_in};
 ghost use Rattle.checking.specs.Walking.{tally, Closing};
 ghost use Rattle.checking.specs.Opening.{Behind, OpeningOf};

@@ -9,7 +9,7 @@ ghost use Rattle.order.specs.State.{group_of, drug_of};
 ghost use Rattle.buffers.specs.Buffers.{Room, Wrote};
 ghost use Rattle.buffers.specs.Entries.{seven_numbers};
 ghost use Rattle.notebook.specs.Index.{clinic_after, clinic_of, index_result};
-ghost use Rattle.replies.specs.Replies.{answer};
+ghost use Rattle.replies.specs.Refusals.{answer};
 ghost use Rattle.replies.specs.CallContracts.{Gives};
 ghost use Rattle.index.specs.Filling.{Spanned, MidwayIn, BatchOf, Onward, Exit};
 
