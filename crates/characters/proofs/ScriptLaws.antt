@@ -76,7 +76,7 @@ of_bytes a b p q = go (is_lead a) refl (below_at (λ x. by_the_lead x) 256 all_p
     go true l e = below_at (λ y. by_the_bytes a y) 256 e b q
     go false l e = no_lead a b l (not_true' (starts_script a) e)
 
-beq_is : (x y : Bool) → beq x y ≡ true → x ≡ y
+pub beq_is : (x y : Bool) → beq x y ≡ true → x ≡ y
 beq_is true true e = refl
 beq_is true false e = absurd (false≢true e)
 beq_is false true e = absurd (false≢true e)

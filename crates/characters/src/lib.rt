@@ -4,7 +4,7 @@
 
 // What the reading of one character answers: one of one byte, one of two bytes by its script, or none. `Either` are the two that both kana scripts
 // share. A new kind of answer about characters goes here.
-#[derive(Clone, Copy)]
+#[derive(Clone, Copy, Debug, PartialEq, Eq)]
 pub enum Char {
     One,
     Hiragana,

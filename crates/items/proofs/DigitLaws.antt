@@ -1,50 +1,55 @@
 -- Items of one digit: which kinds they have no fault for. Assumes nothing.
 use Prim.Native.Nat.{ℕ, ◌+◌, ◌-◌, ◌≤◌, ◌<◌}
-use mathlib.Core.Path.{◌≡◌, refl, sym, ◌∙◌}
-use mathlib.Core.Bool.{Bool, true, false, ◌&&◌, false≢true}
-use mathlib.Core.Logic.{◌⊎◌, inl, inr}
+use mathlib.Core.Path.{◌≡◌, refl, sym, ap, ◌∙◌}
+use mathlib.Core.Bool.{Bool, true, false, cond, ◌&&◌, false≢true}
 use mathlib.Core.List.{List, [], ◌∷◌}
 use native.Mathlib.Omega.{arith}
+use Rattle.std.specs.Prelude.{Option, Some, None}
+use Rattle.std.specs.Option.{unwrap_or}
 use borrow.Author.Tests.{eqb-true}
 use lib.Dec.{eqb}
 use lib.ListN.{length, get_or}
-use Rattle.lists.specs.Lists.{member}
+use Rattle.lists.specs.Lists.{all, member}
 use Rattle.lists.proofs.Tests.{both, below, below_at, zero_unless}
 use Rattle.digits.specs.Digits.{is_digit, value, number}
-use Rattle.digits.specs.Short.{short_value, plain_number}
+use Rattle.digits.specs.Short.{digit, plain_number}
 use Rattle.digits.proofs.Numbers.{digit_is}
-use Rattle.records.specs.Items.{is_decimal, fault}
-use Rattle.items.specs.Codes.{set_of, kind_of}
-use Rattle.items.specs.Ends.{DigitAt, DigitFits}
-use Rattle.items.proofs.DispatchLaws.{kind_a, kind_w, kind_q, kind_set}
+use Rattle.records.specs.Table.{Kind, A, W, Q, among}
+use Rattle.records.specs.Items.{is_decimal, spelled_as, fault}
+use Rattle.items.specs.declared.kinds.Values.{Values}
+use Rattle.items.specs.Kinds.{authors, values_of}
+use Rattle.items.specs.Ends.{DigitIs, DigitAt, DigitFits}
+use Rattle.items.proofs.SetLaws.{small, one_of_member, values_small}
 
--- ---- a digit at a position
-
-pub digit_low : {b : ℕ} {x : Bool} → x ≡ is_digit b → x ≡ true → 48 ≤ b
-digit_low {b} q t = (digit_is b (sym q ∙ t)).0
+-- ---- a digit at a position: what `digit` answers there
 
 module _ (s : List ℕ) (a : ℕ) where
-  pub digit_none : DigitAt s a 10
-  digit_none = record { holds = λ h. absurd (omega arith) }
+  pub digit_none : DigitAt s a None
+  digit_none = record { holds = λ d q. cc }
 
-  pub digit_there : {x : Bool} {d : ℕ} → a + 1 < length s → x ≡ is_digit (get_or s a 0) → x ≡ true → d ≡ get_or s a 0 - 48 → DigitAt s a d
-  digit_there h q t e = record { holds = λ _. record { inside = omega arith; is = omega (arith, digit_low {b = get_or s a 0} q t) } }
+  pub digit_there : {o : Option ℕ} → a + 1 < length s → o ≡ digit (get_or s a 0) → DigitAt s a o
+  digit_there {o} h e = record { holds = λ d q. go d (is_digit (get_or s a 0)) refl (sym e ∙ q) }
+    where
+      go : (d : ℕ) (x : Bool) → is_digit (get_or s a 0) ≡ x → cond x (Some (get_or s a 0 - 48)) None ≡ Some d → DigitIs s a d
+      go d true p q =
+          let v : get_or s a 0 - 48 ≡ d = cc in
+          let w = digit_is (get_or s a 0) p in
+          record { inside = omega arith; is = omega arith; small = omega arith }
+      go d false p q = cc
 
-pub ruleset digit_laws = (digit_low, digit_none, digit_there)
+pub ruleset digit_laws = (digit_none, digit_there)
 
 -- ---- what a digit is read to: one computed test over the ten
 
 read : ℕ → Bool
-read d =
-    (eqb (plain_number ((48 + d) ∷ [])) d && eqb (short_value ((48 + d) ∷ [])) d) && (is_decimal 3 3 ((48 + d) ∷ []) && is_decimal 6 5 ((48 + d) ∷ []))
+read d = eqb (unwrap_or (plain_number ((48 + d) ∷ [])) 0) d && (is_decimal 3 3 ((48 + d) ∷ []) && is_decimal 6 5 ((48 + d) ∷ []))
 
 all_read : below read 10 ≡ true
-unfolding below read plain_number short_value number value is_decimal
+unfolding below read plain_number number value is_decimal
 all_read = refl
 
 record Read (d : ℕ) : Type 0 where
-  plain : plain_number ((48 + d) ∷ []) ≡ d
-  short : short_value ((48 + d) ∷ []) ≡ d
+  plain : unwrap_or (plain_number ((48 + d) ∷ [])) 0 ≡ d
   weight : is_decimal 3 3 ((48 + d) ∷ []) ≡ true
   quantity : is_decimal 6 5 ((48 + d) ∷ []) ≡ true
 
@@ -52,33 +57,30 @@ read_at : (d : ℕ) → d ≤ 9 → Read d
 unfolding read
 read_at d h =
     let w = both _ _ (below_at read 10 all_read d (omega arith)) in
-    let u = both _ _ w.0 in
     let v = both _ _ w.1 in
-    record { plain = eqb-true _ _ u.0; short = eqb-true _ _ u.1; weight = v.0; quantity = v.1 }
+    record { plain = eqb-true _ _ w.0; weight = v.0; quantity = v.1 }
 
-module _ (m d : ℕ) {k : ℕ} where
-  fits : {r : Bool} → (r ≡ true → Read d → d ≤ 9 → 0 ≡ fault (kind_of k m) ((48 + d) ∷ [])) → DigitFits k m d r
-  fits f = record { holds = λ t h. sym (f t (read_at d h) h) }
+spelled_digit : (ns : List ℕ) (d : ℕ) → all small ns ≡ true → d ≤ 9 → spelled_as ns ((48 + d) ∷ []) ≡ member ns d
+spelled_digit ns d h k = one_of_member ns ((48 + d) ∷ []) h ∙ ap (member ns) (read_at d k).plain
 
-  pub fits_no : DigitFits k m d false
-  fits_no = record { holds = λ t. absurd (false≢true t) }
+pub fits_no : {d : ℕ} (k : Kind) → DigitFits k d false
+fits_no k = record { holds = λ t. absurd (false≢true t) }
 
-  pub fits_a : {x : Bool} → k ≡ 3 → x ≡ member (set_of 7) d → DigitFits k m d x
-  fits_a {x} e p = fits (λ t w _. kind_a m ((48 + d) ∷ []) e (sym w.plain) p (sym (zero_unless x 11 t)))
+module _ (d : ℕ) where
+  pub fits_author : {x : Bool} → x ≡ member authors d → DigitFits A d x
+  unfolding fault
+  fits_author {x} p = record { holds = λ t h. zero_unless (spelled_as authors ((48 + d) ∷ [])) 11 (spelled_digit authors d refl h ∙ sym p ∙ t) }
 
-  pub fits_w : k ≡ 8 → DigitFits k m d true
-  fits_w e = fits (λ _ w _. kind_w m ((48 + d) ∷ []) e (sym w.weight) refl)
+  pub fits_among : (v : Values) {x : Bool} → x ≡ member (values_of v) d → DigitFits (among (values_of v)) d x
+  unfolding fault
+  fits_among v {x} p = record { holds = λ t h. zero_unless (spelled_as (values_of v) ((48 + d) ∷ [])) 11 (spelled_digit (values_of v) d (values_small v) h ∙ sym p ∙ t) }
 
-  pub fits_q : k ≡ 9 → DigitFits k m d true
-  fits_q e = fits (λ _ w _. kind_q m ((48 + d) ∷ []) e (sym w.quantity) refl)
+  pub fits_weight : DigitFits W d true
+  unfolding fault
+  fits_weight = record { holds = λ t h. zero_unless (is_decimal 3 3 ((48 + d) ∷ [])) 11 (read_at d h).weight }
 
-  -- the kinds that are left after 8 to 10 and 12
-  pub fits_set : {x : Bool} → 8 ≤ k → (k ≡ 8 → ⊥) → (k ≡ 9 → ⊥) → ((k ≡ 10) ⊎ (k ≡ 12) → ⊥) → x ≡ member (set_of m) d → DigitFits k m d x
-  fits_set {x} h h8 h9 n p =
-      let h9' : 9 ≤ k = omega (arith, h8) in
-      let h10' : 10 ≤ k = omega (arith, h9) in
-      let h10 : k ≡ 10 → ⊥ = λ e. n (inl e) in
-      let h11 : 11 ≤ k = omega (arith, h10) in
-      fits (λ t w _. kind_set m ((48 + d) ∷ []) h11 (λ e. n (inr e)) (sym w.plain) p (sym (zero_unless x 11 t)))
+  pub fits_dose : DigitFits Q d true
+  unfolding fault
+  fits_dose = record { holds = λ t h. zero_unless (is_decimal 6 5 ((48 + d) ∷ [])) 11 (read_at d h).quantity }
 
-pub ruleset fits_laws = (fits_no, fits_a, fits_w, fits_q, fits_set)
+pub ruleset fits_laws = (fits_no, fits_author, fits_among, fits_weight, fits_dose)

@@ -1,133 +1,127 @@
 -- Items at a position: which ways through the code find an end, and that the item up to it has no fault. Assumes nothing.
-use Prim.Native.Nat.{ℕ, zero, suc, ◌+◌, ◌-◌, ◌/◌, ◌%◌, ◌≤◌, ◌<◌}
+use Prim.Native.Nat.{ℕ, zero, suc, ◌+◌, ◌-◌, ◌≤◌, ◌<◌}
 use mathlib.Core.Path.{◌≡◌, refl, sym, ap, ◌∙◌, subst}
 use mathlib.Core.Bool.{Bool, true, false, cond, not, ◌&&◌, ◌||◌, or-true}
 use mathlib.Core.Logic.{◌⊎◌, inl, inr, ⊎_elim}
 use mathlib.Core.List.{List, [], ◌∷◌}
 use native.Mathlib.Omega.{arith}
+use Rattle.std.specs.Prelude.{Option, Some, None, Result, Ok}
 use borrow.Author.Tests.{leb-true, leb-false, le-leb, lt-leb, eqb-true, ne_eqb}
 use lib.Dec.{leb, eqb}
-use lib.ListN.{length, get_or}
+use lib.ListN.{length, get_or, take, drop, length-drop}
+use lib.Seq.{get_or-drop}
 use Rattle.lists.specs.Lists.{within, all}
 use Rattle.lists.specs.Searching.{part}
+use Rattle.lists.proofs.Cuts.{rest_all}
 use Rattle.lists.proofs.Loops.{past_end}
 use Rattle.lists.proofs.Parts.{part_length, part_none, part_more, part_at}
 use Rattle.lists.proofs.Tests.{both, either, not_true', or_first, within_in, all_append, zero_unless}
-use Rattle.digits.specs.Digits.{is_digit}
 use Rattle.characters.specs.Cells.{is_one, is_one_byte}
 use Rattle.characters.specs.Scanning.{bytes_of}
-use Rattle.scanning.specs.declared.Scripts.{Scripts}
-use Rattle.scanning.specs.declared.Run.{Run}
+use Rattle.scanning.specs.declared.runs.Scripts.{Scripts}
+use Rattle.scanning.specs.declared.runs.Run.{Run}
 use Rattle.scanning.specs.Scans.{RunOf, Counted}
 use Rattle.scanning.proofs.RunLaws.{run_none, run_byte}
-use Rattle.records.specs.Table.{required}
+use Rattle.replies.specs.declared.refusal.Refusal.{Refusal}
+use Rattle.replies.specs.Refusals.{fault_in}
+use Rattle.records.specs.Table.{Kind, N, X, Need, Item, required}
 use Rattle.records.specs.Items.{is_code, edge, sized, fault}
 use Rattle.records.specs.Records.{item_fault}
-use Rattle.items.specs.Codes.{kind_of, need_of, item_of}
-use Rattle.items.specs.Ends.{Within, scripts_fit, text_form, sized_end, EndOf, CodeRun, DigitAt, DigitFits}
-use Rattle.items.proofs.TextLaws.{edge_free, edge_clear, edge_inner, scripts_within, scripts_fit_lem}
-use Rattle.items.proofs.DispatchLaws.{sized_form, kind_n, kind_u, kind_k, kind_x, item_empty, item_some}
-
--- 0 says nothing
-pub end_none : (provider : Bool) (c : ℕ) (s : List ℕ) (a : ℕ) → EndOf provider c s a 0
-end_none provider c s a = record { holds = λ z. absurd (z refl) }
+use Rattle.items.specs.declared.Uniform.{Uniform}
+use Rattle.items.specs.declared.Uniform.TheVariants.{Width, Script}
+use Rattle.items.specs.Ends.{Within, uniform_scripts, uniform_text, uniform_kind, sized_end, FineItem, EndOf, CodeRun, DigitAt, DigitFits}
+use Rattle.items.proofs.TextLaws.{edge_free, edge_clear, edge_inner, scripts_within, scripts_fit}
 
 -- ---- ends
 
--- `blank_end`: x is what `required` said
-module _ (provider : Bool) (n a : ℕ) {x : Bool} (p : x ≡ required (provider) (need_of n)) where
-  pub blank_none : x ≡ true → 0 ≡ cond (required (provider) (need_of n)) 0 a
-  blank_none t = simp (sym p ∙ t)
+module _ (b : Bool) (i : Item) (s : List ℕ) (a : ℕ) where
+  -- none says nothing
+  pub end_none : EndOf b i s a None
+  end_none = record { holds = λ e q. cc }
 
-  pub blank_here : x ≡ false → a ≡ cond (required (provider) (need_of n)) 0 a
-  blank_here t = simp (sym p ∙ t)
+  pub end_some : {e : ℕ} → FineItem b i s a e → EndOf b i s a (Some e)
+  end_some {e} v = record { holds = λ x q. let p : e ≡ x = cc in subst (FineItem b i s a) p v }
 
-module _ (provider : Bool) (c : ℕ) (s : List ℕ) (a : ℕ) {e : ℕ} (v : RunOf s a e) where
+-- the two ways through `item_fault`
+item_empty : (b : Bool) (i : Item) (s : List ℕ) → length s ≡ 0 → required b i.need ≡ false → item_fault b i s ≡ 0
+unfolding item_fault
+item_empty b i [] h r = simp r
+item_empty b i (x ∷ s) h r = absurd (omega arith)
+
+item_some : (b : Bool) (i : Item) (s : List ℕ) → (length s ≡ 0 → ⊥) → item_fault b i s ≡ fault i.kind s
+unfolding item_fault
+item_some b i [] h = absurd (h refl)
+item_some b i (x ∷ s) h = refl
+
+module _ (b : Bool) (i : Item) (s : List ℕ) (a : ℕ) {e : ℕ} (v : RunOf s a e) where
   -- an empty item, r: what `blank_end` said
-  pub end_blank : {r : ℕ} → e ≡ a → r ≡ cond (required (provider) (need_of (c % 4))) 0 a → EndOf provider c s a r
-  end_blank {r} q p = go (required (provider) (need_of (c % 4))) refl p
+  pub end_blank : {r : Option ℕ} → e ≡ a → r ≡ cond (required b i.need) None (Some a) → EndOf b i s a r
+  end_blank {r} q p = go (required b i.need) refl p
     where
-      go : (x : Bool) → required (provider) (need_of (c % 4)) ≡ x → r ≡ cond x 0 a → EndOf provider c s a r
-      go true n p = record { holds = λ z. absurd (z p) }
+      go : (x : Bool) → required b i.need ≡ x → r ≡ cond x None (Some a) → EndOf b i s a r
+      go true n p = subst (EndOf b i s a) (sym p) (end_none b i s a)
       go false n p =
-          let i : e ≡ r = q ∙ sym p in
-          let l : length (part s a e) ≡ 0 = omega (arith, part_length s a e v.low v.high) in
-          record {
-            holds = λ _. record {
-              run = subst (RunOf s a) i v;
-              fine = ap (λ (k : ℕ). item_fault provider (item_of c) (part s a k)) (sym i) ∙ sym (item_empty c provider (part s a e) l (sym n) refl);
-            };
-          }
+          let l : length (part s a a) ≡ 0 = omega (arith, part_length s a a (omega arith) (omega (arith, v.high, q))) in
+          subst (EndOf b i s a) (sym p) (end_some b i s a (record { run = subst (RunOf s a) q v; fine = item_empty b i (part s a a) l n }))
 
-  -- an item without a fault
-  pub end_fine : {f : ℕ} → f ≡ item_fault (provider) (item_of c) (part s a e) → f ≡ 0 → EndOf provider c s a e
-  end_fine p q = record { holds = λ _. record { run = v; fine = sym p ∙ q } }
+  -- an item without a fault, o: what `item_fault` said
+  pub end_fine : {o : Result Unit Refusal} {x : Unit {0}} → fault_in o ≡ item_fault b i (part s a e) → o ≡ Ok x → EndOf b i s a (Some e)
+  end_fine p q = end_some b i s a (record { run = v; fine = sym p ∙ ap fault_in q })
 
   module _ (n : e ≡ a → ⊥) where
     some : length (part s a e) ≡ 0 → ⊥
     some z = n (omega (arith, part_length s a e v.low v.high, v.low))
 
     -- by the fault of its kind
-    pub end_kind : 0 ≡ fault (kind_of (c / 4 % 16) (c / 64)) (part s a e) → EndOf provider c s a e
-    end_kind p = end_fine (item_some c provider (part s a e) some p) refl
+    pub end_kind : fault i.kind (part s a e) ≡ 0 → EndOf b i s a (Some e)
+    end_kind p = end_some b i s a (record { run = v; fine = item_some b i (part s a e) some ∙ p })
 
-    module _ (h : e - a ≤ c / 64) where
-      short : length (part s a e) ≤ c / 64
-      short = omega (arith, part_length s a e v.low v.high)
+-- no longer than m, without an edge
+sized_fine : (m : ℕ) (s : List ℕ) {x : Bool} → length s ≤ m → edge s ≡ false → x ≡ true → sized m s x ≡ 0
+unfolding sized
+sized_fine m s {x} h e t = simp (le-leb (length s) m h, e, zero_unless x 11 t)
 
-    -- f: what sized_end said. A kind that asks for its length, no edge and a form that the item has
-    module _ {f : ℕ} (g : f ≡ sized_end c s a e) where
-      pub end_sized : (0 ≡ sized (c / 64) (part s a e) true → 0 ≡ fault (kind_of (c / 4 % 16) (c / 64)) (part s a e)) → EndOf provider c s a f
-      unfolding sized_end
-      end_sized k = go (leb (e - a) (c / 64)) refl (edge (part s a e)) refl g
-        where
-          go : (x : Bool) → leb (e - a) (c / 64) ≡ x → (y : Bool) → edge (part s a e) ≡ y → f ≡ cond (x && not y) e 0 → EndOf provider c s a f
-          go true p false q r = subst (EndOf provider c s a) (sym r) (end_kind (k (sized_form (c / 64) (part s a e) true (short (leb-true (e - a) (c / 64) p)) (sym q) refl refl)))
-          go true p true q r = subst (EndOf provider c s a) (sym r) (end_none provider c s a)
-          go false p y q r = subst (EndOf provider c s a) (sym r) (end_none provider c s a)
+module _ (b : Bool) (m : ℕ) (d : Need) (s : List ℕ) (a : ℕ) {e : ℕ} (v : RunOf s a e) (n : e ≡ a → ⊥) where
+  -- a kind that asks for its length, no edge and a form that the item has; f: what `sized_end` said
+  end_sized : (k : Kind) {f : Option ℕ} → f ≡ sized_end m s a e → (length (part s a e) ≤ m → edge (part s a e) ≡ false → fault k (part s a e) ≡ 0)
+      → EndOf b (record { kind = k; need = d }) s a f
+  unfolding sized_end
+  end_sized k {f} g w = go (leb (e - a) m) refl (edge (part s a e)) refl g
+    where
+      go : (x : Bool) → leb (e - a) m ≡ x → (y : Bool) → edge (part s a e) ≡ y → f ≡ cond (x && not y) (Some e) None → EndOf b (record { kind = k; need = d }) s a f
+      go true p false q r =
+          let l : length (part s a e) ≤ m = omega (arith, part_length s a e v.low v.high, leb-true (e - a) m p) in
+          subst (EndOf b (record { kind = k; need = d }) s a) (sym r) (end_kind b (record { kind = k; need = d }) s a v n (w l q))
+      go true p true q r = subst (EndOf b (record { kind = k; need = d }) s a) (sym r) (end_none b (record { kind = k; need = d }) s a)
+      go false p y q r = subst (EndOf b (record { kind = k; need = d }) s a) (sym r) (end_none b (record { kind = k; need = d }) s a)
 
-      -- kind N
-      pub end_text : c / 4 % 16 ≡ 0 → EndOf provider c s a f
-      end_text k = end_sized (kind_n (c / 64) (part s a e) k)
+  -- kind N
+  pub end_text : {f : Option ℕ} → f ≡ sized_end m s a e → EndOf b (record { kind = N m; need = d }) s a f
+  unfolding fault
+  end_text g = end_sized (N m) g (λ l q. sized_fine m (part s a e) l q refl)
 
-      -- kinds U and K: w is what in_form said of the scripts k
-      pub end_script : (k : Scripts) {w : Bool} → (eqb (c / 4 % 16) 1 || eqb (c / 4 % 16) 12) ≡ true → Counted s a e k → w ≡ scripts_fit (c / 4 % 16) k (e - a) → w ≡ true → EndOf provider c s a f
-      end_script k {w} o d p t = ⊎_elim (λ q. u (eqb-true _ _ q)) (λ q. x (eqb-true _ _ q)) (either (eqb (c / 4 % 16) 1) (eqb (c / 4 % 16) 12) o)
-        where
-          form : true ≡ text_form (c / 4 % 16) (part s a e)
-          form = sym t ∙ p ∙ scripts_fit_lem (part s a e) k d v.chars (c / 4 % 16) (e - a) (sym (part_length s a e v.low v.high))
-
-          u : c / 4 % 16 ≡ 1 → EndOf provider c s a f
-          u q = end_sized (λ z. kind_u (c / 64) (part s a e) q (form ∙ ap (λ (n : ℕ). text_form n (part s a e)) q) z)
-
-          x : c / 4 % 16 ≡ 12 → EndOf provider c s a f
-          x q = end_sized (λ z. kind_k (c / 64) (part s a e) q (form ∙ ap (λ (n : ℕ). text_form n (part s a e)) q) z)
+  -- kinds U and K: w is what `holds` said of the scripts k
+  pub end_uniform : (u : Uniform) (k : Scripts) {w : Bool} {f : Option ℕ} → Counted s a e k → w ≡ uniform_scripts u k (e - a) → w ≡ true → f ≡ sized_end m s a e
+      → EndOf b (record { kind = uniform_kind u m; need = d }) s a f
+  unfolding fault
+  end_uniform u k {w} {f} c p t g = go u (sym (scripts_fit (part s a e) k c v.chars u (e - a) (sym (part_length s a e v.low v.high))) ∙ sym p ∙ t)
+    where
+      go : (u : Uniform) → uniform_text u (part s a e) ≡ true → EndOf b (record { kind = uniform_kind u m; need = d }) s a f
+      go Width h = end_sized (uniform_kind Width m) g (λ l q. sized_fine m (part s a e) l q h)
+      go Script h = end_sized (uniform_kind Script m) g (λ l q. sized_fine m (part s a e) l q h)
 
 -- the scripts of a run are within it
 pub run_within : {s : List ℕ} {a e : ℕ} (k : Scripts) → RunOf s a e → Counted s a e k → Within k (e - a)
 run_within {s} {a} {e} k v d = scripts_within (part s a e) k d (e - a) (sym (part_length s a e v.low v.high))
 
--- ---- the ways through no_wide_edge
-
--- n: the bytes of characters of both scripts
-pub wide_none : {n : ℕ} (w : Bool) → n ≡ 0 → true ≡ (eqb n 0 || w)
-wide_none w e = sym (rw e refl)
-
--- b: what byte_at said
-pub wide_some : {n b y : ℕ} (z : ℕ) → (n ≡ 0 → ⊥) → b ≡ y → (not (eqb z 0x40) && not (eqb b 0x40)) ≡ (eqb n 0 || (not (eqb z 0x40) && not (eqb y 0x40)))
-wide_some {n} {b} {y} z e q =
-    ap (λ (k : ℕ). not (eqb z 0x40) && not (eqb k 0x40)) q ∙ sym (ap (λ (x : Bool). x || (not (eqb z 0x40) && not (eqb y 0x40))) (ne_eqb n 0 e))
-
-pub ruleset wide_laws = (wide_none, wide_some)
-
 -- ---- the ways through sized_end
 
-module _ (c : ℕ) (s : List ℕ) (a : ℕ) (r : Run) where
-  pub sized_no : c / 64 < r.end - a → 0 ≡ sized_end c s a r.end
+module _ (m : ℕ) (s : List ℕ) (a : ℕ) (r : Run) where
+  pub sized_no : m < r.end - a → None ≡ sized_end m s a r.end
   unfolding sized_end
-  sized_no h = sym (rw (lt-leb (r.end - a) (c / 64) h) refl)
+  sized_no h = sym (rw (lt-leb (r.end - a) (m) h) refl)
 
-  module _ (v : RunOf s a r.end) (d : Counted s a r.end r.scripts) (n : a < r.end) (h : r.end - a ≤ c / 64) where
+  module _ (v : RunOf s a r.end) (d : Counted s a r.end r.scripts) (n : a < r.end) (h : r.end - a ≤ m) where
     l : length (part s a r.end) ≡ r.end - a
     l = part_length s a r.end v.low v.high
 
@@ -149,7 +143,7 @@ module _ (c : ℕ) (s : List ℕ) (a : ℕ) (r : Run) where
 
     -- x: what no_wide_edge said
     module _ {x : Bool} (p : x ≡ (eqb r.scripts.either 0 || (not (eqb (get_or s (r.end - 1) 0) 0x40) && not (eqb (get_or s (a + 1) 0) 0x40)))) (t : x ≡ true) where
-      stays : (bytes_of is_one_byte (part s a r.end) ≡ 0) ⊎ ((0x28 ≤ get_or (part s a r.end) 0 0) × (0x28 ≤ get_or (part s a r.end) (length (part s a r.end) - 1) 0)) → r.end ≡ sized_end c s a r.end
+      stays : (bytes_of is_one_byte (part s a r.end) ≡ 0) ⊎ ((0x28 ≤ get_or (part s a r.end) 0 0) × (0x28 ≤ get_or (part s a r.end) (length (part s a r.end) - 1) 0)) → Some r.end ≡ sized_end m s a r.end
       unfolding sized_end
       stays o =
           let b : 1 ≤ length (part s a r.end) = omega (arith, l) in
@@ -159,26 +153,25 @@ module _ (c : ℕ) (s : List ℕ) (a : ℕ) (r : Run) where
           edge_inner (part s a r.end) v.chars b o (second_byte (not_true' (eqb (get_or s (a + 1) 0) 0x40) f.1))
           (ap (λ (k : ℕ). eqb k 0x40) last_byte ∙ not_true' (eqb (get_or s (r.end - 1) 0) 0x40) f.0))
           (either (eqb r.scripts.either 0) (not (eqb (get_or s (r.end - 1) 0) 0x40) && not (eqb (get_or s (a + 1) 0) 0x40)) (sym p ∙ t)) in
-          sym (rw (le-leb (r.end - a) (c / 64) h, k) refl)
+          sym (rw (le-leb (r.end - a) (m) h, k) refl)
 
-      -- no character of one byte
-      pub sized_wide : r.scripts.one ≡ 0 → r.end ≡ sized_end c s a r.end
-      sized_wide z = stays (inl (sym d.one ∙ z))
+      -- no character of one byte, or the first and the last byte above 27h
+      pub sized_inner : (eqb r.scripts.one 0 || (leb 0x28 (get_or s a 0) && leb 0x28 (get_or s (r.end - 1) 0))) ≡ true → Some r.end ≡ sized_end m s a r.end
+      sized_inner z =
+          ⊎_elim (λ z. stays (inl (sym d.one ∙ eqb-true _ _ z)))
+          (λ z. let q = both (leb 0x28 (get_or s a 0)) (leb 0x28 (get_or s (r.end - 1) 0)) z in
+          stays (inr (omega (arith, first_byte, leb-true 0x28 (get_or s a 0) q.0), omega (arith, last_byte, leb-true 0x28 (get_or s (r.end - 1) 0) q.1))))
+          (either (eqb r.scripts.one 0) (leb 0x28 (get_or s a 0) && leb 0x28 (get_or s (r.end - 1) 0)) z)
 
-      pub sized_above : (leb 0x28 (get_or s a 0) && leb 0x28 (get_or s (r.end - 1) 0)) ≡ true → r.end ≡ sized_end c s a r.end
-      sized_above z =
-          let q = both (leb 0x28 (get_or s a 0)) (leb 0x28 (get_or s (r.end - 1) 0)) z in
-          stays (inr (omega (arith, first_byte, leb-true 0x28 (get_or s a 0) q.0), omega (arith, last_byte, leb-true 0x28 (get_or s (r.end - 1) 0) q.1)))
-
-    pub sized_edged : {x : Bool} → x ≡ edge (part s a r.end) → x ≡ true → 0 ≡ sized_end c s a r.end
+    pub sized_edged : {x : Bool} → x ≡ edge (part s a r.end) → x ≡ true → None ≡ sized_end m s a r.end
     unfolding sized_end
-    sized_edged p t = sym (rw (le-leb (r.end - a) (c / 64) h, sym p ∙ t) refl)
+    sized_edged p t = sym (rw (le-leb (r.end - a) (m) h, sym p ∙ t) refl)
 
-    pub sized_plain : {x : Bool} → x ≡ edge (part s a r.end) → x ≡ false → r.end ≡ sized_end c s a r.end
+    pub sized_plain : {x : Bool} → x ≡ edge (part s a r.end) → x ≡ false → Some r.end ≡ sized_end m s a r.end
     unfolding sized_end
-    sized_plain p t = sym (rw (le-leb (r.end - a) (c / 64) h, sym p ∙ t) refl)
+    sized_plain p t = sym (rw (le-leb (r.end - a) (m) h, sym p ∙ t) refl)
 
-pub ruleset sized_laws = (sized_no, sized_wide, sized_above, sized_edged, sized_plain)
+pub ruleset sized_laws = (sized_no, sized_inner, sized_edged, sized_plain)
 
 -- ---- codes
 
@@ -234,18 +227,23 @@ code_plain {b} w = ne_eqb b 0x2c (λ e. omega (arith, w.low))
 pub code_start : (s : List ℕ) (a : ℕ) → a ≤ length s → CodeRun s a a
 code_start s a h = record { run = run_none s a h; codes = ap (all is_code) (part_none s a) }
 
-module _ {s : List ℕ} {a i : ℕ} (v : CodeRun s a i) where
-  pub code_go : {x : Bool} → i < length s → x ≡ is_code (get_or s i 0) → x ≡ true → CodeRun s a (i + 1)
-  code_go h q t =
-      let w : CodeByte (get_or s i 0) = code_byte (get_or s i 0) (sym q ∙ t) in
-      record {
-        run = run_byte v.run h (code_one w) (code_plain w);
-        codes = ap (all is_code) (part_more s a i v.run.low h) ∙ all_append is_code (part s a i) (get_or s i 0 ∷ []) ∙ simp (v.codes, sym q ∙ t);
-      }
+pub code_go : {s : List ℕ} {a i : ℕ} → CodeRun s a i → i < length s → is_code (get_or s i 0) ≡ true → CodeRun s a (i + 1)
+code_go {s} {a} {i} v h t =
+    let w : CodeByte (get_or s i 0) = code_byte (get_or s i 0) t in
+    record {
+      run = run_byte v.run h (code_one w) (code_plain w);
+      codes = ap (all is_code) (part_more s a i v.run.low h) ∙ all_append is_code (part s a i) (get_or s i 0 ∷ []) ∙ simp (v.codes, t);
+    }
 
-  -- a digit is of a code
-  pub code_digit_go : {x : Bool} → i < length s → x ≡ is_digit (get_or s i 0) → x ≡ true → CodeRun s a (i + 1)
-  code_digit_go h q t = code_go h refl (simp (sym q ∙ t, or-true))
+-- the byte i of the rest from a on
+pub code_next : (s : List ℕ) (a i : ℕ) → CodeRun s a (a + i) → i < length (take (length s - a) (drop a s))
+    → is_code (get_or (take (length s - a) (drop a s)) i 0) ≡ true → CodeRun s a (a + (i + 1))
+code_next s a i v h t =
+    let e : take (length s - a) (drop a s) ≡ drop a s = rest_all a s in
+    let l : a + i < length s = omega (arith, h, ap length e, length-drop a s) in
+    let b : get_or (take (length s - a) (drop a s)) i 0 ≡ get_or s (a + i) 0 = ap (λ (x : List ℕ). get_or x i 0) e ∙ get_or-drop a s i 0 in
+    let n : a + i + 1 ≡ a + (i + 1) = omega arith in
+    subst (CodeRun s a) n (code_go v l (ap is_code (sym b) ∙ t))
 
 -- a code has no edge
 code_at : (l : List ℕ) (i : ℕ) → all is_code l ≡ true → i < length l → CodeByte (get_or l i 0)
@@ -263,46 +261,44 @@ code_edge l e n =
     edge_free l refl refl refl refl refl
     (simp (no_edge 0x81 (get_or l 0 0) f (λ q. omega (arith, f.high)), no_edge 0x40 (get_or l (length l - 1) 0) z z.other))
 
-module _ (provider : Bool) (c : ℕ) (s : List ℕ) (a : ℕ) {e : ℕ} (v : CodeRun s a e) where
-  pub code_blank : {r : ℕ} → e ≡ a → r ≡ cond (required (provider) (need_of (c % 4))) 0 a → EndOf provider c s a r
-  code_blank q p = end_blank provider c s a v.run q p
+module _ (b : Bool) (m : ℕ) (d : Need) (s : List ℕ) (a : ℕ) {e : ℕ} (v : CodeRun s a e) where
+  pub code_blank : {r : Option ℕ} → e ≡ a → r ≡ cond (required b d) None (Some a) → EndOf b (record { kind = X m; need = d }) s a r
+  code_blank q p = end_blank b (record { kind = X m; need = d }) s a v.run q p
 
   -- kind X
-  pub code_fine : (e ≡ a → ⊥) → e - a ≤ c / 64 → c / 4 % 16 ≡ 2 → EndOf provider c s a e
-  code_fine n h k =
-      let l = some provider c s a v.run n in
-      end_kind provider c s a v.run n
-      (kind_x (c / 64) (part s a e) k refl
-      (sized_form (c / 64) (part s a e) (all is_code (part s a e)) (short provider c s a v.run n h) (code_edge (part s a e) v.codes l) refl
-      (sym (zero_unless (all is_code (part s a e)) 11 v.codes))))
-
-pub ruleset code_laws = (code_start, code_go, code_digit_go)
+  pub code_fine : (e ≡ a → ⊥) → e - a ≤ m → EndOf b (record { kind = X m; need = d }) s a (Some e)
+  unfolding fault
+  code_fine n h =
+      let w : length (part s a e) ≡ e - a = part_length s a e v.run.low v.run.high in
+      end_kind b (record { kind = X m; need = d }) s a v.run n
+      (sized_fine m (part s a e) (omega (arith, w)) (sym (code_edge (part s a e) v.codes (λ z. n (omega (arith, w, v.run.low))))) v.codes)
 
 -- ---- an item of one digit
 
 digit_code : (d : ℕ) → d ≤ 9 → is_code (48 + d) ≡ true
 digit_code d h = simp (within_in 0x30 0x39 (48 + d) (omega arith) (omega arith), or-true)
 
-module _ (provider : Bool) (c : ℕ) {s : List ℕ} {a d : ℕ} (v : DigitAt s a d) (h : d ≤ 9) where
+module _ (b : Bool) (i : Item) {s : List ℕ} {a d : ℕ} {o : Option ℕ} (v : DigitAt s a o) (q : o ≡ Some d) where
   alone : part s a (a + 1) ≡ (48 + d) ∷ []
-  alone = part_more s a a (omega arith) (v.holds h).inside ∙ rw (part_none s a) (ap (λ (b : ℕ). b ∷ []) (v.holds h).is)
+  alone = part_more s a a (omega arith) (v.holds d q).inside ∙ rw (part_none s a) (ap (λ (b : ℕ). b ∷ []) (v.holds d q).is)
 
   digit_run : RunOf s a (a + 1)
-  digit_run = (code_go (code_start s a (omega (arith, (v.holds h).inside))) (v.holds h).inside refl (ap is_code (v.holds h).is ∙ digit_code d h)).run
+  digit_run =
+      (code_go (code_start s a (omega (arith, (v.holds d q).inside))) (v.holds d q).inside
+      (ap is_code (v.holds d q).is ∙ digit_code d (v.holds d q).small)).run
 
-  pub end_digit : {x : Bool} → DigitFits (c / 4 % 16) (c / 64) d x → x ≡ true → EndOf provider c s a (a + 1)
-  end_digit w t = end_kind provider c s a digit_run (λ e. omega arith) (sym (ap (fault (kind_of (c / 4 % 16) (c / 64))) alone ∙ w.holds t h))
-
-pub ruleset blank_laws = (blank_none, blank_here)
+  pub end_digit : {x : Bool} → DigitFits i.kind d x → x ≡ true → EndOf b i s a (Some (a + 1))
+  end_digit w t = end_kind b i s a digit_run (λ e. omega arith) (ap (fault i.kind) alone ∙ w.holds t (v.holds d q).small)
 
 pub ruleset code_item_laws = (end_none, code_blank, code_fine)
 
 pub ruleset text_item_laws = (end_none, end_blank, end_text)
 
-pub ruleset script_item_laws = (end_none, end_blank, end_script, run_within)
+pub ruleset uniform_item_laws = (end_none, end_blank, end_uniform)
 
 -- the bytes of a code are a run
-pub run_fine : (provider : Bool) (c : ℕ) (s : List ℕ) (a : ℕ) {e : ℕ} → CodeRun s a e → {f : ℕ} → f ≡ item_fault (provider) (item_of c) (part s a e) → f ≡ 0 → EndOf provider c s a e
-run_fine provider c s a v p q = end_fine provider c s a v.run p q
+pub code_end_fine : (b : Bool) (i : Item) (s : List ℕ) (a : ℕ) {e : ℕ} → CodeRun s a e → {o : Result Unit Refusal} {x : Unit {0}}
+    → fault_in o ≡ item_fault b i (part s a e) → o ≡ Ok x → EndOf b i s a (Some e)
+code_end_fine b i s a v p q = end_fine b i s a v.run p q
 
-pub ruleset other_item_laws = (end_none, run_fine)
+pub ruleset other_item_laws = (end_none, code_end_fine)

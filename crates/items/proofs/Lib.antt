@@ -1,7 +1,6 @@
 pub mod TextLaws
 pub mod FormLaws
 pub mod SetLaws
-pub mod DispatchLaws
 pub mod EndLaws
 pub mod DigitLaws
 pub mod NumberLaws

@@ -1,18 +1,17 @@
 -- The kinds of text: what the scripts of their characters tell, and the first and the last character. Assumes nothing.
-use Prim.Native.Nat.{ℕ, suc, ◌+◌, ◌-◌, ◌≤◌, ◌<◌}
-use mathlib.Core.Path.{◌≡◌, refl, sym, ap, ap₂, ◌∙◌}
-use mathlib.Core.Bool.{Bool, true, false, cond, not, ◌&&◌, ◌||◌, true≢false, and-false, or-true}
+use Prim.Native.Nat.{ℕ, suc, ◌+◌, ◌-◌, ◌≤◌}
+use mathlib.Core.Path.{◌≡◌, refl, sym, ap, ap₂, ◌∙◌, subst}
+use mathlib.Core.Bool.{Bool, true, false, cond, not, ◌&&◌, true≢false, and-false}
 use mathlib.Core.Logic.{◌⊎◌, ⊎_elim}
 use mathlib.Core.List.{List, [], ◌∷◌, ◌++◌}
 use native.Mathlib.Omega.{arith}
+use Rattle.std.specs.Prelude.{Option, Some, None, is_some, IfSome}
 use borrow.Author.Tests.{ne_eqb, eq-eqb, eqb-true, eqb-false, leb-true}
 use lib.Dec.{leb, eqb}
 use lib.ListN.{length, get_or, take, drop, take-append-drop}
 use Rattle.lists.specs.Lists.{last}
 use Rattle.lists.specs.Searching.{part}
 use Rattle.lists.proofs.Tests.{both, not_true'}
-use Rattle.lists.proofs.Loops.{AllLeft, all_go}
-use Rattle.digits.specs.Digits.{is_digit}
 use Rattle.lists.proofs.Cuts.{drop_end, two_on}
 use Rattle.characters.specs.Cells.{full_row, part_row, allowed, cell_script, is_one, trail_script, pair_script, is_char, is_one_byte, is_two_byte, is_hiragana, is_katakana}
 use Rattle.characters.specs.Text.{chars_are, all_chars}
@@ -20,11 +19,12 @@ use Rattle.characters.specs.Scanning.{is_pair, bytes_of, is_own_hiragana, is_own
 use Rattle.characters.proofs.BytesLaws.{Shared, shared_by, bytes_on, bytes_most, bytes_shared, bytes_all, are_chars}
 use Rattle.characters.proofs.CharLaws.{pair_parts}
 use Rattle.scanning.proofs.TextLaws.{lead_from_81, trail_from_40}
-use Rattle.scanning.specs.declared.Scripts.{Scripts}
-use Rattle.scanning.specs.declared.Told.{Told}
+use Rattle.scanning.specs.declared.runs.Scripts.{Scripts}
 use Rattle.scanning.specs.Scans.{Bytes, ToldOf}
-use Rattle.records.specs.Items.{is_code, one_width, one_script, ends_wide, edge}
-use Rattle.items.specs.Ends.{Within, scripts_fit, text_form}
+use Rattle.records.specs.Items.{one_width, one_script, ends_wide, edge}
+use Rattle.items.specs.declared.Uniform.{Uniform}
+use Rattle.items.specs.declared.Uniform.TheVariants.{Width, Script}
+use Rattle.items.specs.Ends.{Within, uniform_scripts, uniform_text}
 
 -- ---- scripts: what the bytes of each tell of a text
 
@@ -66,49 +66,40 @@ module _ (l : List ℕ) (k : Scripts) (w : Bytes l k) where
         go true e = eq-eqb (bytes_of is_two_byte l) (length l) (omega (arith, both_widths, eqb-true k.one 0 e))
         go false e = ne_eqb (bytes_of is_two_byte l) (length l) (λ z. eqb-false k.one 0 e (omega (arith, both_widths)))
 
-    pub scripts_fit_lem : (kind n : ℕ) → n ≡ length l → scripts_fit kind k n ≡ text_form kind l
-    unfolding scripts_fit text_form one_width one_script
-    scripts_fit_lem kind n e =
+    pub scripts_fit : (u : Uniform) (n : ℕ) → n ≡ length l → uniform_scripts u k n ≡ uniform_text u l
+    unfolding one_width one_script
+    scripts_fit Width n e =
         let o : chars_are is_one_byte l ≡ eqb k.one n = bytes_all is_one_byte refl l c ∙ ap₂ eqb (sym w.one) (sym e) in
         let t : chars_are is_two_byte l ≡ eqb k.one 0 = bytes_all is_two_byte refl l c ∙ two_bytes in
+        rw (o, t) refl
+    scripts_fit Script n e =
+        let o : chars_are is_one_byte l ≡ eqb k.one n = bytes_all is_one_byte refl l c ∙ ap₂ eqb (sym w.one) (sym e) in
         let h : chars_are is_hiragana l ≡ eqb (k.hiragana + k.either) n = bytes_all is_hiragana refl l c ∙ ap₂ eqb (sym hiragana_bytes_lem) (sym e) in
         let j : chars_are is_katakana l ≡ eqb (k.katakana + k.either) n = bytes_all is_katakana refl l c ∙ ap₂ eqb (sym katakana_bytes_lem) (sym e) in
-        rw (o, t, h, j) refl
+        rw (o, h, j) refl
 
--- the ways through in_form
-module _ (kind : ℕ) (k : Scripts) (n : ℕ) {f : Bool} where
-  pub fit_width : kind ≡ 1 → f ≡ (eqb k.one n || eqb k.one 0) → f ≡ scripts_fit kind k n
-  unfolding scripts_fit
-  fit_width e p = p ∙ sym (rw e refl)
+-- what is not characters has nothing in common
+pub not_uniform : (u : Uniform) (l : List ℕ) → all_chars l ≡ false → false ≡ uniform_text u l
+unfolding one_width one_script
+not_uniform Width l e = sym (rw (are_chars is_one_byte refl l e, are_chars is_two_byte refl l e) refl)
+not_uniform Script l e = sym (rw (are_chars is_one_byte refl l e, are_chars is_hiragana refl l e, are_chars is_katakana refl l e) refl)
 
-  pub fit_script : (kind ≡ 1 → ⊥) → f ≡ (eqb k.one n || eqb (k.hiragana + k.either) n || eqb (k.katakana + k.either) n) → f ≡ scripts_fit kind k n
-  unfolding scripts_fit
-  fit_script e p = p ∙ sym (rw (ne_eqb kind 1 e) refl)
+-- o: what the reading of its characters tells
+module _ {l : List ℕ} {o : Option Scripts} (w : ToldOf l o) where
+  told_bytes : {k : Scripts} → o ≡ Some k → Bytes l k
+  told_bytes q = subst (λ (x : Option Scripts). IfSome x (Bytes l)) q w.bytes
 
--- what is not characters has no form
-pub no_form : (kind : ℕ) (l : List ℕ) → all_chars l ≡ false → false ≡ text_form kind l
-unfolding text_form one_width one_script
-no_form kind l e =
-    sym (ap₂ (λ (x y : Bool). cond (eqb kind 1) x y)
-    (rw (are_chars is_one_byte refl l e, are_chars is_two_byte refl l e) refl)
-    (rw (are_chars is_one_byte refl l e, are_chars is_hiragana refl l e, are_chars is_katakana refl l e) refl)
-    ∙ go (eqb kind 1))
-  where
-    go : (b : Bool) → cond b false false ≡ false
-    go true = refl
-    go false = refl
+  told_chars : {k : Scripts} → o ≡ Some k → all_chars l ≡ true
+  told_chars q = sym w.chars ∙ ap is_some q
 
--- the ways through text_form: t is what scripts_of said, f what in_form said
-pub form_told : (kind : ℕ) {l : List ℕ} {t : Told} {f : Bool} → ToldOf l t → t.good ≡ true → f ≡ scripts_fit kind t.scripts (length l) → f ≡ text_form kind l
-form_told kind {l} {t} w g e = e ∙ scripts_fit_lem l t.scripts (w.bytes g) (sym w.chars ∙ g) kind (length l) refl
+  pub told_within : {k : Scripts} → o ≡ Some k → Within k (length l)
+  told_within {k} q = scripts_within l k (told_bytes q) (length l) refl
 
-pub form_none : (kind : ℕ) {l : List ℕ} {t : Told} → ToldOf l t → t.good ≡ false → false ≡ text_form kind l
-form_none kind {l} w g = no_form kind l (sym w.chars ∙ g)
+  pub told_uniform : (u : Uniform) {k : Scripts} {f : Bool} → o ≡ Some k → f ≡ uniform_scripts u k (length l) → f ≡ uniform_text u l
+  told_uniform u {k} q e = e ∙ scripts_fit l k (told_bytes q) (told_chars q) u (length l) refl
 
-pub form_within : {l : List ℕ} {t : Told} → ToldOf l t → t.good ≡ true → Within t.scripts (length l)
-form_within {l} {t} w g = scripts_within l t.scripts (w.bytes g) (length l) refl
-
-pub ruleset form_laws = (form_told, form_none, form_within)
+  pub told_none : (u : Uniform) → o ≡ None → false ≡ uniform_text u l
+  told_none u q = not_uniform u l (sym w.chars ∙ ap is_some q)
 
 -- ---- the last character is 8140h
 
@@ -247,8 +238,3 @@ module _ (l : List ℕ) (c : all_chars l ≡ true) (n : 1 ≤ length l) (o : (by
 
   pub edge_inner : eqb (get_or l 1 0) 0x40 ≡ false → eqb (last l) 0x40 ≡ false → edge l ≡ false
   edge_inner b z = edge_above l ends_above.0 ends_above.1 (rw b (and-false (eqb (get_or l 0 0) 0x81))) (rw z (and-false (eqb (get_or l (length l - 2) 0) 0x81)))
-
--- a digit is of a code
-pub code_digit : {s : List ℕ} {i : ℕ} {x : Bool} → AllLeft is_code s i → i < length s → x ≡ is_digit (get_or s i 0) → x ≡ true
-    → AllLeft is_code s (i + 1)
-code_digit v h q t = all_go v h refl (simp (sym q ∙ t, or-true))

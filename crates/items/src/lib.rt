@@ -1,281 +1,252 @@
-// The kinds of items: whether an item may be as it is. One small function a kind, then the dispatch by the kind's number.
-// Definitions: `fault` in records, specs/Items.antt; the numbers of kinds: specs/Codes.antt. A new kind is a function here, an arm
-// of `kind_fault` and a clause of `kind_of`. What a kind asks of characters (their width, their script, a blank at an end) it asks of the scripts
-// that the reading of the characters tells.
+// The kinds of items: whether an item may be as it is. One small function a kind, then the dispatch by the kind.
+// Definitions: `fault` in records, specs/Items.antt; the kinds as the code names them: src/kinds.rt, specs/Kinds.antt. A new kind is a variant there, a
+// function here, an arm of `kind_fault` and one of `item_end`. What a kind asks of characters (their width, their script, a blank at an end) it asks of
+// the scripts that the reading of the characters tells.
 #![tactic(auto)]
 
-ghost use Rattle.std.specs.Prelude.{◌≡◌, true, cond, not, ◌&&◌, ◌||◌, ◌+◌, ◌≤◌, ◌<◌, ◌/◌, ◌%◌, leb, eqb, length, get_or};
-ghost use Rattle.lists.specs.Lists.{all, member as member_of, unless as unless_of};
-ghost use Rattle.digits.specs.Digits.{number};
+mod kinds;
+
+ghost use Rattle.std.specs.Prelude.{◌≡◌, Some, None, cond, not, ◌&&◌, ◌||◌, ◌+◌, ◌≤◌, ◌<◌, eqb, length, get_or};
+ghost use Rattle.lists.specs.Lists.{all, member, unless as unless_of};
 ghost use Rattle.scanning.specs.Scans.{RunOf, Counted};
-ghost use Rattle.calendar.specs.Era.{read_day};
-ghost use Rattle.records.specs.Table.{required as required_of};
-ghost use Rattle.records.specs.Items.{is_code, ends_wide, edge as edge_of, seven as seven_of, unhyphened, postal as postal_of, prefecture as prefecture_of, whole_part as whole_of, fraction_part as places_of, fraction as fraction_of, is_decimal as decimal_of, sized as sized_of, fault as fault_of, number_fault, day_fault};
+ghost use Rattle.replies.specs.Refusals.{number_of, fault_in};
+ghost use Rattle.records.specs.Table.{N, X, R, required};
+ghost use Rattle.records.specs.Items.{is_code, ends_wide, edge as edge_of, seven as seven_of, unhyphened, postal as postal_of, prefecture as prefecture_of, spelled_as, whole_part as whole_of, fraction_part as places_of, fraction as fraction_of, is_decimal as decimal_of, sized as sized_of, fault as fault_of};
 ghost use Rattle.records.specs.Records.{item_fault};
-ghost use Rattle.items.specs.Codes.{set_of, kind_of, need_of, item_of};
-ghost use Rattle.items.specs.Ends.{Within, scripts_fit, text_form, sized_end, EndOf, SpelledAt, CodeRun, DigitAt, DigitFits};
+ghost use Rattle.items.specs.Kinds.{authors, values_of, need_of, kind_of, item_of};
+ghost use Rattle.items.specs.Ends.{Within, uniform_scripts, uniform_text, uniform_kind, sized_end, EndOf, SpelledAt, CodeRun, DigitAt, DigitFits};
+
+pub use kinds::{Item, Kind, Need, Values};
+use replies::Refusal;
+use replies::Refusal::{Edge, Empty, Form, Long};
+use scanning::{Run, Scripts};
+
+// What the rules say of an item.
+type Verdict = Result<(), Refusal>;
 
 fn is_code(b: u8) -> bool
     ensures { result ≡ is_code b }
 {
-    ((0x41 <= b) & (b <= 0x5a))
-        | ((0x61 <= b) & (b <= 0x7a))
-        | ((0x30 <= b) & (b <= 0x39))
-        | (b == 0x2e)
-        | (b == 0x2d)
+    matches!(b, b'A'..=b'Z' | b'a'..=b'z' | b'0'..=b'9' | b'.' | b'-')
 }
 
 fn all_code(s: &[u8]) -> bool
     ensures { result ≡ all is_code s.now }
 {
-    let mut i = 0;
-    while i < s.len() {
-        let b = s[i];
-        if digits::is_digit(b) {
-            i += 1;
-        } else if is_code(b) {
-            i += 1;
-        } else {
-            return false;
-        }
-    }
-    true
+    s.iter().all(|b| is_code(*b))
+}
+
+// What all characters of an item of kind U or K have in common.
+#[derive(Clone, Copy)]
+enum Uniform {
+    Width,
+    Script,
 }
 
 // Kind U, of n bytes: all one-byte or all two-byte.
-fn one_width(k: scanning::Scripts, n: usize) -> bool
+fn one_width(k: Scripts, n: usize) -> bool
     ensures { result ≡ eqb k.one n || eqb k.one 0 }
 {
     (k.one == n) | (k.one == 0)
 }
 
 // Kind K, of n bytes: all one-byte, or all of one kana script with what both have.
-fn one_script(k: scanning::Scripts, n: usize) -> bool
+fn one_script(k: Scripts, n: usize) -> bool
     requires { Within k n }
     ensures { result ≡ eqb k.one n || eqb (k.hiragana + k.either) n || eqb (k.katakana + k.either) n }
 {
     (k.one == n) | (k.hiragana + k.either == n) | (k.katakana + k.either == n)
 }
 
-// Whether characters of n bytes may stand in an item of kind U or K, by the kind's number.
-fn in_form(kind: usize, k: scanning::Scripts, n: usize) -> bool
-    requires { Within k n }
-    ensures { result ≡ scripts_fit kind k n }
-{
-    if kind == 1 {
-        return one_width(k, n);
+impl Uniform {
+    // Whether characters of n bytes have it in common.
+    fn holds(self, k: Scripts, n: usize) -> bool
+        requires { Within k n }
+        ensures { result ≡ uniform_scripts self k n }
+    {
+        match self {
+            Uniform::Width => one_width(k, n),
+            Uniform::Script => one_script(k, n),
+        }
     }
-    one_script(k, n)
-}
 
-// The same of a whole item.
-fn text_form(kind: usize, s: &[u8]) -> bool
-    ensures { result ≡ text_form kind s.now }
-{
-    let t = scanning::scripts_of(s);
-    if t.good {
-        return in_form(kind, t.scripts, s.len());
+    // The same of a whole item.
+    #[tactic(auto, using(crate::proofs::TextLaws::told_none))]
+    fn holds_in(self, s: &[u8]) -> bool
+        ensures { result ≡ uniform_text self s.now }
+    {
+        match scanning::scripts_of(s) {
+            Some(k) => self.holds(k, s.len()),
+            None => false,
+        }
     }
-    false
 }
 
 // Whether the last character is 8140h. In 8Ah 81h 40h these two bytes are the trail of a kanji and @: no character ends before them.
 fn ends_wide(s: &[u8]) -> bool
     ensures { result ≡ ends_wide s.now }
 {
-    let n = s.len();
-    let start = 0;
-    let m = lists::before(lists::before(n));
-    let y = lists::byte_at(s, m);
-    let z = lists::byte_at(s, lists::before(n));
-    if scanning::is_blank_pair(y, z) {
-        return scanning::all_chars(&s[start..m]);
-    }
-    false
+    let last = s.len().saturating_sub(1);
+    let before = s.len().saturating_sub(2);
+    scanning::is_blank_pair(lists::byte_at(s, before), lists::byte_at(s, last))
+        && scanning::all_chars(&s[..before])
 }
 
+#[tactic(auto, unfolding(records::specs::Items::edge))]
 fn edge(s: &[u8]) -> bool
     ensures { result ≡ edge_of s.now }
 {
     let n = s.len();
     let a = lists::byte_at(s, 0);
     let b = lists::byte_at(s, 1);
-    let z = lists::byte_at(s, lists::before(n));
+    let z = lists::byte_at(s, n.saturating_sub(1));
     let blank = scanning::is_blank_pair(a, b);
     let wide = ends_wide(s);
-    (a == 0x20)
+    (a == b' ')
         | blank
-        | (z == 0x20)
+        | (z == b' ')
         | wide
-        | ((2 <= n) & ((a == 0x22) & (z == 0x22)))
-        | ((2 <= n) & ((a == 0x27) & (z == 0x27)))
+        | ((2 <= n) & ((a == b'"') & (z == b'"')))
+        | ((2 <= n) & ((a == b'\'') & (z == b'\'')))
 }
 
+#[tactic(auto, unfolding(records::specs::Items::seven))]
 fn seven(s: &[u8]) -> bool
     ensures { result ≡ seven_of s.now }
 {
-    (s.len() == 7) & digits::all_digits(s)
+    s.len() == 7 && digits::all_digits(s)
 }
 
+#[tactic(auto, using(crate::proofs::FormLaws::seven_laws))]
 fn hyphened(s: &[u8]) -> bool
     ensures { result ≡ seven_of (unhyphened s.now) }
 {
-    let n = s.len();
-    if n != 8 {
-        return false;
-    }
-    let start = 0;
-    let hyphen = 3;
-    let after = 4;
-    digits::all_digits(&s[start..hyphen]) & digits::all_digits(&s[after..n])
+    s.len() == 8 && digits::all_digits(&s[..3]) && digits::all_digits(&s[4..])
 }
 
+#[tactic(auto, unfolding(records::specs::Items::postal))]
 fn postal(s: &[u8]) -> bool
     ensures { result ≡ postal_of s.now }
 {
-    let h = lists::byte_at(s, 3);
-    seven(s) | ((h == 0x2d) & hyphened(s))
+    seven(s) || (lists::byte_at(s, 3) == b'-' && hyphened(s))
 }
 
+#[tactic(auto, using(crate::proofs::FormLaws::prefecture_laws))]
 fn prefecture(s: &[u8]) -> bool
     ensures { result ≡ prefecture_of s.now }
 {
-    let v = digits::short_value(s);
-    (s.len() == 2) & ((1 <= v) & (v <= 47))
+    match digits::short_value(s) {
+        Some(n) => (s.len() == 2) & ((1 <= n) & (n <= 47)),
+        None => false,
+    }
 }
 
 fn whole(w: usize, a: &[u8]) -> bool
     ensures { result ≡ whole_of w a.now }
 {
     let n = a.len();
-    let b = lists::byte_at(a, 0);
-    let d = digits::all_digits(a);
-    ((1 <= n) & (n <= w)) & (d & ((n == 1) | !(b == 0x30)))
+    (1 <= n && n <= w) && (digits::all_digits(a) && (n == 1 || a[0] != b'0'))
 }
 
 fn decimals(f: usize, b: &[u8]) -> bool
     ensures { result ≡ places_of f b.now }
 {
     let n = b.len();
-    let z = lists::byte_at(b, lists::before(n));
-    let d = digits::all_digits(b);
-    ((1 <= n) & (n <= f)) & (d & !(z == 0x30))
+    (1 <= n && n <= f) && (digits::all_digits(b) && b[n - 1] != b'0')
 }
 
+#[tactic(auto, using(crate::proofs::FormLaws::fraction_some))]
 fn fraction(f: usize, s: &[u8]) -> bool
     ensures { result ≡ fraction_of f s.now }
 {
-    if s.len() == 0 {
-        return true;
-    }
-    decimals(f, &s[1..])
+    s.is_empty() || decimals(f, &s[1..])
 }
 
+#[tactic(auto, using(crate::proofs::FormLaws::decimal_laws))]
 fn decimal(w: usize, f: usize, s: &[u8]) -> bool
     ensures { result ≡ decimal_of w f s.now }
 {
-    let n = s.len();
-    let start = 0;
-    let p = lists::find_byte(s, start, 0x2e);
-    whole(w, &s[start..p]) & fraction(f, &s[p..n])
+    let period = lists::find_byte(s, 0, b'.');
+    whole(w, &s[..period]) && fraction(f, &s[period..])
 }
 
-// The values in braces.
-fn member(set: usize, n: u32) -> bool
-    ensures { result ≡ member_of (set_of set) n }
+fn is_author(n: u32) -> bool
+    ensures { result ≡ member authors n }
 {
-    match set {
-        0 => (n == 1) | (n == 2),
-        1 => (n == 1) | (n == 2) | (n == 3) | (n == 9),
-        2 => (n == 1) | (n == 3) | (n == 4),
-        3 => (n == 1) | (n == 3),
-        4 => (n == 1) | (n == 2) | (n == 3) | (n == 4) | (n == 6),
-        5 => (n == 1)
-            | (n == 2)
-            | (n == 3)
-            | (n == 4)
-            | (n == 5)
-            | (n == 6)
-            | (n == 7)
-            | (n == 9)
-            | (n == 10),
-        6 => (n == 30) | (n == 31) | (n == 99),
-        7 => (n == 1) | (n == 2) | (n == 8) | (n == 9),
-        _ => false,
+    matches!(n, 1 | 2 | 8 | 9)
+}
+
+#[tactic(auto, using(crate::proofs::SetLaws::author_laws))]
+fn author(s: &[u8]) -> bool
+    ensures { result ≡ spelled_as authors s.now }
+{
+    match digits::plain_number(s) {
+        Some(n) => is_author(n),
+        None => false,
     }
 }
 
-pub fn unless(good: bool, n: u8) -> u8
-    ensures { result ≡ unless_of good n }
+#[tactic(auto, using(crate::proofs::SetLaws::among_laws))]
+fn among(values: Values, s: &[u8]) -> bool
+    ensures { result ≡ spelled_as (values_of values) s.now }
 {
-    if good { 0 } else { n }
+    match digits::plain_number(s) {
+        Some(n) => values.contains(n),
+        None => false,
+    }
+}
+
+fn unless(good: bool, refusal: Refusal) -> Verdict
+    ensures { fault_in result ≡ unless_of good (number_of refusal) }
+{
+    if good { Ok(()) } else { Err(refusal) }
 }
 
 // The kinds N, U, X and K: too long, then an edge, then the form.
-fn sized(m: usize, s: &[u8], good: bool) -> u8
-    ensures { result ≡ sized_of m s.now good }
+#[tactic(auto, unfolding(records::specs::Items::sized))]
+fn sized(most: u16, s: &[u8], good: bool) -> Verdict
+    ensures { fault_in result ≡ sized_of most s.now good }
 {
-    if m < s.len() {
-        return 9;
+    if usize::from(most) < s.len() {
+        return Err(Long);
     }
     if edge(s) {
-        return 10;
+        return Err(Edge);
     }
-    unless(good, 11)
+    unless(good, Form)
 }
 
-fn rp_fault(s: &[u8]) -> u8
-    ensures { result ≡ number_fault (number s.now) }
+// The fault of an item that is not empty, by its kind.
+#[tactic(auto, unfolding(records::specs::Items::fault))]
+fn kind_fault(kind: Kind, s: &[u8]) -> Verdict
+    ensures { fault_in result ≡ fault_of (kind_of kind) s.now }
 {
-    let v = digits::short_value(s);
-    unless((1 <= v) & (v <= 999), 11)
-}
-
-fn day_fault(s: &[u8]) -> u8
-    ensures { result ≡ day_fault (read_day s.now) }
-{
-    match calendar::Day::read(s) {
-        calendar::DateRead::Date(_) => 0,
-        calendar::DateRead::NotADate => 11,
-    }
-}
-
-// The fault of an item that is not empty, by the number of its kind and its most bytes or set.
-fn kind_fault(k: usize, m: usize, s: &[u8]) -> u8
-    ensures { result ≡ fault_of (kind_of k m) s.now }
-{
-    match k {
-        0 => sized(m, s, true),
-        1 => sized(m, s, text_form(1, s)),
-        2 => sized(m, s, all_code(s)),
-        3 => unless(member(7, digits::plain_number(s)), 11),
-        4 => unless(prefecture(s), 11),
-        5 => unless(seven(s), 11),
-        6 => unless(postal(s), 11),
-        7 => rp_fault(s),
-        8 => unless(decimal(3, 3, s), 11),
-        9 => unless(decimal(6, 5, s), 11),
-        10 => day_fault(s),
-        12 => sized(m, s, text_form(12, s)),
-        _ => unless(member(m, digits::plain_number(s)), 11),
+    match kind {
+        Kind::Text(most) => sized(most, s, true),
+        Kind::OneWidth(most) => sized(most, s, Uniform::Width.holds_in(s)),
+        Kind::Kana(most) => sized(most, s, Uniform::Script.holds_in(s)),
+        Kind::Code(most) => sized(most, s, all_code(s)),
+        Kind::Author => unless(author(s), Form),
+        Kind::Prefecture => unless(prefecture(s), Form),
+        Kind::SevenDigits => unless(seven(s), Form),
+        Kind::PostalCode => unless(postal(s), Form),
+        Kind::Number => unless(matches!(digits::short_value(s), Some(1..)), Form),
+        Kind::Weight => unless(decimal(3, 3, s), Form),
+        Kind::Dose => unless(decimal(6, 5, s), Form),
+        Kind::Date => unless(calendar::Day::read(s).is_some(), Form),
+        Kind::Among(values) => unless(among(values, s), Form),
     }
 }
 
-fn required(n: usize, provider: bool) -> bool
-    ensures { result ≡ required_of (provider) (need_of n) }
+/// What the rules say of an item of the table.
+#[tactic(auto, unfolding(records::specs::Records::item_fault))]
+pub fn item_fault(item: Item, provider: bool, s: &[u8]) -> Result<(), Refusal>
+    ensures { fault_in result ≡ item_fault provider (item_of item) s.now }
 {
-    (n == 0) | ((n == 1) & provider)
-}
-
-// The fault of an item, by its code.
-pub fn item_fault(c: usize, provider: bool, s: &[u8]) -> u8
-    ensures { result ≡ item_fault (provider) (item_of c) s.now }
-{
-    if s.len() == 0 {
-        let need = required(c % 4, provider);
-        return unless(!need, 8);
+    if s.is_empty() {
+        return unless(!item.need.is_required(provider), Empty);
     }
-    kind_fault(c / 4 % 16, c / 64, s)
+    kind_fault(item.kind, s)
 }
 
 // ---- items at a position
@@ -285,235 +256,235 @@ fn code_end(s: &[u8], from: usize) -> usize
     requires { from ≤ length s.now }
     ensures { CodeRun s.now from result }
 {
-    let mut i = from;
-    while i < s.len() {
-        let b = s[i];
-        if digits::is_digit(b) {
-            i += 1;
-        } else if is_code(b) {
-            i += 1;
-        } else {
-            return i;
+    for (i, b) in s[from..].iter().enumerate() {
+        if !is_code(*b) {
+            return from + i;
         }
     }
-    i
+    s.len()
 }
 
-// Where an empty item ends: where it begins, unless it must not be empty.
-fn blank_end(c: usize, provider: bool, from: usize) -> usize
-    ensures { result ≡ cond (required_of (provider) (need_of (c % 4))) 0 from }
+// Where an empty item ends: where it begins, if it may be empty.
+fn blank_end(need: Need, provider: bool, from: usize) -> Option<usize>
+    ensures { result ≡ cond (required provider (need_of need)) None (Some from) }
 {
-    if required(c % 4, provider) { 0 } else { from }
+    if need.is_required(provider) {
+        None
+    } else {
+        Some(from)
+    }
 }
 
 // Whether 8140h can stand at neither end of a run, of which z is the last byte: the run has no character of both kana scripts, or, as names of drugs
 // often have 815Bh, which is of both too, neither its second byte nor its last is 40h.
-fn no_wide_edge(k: scanning::Scripts, s: &[u8], from: usize, z: u8) -> bool
+fn no_wide_edge(k: Scripts, s: &[u8], from: usize, z: u8) -> bool
     requires { from < length s.now }
     ensures { result ≡ eqb k.either 0 || (not (eqb z 0x40) && not (eqb (get_or s.now (from + 1) 0) 0x40)) }
 {
-    if k.either == 0 {
-        return true;
-    }
-    let b = lists::byte_at(s, from + 1);
-    !(z == 0x40) & !(b == 0x40)
+    k.either == 0 || (z != 0x40 && lists::byte_at(s, from + 1) != 0x40)
 }
 
-// Where a run that is not empty ends, if it is not too long and has no edge; else 0. A blank or a quote at an end is 8140h or a character of one byte
-// below 28h: most runs have neither.
-fn sized_end(c: usize, s: &[u8], from: usize, r: scanning::Run) -> usize
-    requires run_of { RunOf s.now from r.end }
-    requires counted { Counted s.now from r.end r.scripts }
-    requires from_lt_end { from < r.end }
-    ensures { result ≡ sized_end c s.now from r.end }
+// Where a run that is not empty ends, if it is not too long and has no edge. A blank or a quote at an end is 8140h or a character of one byte below
+// 28h: most runs have neither.
+#[tactic(auto, using(crate::proofs::EndLaws::sized_laws))]
+fn sized_end(most: u16, s: &[u8], from: usize, run: Run) -> Option<usize>
+    requires run_of { RunOf s.now from run.end }
+    requires counted { Counted s.now from run.end run.scripts }
+    requires from_lt_end { from < run.end }
+    ensures { result ≡ sized_end most s.now from run.end }
 {
-    let end = r.end;
-    let k = r.scripts;
-    if c / 64 < end - from {
-        return 0;
+    let end = run.end;
+    let k = run.scripts;
+    if usize::from(most) < end - from {
+        return None;
     }
     let a = s[from];
     let z = s[end - 1];
-    if k.one == 0 {
+    if (k.one == 0) | ((0x28 <= a) & (0x28 <= z)) {
         if no_wide_edge(k, s, from, z) {
-            return end;
-        }
-    } else if (0x28 <= a) & (0x28 <= z) {
-        if no_wide_edge(k, s, from, z) {
-            return end;
+            return Some(end);
         }
     }
-    if edge(&s[from..end]) { 0 } else { end }
+    if edge(&s[from..end]) { None } else { Some(end) }
 }
 
 // Kind N: too long, then an edge.
-fn text_item(c: usize, provider: bool, s: &[u8], from: usize) -> usize
-    requires from_in_bounds { from ≤ length s.now }
-    requires c_value { c / 4 % 16 ≡ 0 }
-    ensures { EndOf (provider) c s.now from result }
+#[tactic(auto, using(crate::proofs::EndLaws::text_item_laws))]
+fn text_item(most: u16, need: Need, provider: bool, s: &[u8], from: usize) -> Option<usize>
+    requires { from ≤ length s.now }
+    ensures { EndOf provider (record { kind = N most; need = need_of need }) s.now from result }
 {
-    let r = scanning::run_at(s, from);
-    if r.end == from {
-        return blank_end(c, provider, from);
+    let run = scanning::run_at(s, from);
+    if run.end == from {
+        return blank_end(need, provider, from);
     }
-    sized_end(c, s, from, r)
-}
-
-// Kind X: a code has no edge, so its length and whether it must not be empty are all that is left to look at.
-fn code_item(c: usize, provider: bool, s: &[u8], from: usize) -> usize
-    requires from_in_bounds { from ≤ length s.now }
-    requires c_value { c / 4 % 16 ≡ 2 }
-    ensures { EndOf (provider) c s.now from result }
-{
-    let end = code_end(s, from);
-    if end == from {
-        return blank_end(c, provider, from);
-    }
-    if c / 64 < end - from { 0 } else { end }
+    sized_end(most, s, from, run)
 }
 
 // Kinds U and K: the scripts of the run, then as kind N.
-fn script_item(c: usize, provider: bool, s: &[u8], from: usize) -> usize
-    requires from_in_bounds { from ≤ length s.now }
-    requires c_value { (eqb (c / 4 % 16) 1 || eqb (c / 4 % 16) 12) ≡ true }
-    ensures { EndOf (provider) c s.now from result }
+#[tactic(auto, using(crate::proofs::EndLaws::uniform_item_laws))]
+fn uniform_item(
+    uniform: Uniform,
+    most: u16,
+    need: Need,
+    provider: bool,
+    s: &[u8],
+    from: usize,
+) -> Option<usize>
+    requires { from ≤ length s.now }
+    ensures { EndOf provider (record { kind = uniform_kind uniform most; need = need_of need }) s.now from result }
 {
-    let r = scanning::run_at(s, from);
-    let end = r.end;
-    let k = r.scripts;
+    let run = scanning::run_at(s, from);
+    if run.end == from {
+        return blank_end(need, provider, from);
+    }
+    if uniform.holds(run.scripts, run.end - from) {
+        return sized_end(most, s, from, run);
+    }
+    None
+}
+
+// Kind X: a code has no edge, so its length and whether it must not be empty are all that is left to look at.
+#[tactic(auto, using(crate::proofs::EndLaws::code_item_laws))]
+fn code_item(most: u16, need: Need, provider: bool, s: &[u8], from: usize) -> Option<usize>
+    requires { from ≤ length s.now }
+    ensures { EndOf provider (record { kind = X most; need = need_of need }) s.now from result }
+{
+    let end = code_end(s, from);
     if end == from {
-        return blank_end(c, provider, from);
+        return blank_end(need, provider, from);
     }
-    if in_form(c / 4 % 16, k, end - from) {
-        return sized_end(c, s, from, r);
+    if usize::from(most) < end - from {
+        None
+    } else {
+        Some(end)
     }
-    0
 }
 
 // Any other kind: its bytes are those of a code (digits, a period, a hyphen, an era's letter), so that the run of these is looked at.
-fn other_item(c: usize, provider: bool, s: &[u8], from: usize) -> usize
+#[tactic(auto, using(crate::proofs::EndLaws::other_item_laws))]
+fn other_item(item: Item, provider: bool, s: &[u8], from: usize) -> Option<usize>
     requires { from ≤ length s.now }
-    ensures { EndOf (provider) c s.now from result }
+    ensures { EndOf provider (item_of item) s.now from result }
 {
     let end = code_end(s, from);
-    let f = item_fault(c, provider, &s[from..end]);
-    if f == 0 { end } else { 0 }
+    match item_fault(item, provider, &s[from..end]) {
+        Ok(()) => Some(end),
+        Err(_) => None,
+    }
 }
 
-// The value of a digit with a comma or 0Dh after it, which is an item of one byte; else 10.
-fn digit_at(s: &[u8], from: usize) -> u32
+// The value of a digit with a comma or 0Dh after it, which is an item of one byte.
+#[tactic(auto, using(crate::proofs::DigitLaws::digit_laws))]
+fn digit_at(s: &[u8], from: usize) -> Option<u32>
     requires { from ≤ length s.now }
     ensures { DigitAt s.now from result }
 {
-    let next = from + 1;
-    if s.len() <= next {
-        return 10;
+    if s.len() <= from + 1 {
+        return None;
     }
-    let b = s[next];
-    if (b == 0x2c) | (b == 0x0d) {
-        let a = s[from];
-        if digits::is_digit(a) {
-            return digits::wide(a - 48);
-        }
+    match s[from + 1] {
+        b',' | b'\r' => digits::digit(s[from]),
+        _ => None,
     }
-    10
 }
 
-// Whether an item of one digit has no fault, by the number of its kind and its set. False says nothing.
-fn digit_fits(k: usize, m: usize, d: u32) -> bool
-    ensures { DigitFits k m d result }
+// Whether an item of one digit has no fault, by its kind. False says nothing.
+#[tactic(auto, using(crate::proofs::DigitLaws::fits_laws))]
+fn digit_fits(kind: Kind, d: u32) -> bool
+    ensures { DigitFits (kind_of kind) d result }
 {
-    match k {
-        3 => member(7, d),
-        8 => true,
-        9 => true,
-        0 | 1 | 2 | 4 | 5 | 6 | 7 | 10 | 12 => false,
-        _ => member(m, d),
+    match kind {
+        Kind::Author => is_author(d),
+        Kind::Weight | Kind::Dose => true,
+        Kind::Among(values) => values.contains(d),
+        _ => false,
     }
 }
 
-// One to three digits from a position on: where they end, and their value.
-#[derive(Clone, Copy)]
+// The kinds of which most items are one digit.
+#[tactic(auto, using(crate::proofs::EndLaws::end_digit))]
+fn digit_item(item: Item, provider: bool, s: &[u8], from: usize) -> Option<usize>
+    requires { from ≤ length s.now }
+    ensures { EndOf provider (item_of item) s.now from result }
+{
+    if let Some(d) = digit_at(s, from)
+        && digit_fits(item.kind, d)
+    {
+        return Some(from + 1);
+    }
+    other_item(item, provider, s, from)
+}
+
+/// One to three digits from a position on: where they end, and their value.
+#[derive(Clone, Copy, Debug, PartialEq, Eq)]
 pub struct Spelled {
     pub end: usize,
     pub value: u32,
 }
 
-// None is told of the last two bytes of all, which end no record.
-pub fn spelled_at(s: &[u8], at: usize) -> Spelled
+/// The digits at a position, if there are any. None are told of the last two bytes of all, which end no record.
+#[tactic(auto, using(crate::proofs::NumberLaws::spelled_laws))]
+pub fn spelled_at(s: &[u8], at: usize) -> Option<Spelled>
     requires { at ≤ length s.now }
     ensures { SpelledAt s.now at result }
 {
-    let second = at + 1;
-    let third = at + 2;
-    if s.len() <= third {
-        return Spelled { end: at, value: 0 };
+    if s.len() <= at + 2 {
+        return None;
     }
-    let a = s[at];
-    if !digits::is_digit(a) {
-        return Spelled { end: at, value: 0 };
-    }
-    let one = digits::wide(a - 48);
-    let b = s[second];
-    if !digits::is_digit(b) {
-        return Spelled {
-            end: second,
+    let one = digits::digit(s[at])?;
+    let Some(second) = digits::digit(s[at + 1]) else {
+        return Some(Spelled {
+            end: at + 1,
             value: one,
-        };
-    }
-    let two = 10 * one + digits::wide(b - 48);
-    let c = s[third];
-    if !digits::is_digit(c) {
-        return Spelled {
-            end: third,
+        });
+    };
+    let two = 10 * one + second;
+    let Some(third) = digits::digit(s[at + 2]) else {
+        return Some(Spelled {
+            end: at + 2,
             value: two,
-        };
-    }
-    Spelled {
+        });
+    };
+    Some(Spelled {
         end: at + 3,
-        value: 10 * two + digits::wide(c - 48),
-    }
+        value: 10 * two + third,
+    })
 }
 
-// For kind R.
-fn number_item(c: usize, provider: bool, s: &[u8], from: usize) -> usize
-    requires from_in_bounds { from ≤ length s.now }
-    requires c_value { c / 4 % 16 ≡ 7 }
-    ensures { EndOf (provider) c s.now from result }
-{
-    let r = spelled_at(s, from);
-    let end = r.end;
-    let v = r.value;
-    if v != 0 {
-        return end;
-    }
-    other_item(c, provider, s, from)
-}
-
-// Where the item that begins at a position ends, if it has no fault; else 0. c: the item of the table, as one number. 0 says nothing of
-// the item: the line that it stands in is then read another way.
-pub fn item_end(c: usize, provider: bool, s: &[u8], from: usize) -> usize
+// Kind R.
+#[tactic(auto, using(crate::proofs::NumberLaws::number_fine))]
+fn number_item(need: Need, provider: bool, s: &[u8], from: usize) -> Option<usize>
     requires { from ≤ length s.now }
-    ensures { EndOf (provider) c s.now from result }
+    ensures { EndOf provider (record { kind = R; need = need_of need }) s.now from result }
 {
-    let kind = c / 4 % 16;
-    if kind == 0 {
-        return text_item(c, provider, s, from);
+    if let Some(number) = spelled_at(s, from)
+        && number.value != 0
+    {
+        return Some(number.end);
     }
-    if kind == 2 {
-        return code_item(c, provider, s, from);
-    }
-    if kind == 7 {
-        return number_item(c, provider, s, from);
-    }
-    let d = digit_at(s, from);
-    if d <= 9 {
-        if digit_fits(kind, c / 64, d) {
-            return from + 1;
+    let kind = Kind::Number;
+    other_item(Item { kind, need }, provider, s, from)
+}
+
+/// Where the item that begins at a position ends, if it has no fault. None says nothing of the item: the line that it stands in is then read another
+/// way.
+pub fn item_end(item: Item, provider: bool, s: &[u8], from: usize) -> Option<usize>
+    requires { from ≤ length s.now }
+    ensures { EndOf provider (item_of item) s.now from result }
+{
+    let need = item.need;
+    match item.kind {
+        Kind::Text(most) => text_item(most, need, provider, s, from),
+        Kind::Code(most) => code_item(most, need, provider, s, from),
+        Kind::Number => number_item(need, provider, s, from),
+        Kind::OneWidth(most) => uniform_item(Uniform::Width, most, need, provider, s, from),
+        Kind::Kana(most) => uniform_item(Uniform::Script, most, need, provider, s, from),
+        Kind::Author | Kind::Weight | Kind::Dose | Kind::Among(_) => {
+            digit_item(item, provider, s, from)
+        }
+        Kind::Prefecture | Kind::SevenDigits | Kind::PostalCode | Kind::Date => {
+            other_item(item, provider, s, from)
         }
     }
-    if (kind == 1) | (kind == 12) {
-        return script_item(c, provider, s, from);
-    }
-    other_item(c, provider, s, from)
 }

@@ -1,4 +1,3 @@
-pub mod CellLaws
 pub mod TextLaws
-pub mod LineLaws
 pub mod RunLaws
+pub mod LineLaws

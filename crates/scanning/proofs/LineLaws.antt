@@ -1,27 +1,28 @@
 -- The ways through `line_at`, each with what stands there. Assumes nothing.
-use Prim.Native.Nat.{ℕ, ◌+◌, ◌≤◌, ◌<◌}
+use Prim.Native.Nat.{ℕ, ◌+◌, ◌-◌, ◌≤◌, ◌<◌}
 use mathlib.Core.Path.{◌≡◌, sym, ap, ◌∙◌, subst}
+use mathlib.Core.Logic.{inl, inr}
 use mathlib.Core.List.{List, [], ◌∷◌}
 use native.Mathlib.Omega.{arith}
 use lib.ListN.{length, drop, get_or, length-drop}
 use lib.Seq.{get_or-drop}
+use Rattle.std.specs.Prelude.{Some, None, Ok, Err}
 use Rattle.lists.specs.Searching.{part}
-use Rattle.lists.proofs.Cuts.{drop_end, last_on}
-use Rattle.scanning.specs.declared.Scan.{Scan}
-use Rattle.scanning.specs.declared.Line.TheVariants.{Whole, Mark, End, Broken}
-use Rattle.characters.specs.Text.{text}
+use Rattle.lists.proofs.Cuts.{drop_end, last_on, rest_all, up_to_le}
+use Rattle.scanning.specs.declared.lines.Scan.{Scan}
+use Rattle.characters.specs.Text.{is_stop, text}
 use Rattle.characters.specs.Scanning.{comma_count}
 use Rattle.characters.specs.Rows.{rows}
 use Rattle.scanning.specs.Scans.{Stops, Sixteen, ScanOf, LineOf}
 use Rattle.characters.proofs.RowLaws.{broken, text_part, whole_at}
 
 module _ (s : List ℕ) (at : ℕ) (stops : List ℕ) where
-  pub line_over : Sixteen stops → length s ≤ at → LineOf s at stops End
-  line_over z h = record { means = rw (drop_end s at h); size = z }
+  pub line_over : Sixteen stops → length s ≤ at → LineOf s at stops (Ok None)
+  line_over z h = record { means = inl (ap rows (drop_end s at h)); size = z }
 
   module _ {r : Scan} (k : at < length s) (v : ScanOf s at stops r) where
-    e_low : at ≤ r.end
-    e_low = omega (arith, v.ends)
+    pub line_range : r.end ≤ length s
+    line_range = omega (arith, v.ends, up_to_le is_stop (drop at s), length-drop at s)
 
     byte_at : (n : ℕ) → get_or (drop at s) (length (text (drop at s)) + n) 0 ≡ get_or s (r.end + n) 0
     byte_at n =
@@ -33,7 +34,8 @@ module _ (s : List ℕ) (at : ℕ) (stops : List ℕ) where
         let m : at + length (text (drop at s)) ≡ r.end = omega (arith, v.ends) in
         get_or-drop at s (length (text (drop at s))) 0 ∙ ap (λ (j : ℕ). get_or s j 0) m
 
-    broken_at : (r.end + 1 < length s → get_or s r.end 0 ≡ 0x0d → get_or s (r.end + 1) 0 ≡ 0x0a → ⊥) → (length s ≡ at + 1 → r.end ≡ at → get_or s r.end 0 ≡ 0x1a → ⊥) → LineOf s at stops Broken
+    broken_at : (r.end + 1 < length s → get_or s r.end 0 ≡ 0x0d → get_or s (r.end + 1) 0 ≡ 0x0a → ⊥) → (length s ≡ at + 1 → r.end ≡ at → get_or s r.end 0 ≡ 0x1a → ⊥)
+        → LineOf s at stops (Err (record {}))
     broken_at f g = record {
       means = broken (drop at s) (omega (arith, length-drop at s))
           (λ n a b. f (omega (arith, v.ends, length-drop at s)) (sym byte_0 ∙ a) (sym (byte_at 1) ∙ b))
@@ -42,37 +44,53 @@ module _ (s : List ℕ) (at : ℕ) (stops : List ℕ) where
       size = v.size;
     }
 
-    pub line_cut_short : length s ≤ r.end → LineOf s at stops Broken
-    line_cut_short h = broken_at (λ a _ _. absurd (omega arith)) (λ a b _. absurd (omega arith))
+    -- what the text leaves, from its end on
+    rest_length : length (part s r.end (length s)) ≡ length s - r.end
+    rest_length = ap length (rest_all r.end s) ∙ length-drop r.end s
 
-    pub line_one_left : length s ≤ r.end + 1 → at < r.end → LineOf s at stops Broken
-    line_one_left h l = broken_at (λ a _ _. absurd (omega arith)) (λ a b _. absurd (omega arith))
+    rest_at : (n : ℕ) → get_or (part s r.end (length s)) n 0 ≡ get_or s (r.end + n) 0
+    rest_at n = ap (λ (l : List ℕ). get_or l n 0) (rest_all r.end s) ∙ get_or-drop r.end s n 0
 
-    pub line_mark : length s ≤ r.end + 1 → r.end < length s → r.end ≤ at → get_or s r.end 0 ≡ 0x1a → LineOf s at stops Mark
-    line_mark h l m b =
-        let x : r.end ≡ at = omega (arith, e_low) in
-        record { means = ap rows (last_on s at 0 k (omega arith) ∙ ap (λ (j : ℕ). get_or s j 0 ∷ []) (sym x) ∙ ap (λ (j : ℕ). j ∷ []) b); size = v.size }
+    rest_first : get_or (part s r.end (length s)) 0 0 ≡ get_or s r.end 0
+    rest_first = let m : r.end + 0 ≡ r.end = omega arith in rest_at 0 ∙ ap (λ (j : ℕ). get_or s j 0) m
 
-    pub line_no_mark_byte : length s ≤ r.end + 1 → r.end ≤ at → (get_or s r.end 0 ≡ 0x1a → ⊥) → LineOf s at stops Broken
-    line_no_mark_byte h m b = broken_at (λ a _ _. absurd (omega arith)) (λ _ _ c. b c)
+    pub line_cut_short : length (part s r.end (length s)) < 1 → LineOf s at stops (Err (record {}))
+    line_cut_short h = broken_at (λ a _ _. absurd (omega (arith, rest_length))) (λ a b _. absurd (omega (arith, rest_length)))
 
-    module _ (n : r.end + 1 < length s) where
-      pub line_no_return : (get_or s r.end 0 ≡ 0x0d → ⊥) → LineOf s at stops Broken
-      line_no_return f = broken_at (λ _ a _. f a) (λ a b _. absurd (omega arith))
+    module _ (h : length (part s r.end (length s)) < 2) where
+      pub line_mark : 1 ≤ length (part s r.end (length s)) → get_or (part s r.end (length s)) 0 0 ≡ 0x1a → r.end ≡ at → LineOf s at stops (Ok None)
+      line_mark l b x = record {
+        means = inr (ap rows (last_on s at 0 k (omega (arith, rest_length)) ∙ ap (λ (j : ℕ). get_or s j 0 ∷ []) (sym x) ∙ ap (λ (j : ℕ). j ∷ []) (sym rest_first ∙ b)));
+        size = v.size;
+      }
 
-      pub line_no_feed : (get_or s (r.end + 1) 0 ≡ 0x0a → ⊥) → LineOf s at stops Broken
-      line_no_feed f = broken_at (λ _ _ b. f b) (λ a b _. absurd (omega arith))
+      pub line_one_left : (r.end ≡ at → ⊥) → LineOf s at stops (Err (record {}))
+      line_one_left n = broken_at (λ a _ _. absurd (omega (arith, rest_length))) (λ a b _. n b)
 
-      pub line_whole : get_or s r.end 0 ≡ 0x0d → get_or s (r.end + 1) 0 ≡ 0x0a → LineOf s at stops (Whole r.end r.good r.commas)
-      line_whole a b =
-          let t : text (drop at s) ≡ part s at r.end = text_part s at v.ends v.chars in
-          record {
-            means = record {
-              line = whole_at s at v.ends v.chars n a b;
-              commas = v.commas ∙ ap comma_count t;
-              places = subst (λ (l : List ℕ). Stops l stops) t v.places;
-            };
-            size = v.size;
-          }
+      pub line_no_mark : (get_or (part s r.end (length s)) 0 0 ≡ 0x1a → ⊥) → LineOf s at stops (Err (record {}))
+      line_no_mark n = broken_at (λ a _ _. absurd (omega (arith, rest_length))) (λ _ _ c. n (rest_first ∙ c))
 
-pub ruleset line_laws = (line_over, line_cut_short, line_one_left, line_mark, line_no_mark_byte, line_no_return, line_no_feed, line_whole)
+    module _ (h : 2 ≤ length (part s r.end (length s))) where
+      pub line_no_return : (get_or (part s r.end (length s)) 0 0 ≡ 0x0d → ⊥) → LineOf s at stops (Err (record {}))
+      line_no_return f = broken_at (λ _ a _. f (rest_first ∙ a)) (λ a b _. absurd (omega (arith, rest_length)))
+
+      pub line_no_feed : (get_or (part s r.end (length s)) 1 0 ≡ 0x0a → ⊥) → LineOf s at stops (Err (record {}))
+      line_no_feed f = broken_at (λ _ _ b. f (rest_at 1 ∙ b)) (λ a b _. absurd (omega (arith, rest_length)))
+
+    -- 0Dh 0Ah follow
+    pub line_whole : r.end + 1 < length s → get_or s r.end 0 ≡ 0x0d → get_or s (r.end + 1) 0 ≡ 0x0a → LineOf s at stops (Ok (Some r))
+    line_whole n a b =
+        let t : text (drop at s) ≡ part s at r.end = text_part s at v.ends v.chars in
+        record {
+          means = record {
+            line = whole_at s at v.ends v.chars n a b;
+            commas = v.commas ∙ ap comma_count t;
+            places = subst (λ (l : List ℕ). Stops l stops) t v.places;
+          };
+          size = v.size;
+        }
+
+    pub line_ends : 2 ≤ length (part s r.end (length s)) → get_or (part s r.end (length s)) 0 0 ≡ 0x0d → get_or (part s r.end (length s)) 1 0 ≡ 0x0a → LineOf s at stops (Ok (Some r))
+    line_ends h a b = line_whole (omega (arith, rest_length)) (sym rest_first ∙ a) (sym (rest_at 1) ∙ b)
+
+pub ruleset line_laws = (line_over, line_range, line_cut_short, line_mark, line_one_left, line_no_mark, line_no_return, line_no_feed, line_ends)

@@ -1,18 +1,16 @@
 -- Vocabulary of the code.
 -- What a scan finds, as the code answers it: the text from a position on, its commas and their places, and what stands where a row begins.
-use Rattle.std.specs.Prelude.{ℕ, ◌+◌, ◌≤◌, ◌<◌, ◌≡◌, Bool, true, ◌⊎◌, List, [], ◌∷◌, length, drop, get_or}
+use Rattle.std.specs.Prelude.{ℕ, ◌+◌, ◌≤◌, ◌<◌, ◌^◌, ◌≡◌, Option, Some, None, is_some, IfSome, Result, Ok, Err, Bool, true, ◌⊎◌, List, [], ◌∷◌, length, drop, get_or}
 use Rattle.lists.specs.Searching.{part}
 use Rattle.characters.specs.declared.Char.TheVariants.{Bad}
 use Rattle.characters.specs.Text.{all_chars, text}
 use Rattle.characters.specs.Cells.{is_one_byte}
 use Rattle.characters.specs.Scanning.{char_at, bytes_of, is_own_hiragana, is_own_katakana, is_either, comma_count, commas_from, WholeLine, BrokenRow}
 use Rattle.characters.specs.Rows.{rows, end_mark}
-use Rattle.scanning.specs.declared.Scripts.{Scripts}
-use Rattle.scanning.specs.declared.Run.{Run}
-use Rattle.scanning.specs.declared.Told.{Told}
-use Rattle.scanning.specs.declared.Scan.{Scan}
-use Rattle.scanning.specs.declared.Line.{Line}
-use Rattle.scanning.specs.declared.Line.TheVariants.{Whole, Mark, End, Broken}
+use Rattle.scanning.specs.declared.runs.Scripts.{Scripts}
+use Rattle.scanning.specs.declared.runs.Run.{Run}
+use Rattle.scanning.specs.declared.lines.Scan.{Scan}
+use Rattle.scanning.specs.declared.lines.Broken.{Broken}
 
 -- a list of places, as the code keeps it: the first sixteen commas of a line
 pub record Stops (l : List ℕ) (stops : List ℕ) : Type 0 where
@@ -48,6 +46,16 @@ pub record Bytes (l : List ℕ) (k : Scripts) : Type 0 where
   pub katakana : k.katakana ≡ bytes_of is_own_katakana l
   pub either : k.either ≡ bytes_of is_either l
 
+-- two such counts whose sums fit, and the sums
+pub record SumFits (a b : Scripts) : Type 0 where
+  pub one : a.one + b.one < 2 ^ 64
+  pub hiragana : a.hiragana + b.hiragana < 2 ^ 64
+  pub katakana : a.katakana + b.katakana < 2 ^ 64
+  pub either : a.either + b.either < 2 ^ 64
+
+abbrev pub sum_of : Scripts → Scripts → Scripts
+sum_of a b = record { one = a.one + b.one; hiragana = a.hiragana + b.hiragana; katakana = a.katakana + b.katakana; either = a.either + b.either }
+
 -- and from a to e
 abbrev pub Counted : List ℕ → ℕ → ℕ → Scripts → Type 0
 Counted s a e k = Bytes (part s a e) k
@@ -56,10 +64,10 @@ Counted s a e k = Bytes (part s a e) k
 pub record Finished (s : List ℕ) (i : ℕ) (k : Scripts) (r : Run) : Type 0 where
   pub holds : (a : ℕ) → RunOf s a i → Counted s a i k → RunOf s a r.end × RunEnds s r.end × Counted s a r.end r.scripts
 
--- whether a list is characters, and their scripts if it is
-pub record ToldOf (s : List ℕ) (t : Told) : Type 0 where
-  pub chars : t.good ≡ all_chars s
-  pub bytes : t.good ≡ true → Bytes s t.scripts
+-- the scripts of a list, if it is characters
+pub record ToldOf (s : List ℕ) (t : Option Scripts) : Type 0 where
+  pub chars : is_some t ≡ all_chars s
+  pub bytes : IfSome t (Bytes s)
 
 -- a whole line with its n commas and their places
 pub record ScannedLine (s : List ℕ) (at : ℕ) (stops : List ℕ) (e : ℕ) (good : Bool) (n : ℕ) : Type 0 where
@@ -67,12 +75,12 @@ pub record ScannedLine (s : List ℕ) (at : ℕ) (stops : List ℕ) (e : ℕ) (g
   pub commas : n ≡ comma_count (part s at e)
   pub places : Stops (part s at e) stops
 
-abbrev pub LineMeans : List ℕ → ℕ → List ℕ → Line → Type 0
-LineMeans s at stops (Whole e good n) = ScannedLine s at stops e good n
-LineMeans s at stops Mark = rows (drop at s) ≡ end_mark ∷ []
-LineMeans s at stops End = rows (drop at s) ≡ []
-LineMeans s at stops Broken = BrokenRow (rows (drop at s))
+-- the line that begins at a position; none, where no row is left but the end mark; or the first row is broken
+abbrev pub LineMeans : List ℕ → ℕ → List ℕ → Result (Option Scan) Broken → Type 0
+LineMeans s at stops (Ok (Some r)) = ScannedLine s at stops r.end r.good r.commas
+LineMeans s at stops (Ok None) = (rows (drop at s) ≡ []) ⊎ (rows (drop at s) ≡ end_mark ∷ [])
+LineMeans s at stops (Err e) = BrokenRow (rows (drop at s))
 
-pub record LineOf (s : List ℕ) (at : ℕ) (stops : List ℕ) (r : Line) : Type 0 where
+pub record LineOf (s : List ℕ) (at : ℕ) (stops : List ℕ) (r : Result (Option Scan) Broken) : Type 0 where
   pub means : LineMeans s at stops r
   pub size : Sixteen stops
