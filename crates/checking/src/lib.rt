@@ -71,7 +71,7 @@ pub struct Turn {
 
 /// Reads and places the record at a position, if one is left; stops: the places of its commas, from its beginning. One call for both, so that
 /// the state is not stored and read back between them.
-#[tactic(auto, using(crate::proofs::TurnLaws::read_record_laws))]
+#[tactic(auto, using(crate::proofs::TurnLaws::turn_ends))]
 pub fn read_record(
     stops: &mut [usize; 16],
     st: State,
