@@ -21,7 +21,10 @@ use Rattle.characters.proofs.CharLaws.{pair_parts}
 use Rattle.scanning.proofs.TextLaws.{lead_from_81, trail_from_40}
 use Rattle.scanning.specs.declared.runs.Scripts.{Scripts}
 use Rattle.scanning.specs.Scans.{Bytes, ToldOf}
-use Rattle.records.specs.Items.{one_width, one_script, ends_wide, edge}
+use Rattle.records.specs.Items.{one_width, one_script, ends_wide, edge, sized, fault}
+use Rattle.items.specs.declared.kinds.Kind.{Kind}
+use Rattle.items.specs.declared.kinds.Kind.TheVariants.{Kana}
+use Rattle.items.specs.Kinds.{kind_of}
 use Rattle.items.specs.declared.Uniform.{Uniform}
 use Rattle.items.specs.declared.Uniform.TheVariants.{Width, Script}
 use Rattle.items.specs.Ends.{Within, uniform_scripts, uniform_text}
@@ -100,6 +103,11 @@ module _ {l : List ℕ} {o : Option Scripts} (w : ToldOf l o) where
 
   pub told_none : (u : Uniform) → o ≡ None → false ≡ uniform_text u l
   told_none u q = not_uniform u l (sym w.chars ∙ ap is_some q)
+
+-- kind K
+pub kana_fault : {k : Kind} (m : ℕ) (s : List ℕ) {x : Bool} {r : ℕ} → k ≡ Kana m → x ≡ uniform_text Script s → r ≡ sized m s x → r ≡ fault (kind_of k) s
+unfolding fault
+kana_fault m s e p q = q ∙ ap (sized m s) p ∙ ap (λ (x : Kind). fault (kind_of x) s) (sym e)
 
 -- ---- the last character is 8140h
 
