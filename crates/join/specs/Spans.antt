@@ -16,6 +16,8 @@ use Rattle.pieces.specs.Answers.{RowAt}
 use Rattle.replies.specs.declared.refusal.Refusal.{Refusal}
 use Rattle.replies.specs.declared.refusal.Refusal.TheVariants.{Set}
 use Rattle.join.specs.declared.rows.Opening.{Opening}
+use Rattle.join.specs.declared.body.Mark.{Mark}
+use Rattle.join.specs.declared.body.Lines.{Lines}
 use Rattle.division.specs.Join.{unmarked, Part, last_mark, part_of, part_with, all_parts, agree, find_part, gather, one_piece, or_set, then_checked}
 use Rattle.search.specs.Search.{ks_of, piece_after}
 
@@ -109,3 +111,82 @@ LineMeans n (Some line) = (line ≡ n) × (1 ≤ line)
 
 pub record LineIs (n : ℕ) (r : Maybe ℕ) : Type 0 where
   pub means : LineMeans n r
+
+-- ---- the rows of a piece, from after its line 1 on
+
+-- a row that is a line
+pub record LineAt (s : List ℕ) (at e : ℕ) : Type 0 where
+  pub row : RowAt s at e
+  pub line : is_line (part s at e) ≡ true
+
+-- no record 911: the rows end at stop
+pub record PlainLines (s : List ℕ) (from to stop : ℕ) : Type 0 where
+  pub all : to ≡ stop
+  pub low : from ≤ stop
+  pub high : stop ≤ length s
+  pub plain : unmarked (body_of (rows (drop from s))) ≡ true
+  pub none : (d : Bool) → part_of d (body_of (rows (drop from s))) ≡ none
+  pub bytes : flat (body_of (rows (drop from s))) ≡ part s from stop
+  pub next : pieces_in (rows (drop from s)) ≡ pieces_in (rows (drop stop s))
+  pub over : goes_on (rows (drop stop s)) ≡ false
+  pub whole : unbroken (rows (drop from s)) ≡ unbroken (rows (drop stop s))
+
+-- a part by its direction, ID, count, place and rows
+abbrev pub part_by : Bool → List ℕ → ℕ → ℕ → List (List ℕ) → Part
+part_by d i n k rs = record { provider = d; mark = record { ident = i; count = n; place = k }; rows = rs }
+
+-- the ID of a record 911 that begins at last
+abbrev pub ident_at : List ℕ → ℕ → List ℕ
+ident_at s last = part s (last + 4) (last + 18)
+
+-- a record 911 from last to stop, n and k read, and the rows before it
+pub record MarkedLines (s : List ℕ) (from last stop n k : ℕ) : Type 0 where
+  pub low : from ≤ last
+  pub ident : last + 18 ≤ stop
+  pub high : stop ≤ length s
+  pub count : n ≤ 999
+  pub place : k ≤ 999
+  pub marked : unmarked (body_of (rows (drop from s))) ≡ false
+  pub lines : List (List ℕ)
+  pub is : (d : Bool) → part_of d (body_of (rows (drop from s))) ≡ some (part_by d (ident_at s last) n k lines)
+  pub bytes : flat lines ≡ part s from last
+  pub next : pieces_in (rows (drop from s)) ≡ pieces_in (rows (drop stop s))
+  pub over : goes_on (rows (drop stop s)) ≡ false
+  pub whole : unbroken (rows (drop from s)) ≡ unbroken (rows (drop stop s))
+
+-- a record 911 that is not the last row, or cannot be read
+pub record WrongLines (s : List ℕ) (from : ℕ) (r : Refusal) : Type 0 where
+  pub number : r ≡ Set
+  pub marked : unmarked (body_of (rows (drop from s))) ≡ false
+  pub none : (d : Bool) → part_of d (body_of (rows (drop from s))) ≡ none
+
+-- the record 911 from at to e, and what is after it
+pub record LastMark (s : List ℕ) (at e n k : ℕ) : Type 0 where
+  pub ident : at + 18 ≤ e
+  pub count : n ≤ 999
+  pub place : k ≤ 999
+  pub read : read_mark (text (part s at e)) ≡ some (record { ident = ident_at s at; count = n; place = k })
+  pub last : goes_on (rows (drop e s)) ≡ false
+
+-- or it is not the last row, or cannot be read
+pub record WrongMark (s : List ℕ) (at e : ℕ) (r : Refusal) : Type 0 where
+  pub number : r ≡ Set
+  pub none : (d : Bool) → last_mark d (body_of (rows (drop e s))) (read_mark (text (part s at e))) ≡ none
+
+abbrev pub LastMeans : List ℕ → ℕ → ℕ → Result Mark Refusal → Type 0
+LastMeans s at e (Ok m) = LastMark s at e m.n m.k
+LastMeans s at e (Err r) = WrongMark s at e r
+
+pub record LastIs (s : List ℕ) (at e : ℕ) (r : Result Mark Refusal) : Type 0 where
+  pub means : LastMeans s at e r
+
+abbrev pub MarkMeans : List ℕ → ℕ → ℕ → ℕ → Maybe Mark → Type 0
+MarkMeans s from to stop None = PlainLines s from to stop
+MarkMeans s from to stop (Some m) = MarkedLines s from to stop m.n m.k
+
+abbrev pub LinesMean : List ℕ → ℕ → Result Lines Refusal → Type 0
+LinesMean s from (Ok l) = MarkMeans s from l.end l.stop l.mark
+LinesMean s from (Err r) = WrongLines s from r
+
+pub record LinesAre (s : List ℕ) (from : ℕ) (r : Result Lines Refusal) : Type 0 where
+  pub mean : LinesMean s from r

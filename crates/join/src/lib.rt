@@ -1,4 +1,5 @@
 // Joining: pieces in any order to one file, which is then checked.
 #![tactic(auto)]
 
+mod body;
 mod rows;
