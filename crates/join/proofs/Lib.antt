@@ -1,2 +1,3 @@
 pub mod WalkLaws
 pub mod BodyLaws
+pub mod MemberLaws

@@ -2,7 +2,7 @@
 -- Pieces by positions in the input, as the code of joining carries them: a body is the bytes from a position to a position, and three tables
 -- have the k's of the parts and their bodies, as they lie. The laws in proofs/ show that they stand for the lists of rows of Join.antt; the call's own
 -- contract names Join.antt alone.
-use Rattle.std.specs.Prelude.{ℕ, ◌+◌, ◌≤◌, ◌<◌, ◌≡◌, Bool, true, false, ◌&&◌, List, [], ◌∷◌, eqb, length, take, drop, get_or, set, Some, None, Result, Ok, Err}
+use Rattle.std.specs.Prelude.{ℕ, ◌+◌, ◌≤◌, ◌<◌, ◌≡◌, Bool, true, false, ◌&&◌, List, [], ◌∷◌, eqb, length, take, drop, get_or, set, Some, None, Result, Ok, Err, ⊤}
 use Rattle.std.specs.Prelude.{Option as Maybe}
 use Rattle.std.proofs.Math.Option.{Option, none, some}
 use Rattle.lists.specs.Lists.{Res, ok, refused}
@@ -18,6 +18,9 @@ use Rattle.replies.specs.declared.refusal.Refusal.TheVariants.{Set}
 use Rattle.join.specs.declared.rows.Opening.{Opening}
 use Rattle.join.specs.declared.body.Mark.{Mark}
 use Rattle.join.specs.declared.body.Lines.{Lines}
+use Rattle.join.specs.declared.member.Span.{Span}
+use Rattle.join.specs.declared.member.Member.{Member}
+use Rattle.join.specs.declared.set.Members.{Members}
 use Rattle.division.specs.Join.{unmarked, Part, last_mark, part_of, part_with, all_parts, agree, find_part, gather, one_piece, or_set, then_checked}
 use Rattle.search.specs.Search.{ks_of, piece_after}
 
@@ -190,3 +193,131 @@ LinesMean s from (Err r) = WrongLines s from r
 
 pub record LinesAre (s : List ℕ) (from : ℕ) (r : Result Lines Refusal) : Type 0 where
   pub mean : LinesMean s from r
+
+-- ---- a set: its pieces agree in direction, ID and count
+
+abbrev pub like : Bool → List ℕ → ℕ → Part
+like d i n = part_by d i n 0 []
+
+abbrev pub agreed : Bool → List ℕ → ℕ → Option (List Part) → Bool
+agreed d i n none = false
+agreed d i n (some ps) = agree (like d i n) ps
+
+-- n parts
+abbrev pub is_set : Bool → List ℕ → ℕ → Option (List Part) → Bool
+is_set d i n none = false
+is_set d i n (some ps) = agree (like d i n) ps && eqb (length ps) n
+
+-- the bytes of a span
+abbrev pub bytes_of : List ℕ → Span → List ℕ
+bytes_of s x = part s x.from x.to
+
+-- a piece of direction d with a record 911, as a part of these rows
+abbrev pub part_at : List ℕ → Member → List (List ℕ) → Part
+part_at s x lines = part_by x.provider (ident_at s x.rows.to) x.n x.k lines
+
+-- a position in an input within the limit
+pub record Within (s : List ℕ) (e : ℕ) : Type 0 where
+  pub high : e ≤ length s
+  pub small : length s ≤ 131072
+
+-- the piece with a line 1, as a part of a set like x
+pub record MemberAt (s : List ℕ) (o : Opening) (x m : Member) : Type 0 where
+  pub low : o.end ≤ m.rows.to
+  pub mid : m.rows.to ≤ m.stop
+  pub high : m.stop ≤ length s
+  pub place : m.k ≤ 999
+  pub from : m.rows.from ≡ o.end
+  pub lines : List (List ℕ)
+  pub is : part_of o.provider (body_of (rows (drop o.end s))) ≡ some (part_by x.provider (ident_at s x.rows.to) x.n m.k lines)
+  pub bytes : flat lines ≡ bytes_of s m.rows
+  pub next : pieces_in (rows (drop o.end s)) ≡ pieces_in (rows (drop m.stop s))
+  pub over : goes_on (rows (drop m.stop s)) ≡ false
+  pub whole : unbroken (rows (drop o.end s)) ≡ unbroken (rows (drop m.stop s))
+
+-- it is none
+pub record Foreign (s : List ℕ) (o : Opening) (x : Member) (r : Refusal) : Type 0 where
+  pub number : r ≡ Set
+  pub none : (ps : Option (List Part)) → agreed x.provider (ident_at s x.rows.to) x.n (part_with (part_of o.provider (body_of (rows (drop o.end s)))) ps) ≡ false
+
+abbrev pub MemberMeans : List ℕ → Opening → Member → Result Member Refusal → Type 0
+MemberMeans s o x (Ok m) = MemberAt s o x m
+MemberMeans s o x (Err r) = Foreign s o x r
+
+pub record MemberIs (s : List ℕ) (o : Opening) (x : Member) (r : Result Member Refusal) : Type 0 where
+  pub means : MemberMeans s o x r
+
+-- ---- the tables of the pieces as they lie: the k's, and where their rows lie
+
+-- the rows of the piece after i others
+abbrev pub rows_at : {N : ℕ} → Members N → ℕ → Span
+rows_at t i = get_or t.rows i (record { from = 0; to = 0 })
+
+-- what is stored after the others
+pub record Stored {N : ℕ} (t t' : Members N) (x : Member) : Type 0 where
+  pub count : t'.count ≡ t.count + 1
+  pub numbers : t'.ks ≡ set t.ks t.count x.k
+  pub rows : t'.rows ≡ set t.rows t.count x.rows
+
+-- the rows lie in s
+pub record Bounds {N : ℕ} (s : List ℕ) (t : Members N) : Type 0 where
+  pub low : (i : ℕ) → i < t.count → (rows_at t i).from ≤ (rows_at t i).to
+  pub high : (i : ℕ) → i < t.count → (rows_at t i).to ≤ length s
+
+-- the pieces are these parts
+pub record Listed {N : ℕ} (s : List ℕ) (t : Members N) (ps : List Part) : Type 0 where
+  pub count : length ps ≡ t.count
+  pub numbers : take t.count t.ks ≡ ks_of ps
+  pub bytes : (i : ℕ) (p : Part) → piece_after i ps ≡ some p → flat p.rows ≡ bytes_of s (rows_at t i)
+
+-- the first piece of a set
+pub record First (s : List ℕ) (x : Member) : Type 0 where
+  pub small : length s ≤ 131072
+  pub count : x.n ≤ 999
+  pub number : x.k ≤ 999
+  pub low : x.rows.from ≤ x.rows.to
+  pub ident : x.rows.to + 18 ≤ x.stop
+  pub high : x.stop ≤ length s
+  pub lines : List (List ℕ)
+  pub bytes : flat lines ≡ bytes_of s x.rows
+  pub is : all_parts (pieces_in (rows s)) ≡ part_with (some (part_at s x lines)) (all_parts (pieces_in (rows (drop x.stop s))))
+  pub over : goes_on (rows (drop x.stop s)) ≡ false
+  pub sound : sound (rows s) ≡ unbroken (rows s)
+  pub whole : unbroken (rows s) ≡ unbroken (rows (drop x.stop s))
+
+pub record Collected {N : ℕ} (s : List ℕ) (x : Member) (t : Members N) : Type 0 where
+  pub seen : List Part
+  pub parts : all_parts (pieces_in (rows s)) ≡ some seen
+  pub agrees : agree (like x.provider (ident_at s x.rows.to) x.n) seen ≡ true
+  pub count : t.count ≡ x.n
+  pub bounds : Bounds s t
+  pub listed : Listed s t seen
+  pub whole : unbroken (rows s) ≡ true
+
+-- of rows that are broken, a refusal says nothing
+pub record NoSet (s : List ℕ) (x : Member) (r : Refusal) : Type 0 where
+  pub number : r ≡ Set
+  pub none : unbroken (rows s) ≡ true → is_set x.provider (ident_at s x.rows.to) x.n (all_parts (pieces_in (rows s))) ≡ false
+
+abbrev pub CollectMeans : {N : ℕ} → List ℕ → Member → Members N → Result ⊤ Refusal → Type 0
+CollectMeans s x t (Ok u) = Collected s x t
+CollectMeans s x t (Err r) = NoSet s x r
+
+pub record CollectIs {N : ℕ} (s : List ℕ) (x : Member) (t : Members N) (r : Result ⊤ Refusal) : Type 0 where
+  pub means : CollectMeans s x t r
+
+-- ---- a piece that is looked for
+
+-- its index in the tables, of whichever parts they have
+pub record SpotAt {N : ℕ} (t : Members N) (k : ℕ) (x : Span) : Type 0 where
+  pub index : ℕ
+  pub inside : index < t.count
+  pub rows : x ≡ rows_at t index
+  pub found : (ps : List Part) → length ps ≡ t.count → take t.count t.ks ≡ ks_of ps → (p : Part) × (find_part k ps ≡ some p) × (piece_after index ps ≡ some p)
+
+abbrev pub SpotMeans : {N : ℕ} → Members N → ℕ → Maybe Span → Type 0
+SpotMeans t k (Some x) = SpotAt t k x
+SpotMeans t k None = (ps : List Part) → length ps ≡ t.count → take t.count t.ks ≡ ks_of ps → find_part k ps ≡ none
+
+pub record SpotIs {N : ℕ} (t : Members N) (k : ℕ) (r : Maybe Span) : Type 0 where
+  pub means : SpotMeans t k r

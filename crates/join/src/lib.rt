@@ -2,4 +2,6 @@
 #![tactic(auto)]
 
 mod body;
+mod member;
 mod rows;
+mod set;
