@@ -1,3 +1,4 @@
 pub mod WalkLaws
 pub mod BodyLaws
 pub mod MemberLaws
+pub mod SetLaws
