@@ -2,3 +2,4 @@ pub mod WalkLaws
 pub mod BodyLaws
 pub mod MemberLaws
 pub mod SetLaws
+pub mod GatheringLaws

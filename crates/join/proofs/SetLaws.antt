@@ -101,7 +101,6 @@ after_more (x ∷ seen) p (suc i) q e = go (after_more seen p i q e)
     go (inl (f, h)) = inl (f, omega arith)
     go (inr (f, h)) = inr (ap suc f, h)
 
-
 none_after : (i : ℕ) (p : Part) → piece_after i [] ≡ some p → ⊥
 none_after i p e = cc
 

@@ -2,7 +2,7 @@
 -- Pieces by positions in the input, as the code of joining carries them: a body is the bytes from a position to a position, and three tables
 -- have the k's of the parts and their bodies, as they lie. The laws in proofs/ show that they stand for the lists of rows of Join.antt; the call's own
 -- contract names Join.antt alone.
-use Rattle.std.specs.Prelude.{ℕ, ◌+◌, ◌≤◌, ◌<◌, ◌≡◌, Bool, true, false, ◌&&◌, List, [], ◌∷◌, eqb, length, take, drop, get_or, set, Some, None, Result, Ok, Err, ⊤}
+use Rattle.std.specs.Prelude.{ℕ, ◌+◌, ◌≤◌, ◌<◌, ◌≡◌, Bool, true, false, ◌&&◌, ◌⊎◌, List, [], ◌∷◌, eqb, length, take, drop, get_or, set, Some, None, Result, Ok, Err, ⊤}
 use Rattle.std.specs.Prelude.{Option as Maybe}
 use Rattle.std.proofs.Math.Option.{Option, none, some}
 use Rattle.lists.specs.Lists.{Res, ok, refused}
@@ -14,7 +14,7 @@ use Rattle.division.specs.Marks.{read_mark}
 use Rattle.division.specs.Pieces.{RowKind, head, end_head, body, end, broken, kind_of, body_of, pieces_in}
 use Rattle.pieces.specs.Answers.{RowAt}
 use Rattle.replies.specs.declared.refusal.Refusal.{Refusal}
-use Rattle.replies.specs.declared.refusal.Refusal.TheVariants.{Set}
+use Rattle.replies.specs.declared.refusal.Refusal.TheVariants.{Large, Set}
 use Rattle.join.specs.declared.rows.Opening.{Opening}
 use Rattle.join.specs.declared.body.Mark.{Mark}
 use Rattle.join.specs.declared.body.Lines.{Lines}
@@ -321,3 +321,32 @@ SpotMeans t k None = (ps : List Part) → length ps ≡ t.count → take t.count
 
 pub record SpotIs {N : ℕ} (t : Members N) (k : ℕ) (r : Maybe Span) : Type 0 where
   pub means : SpotMeans t k r
+
+-- ---- the buffer: the gathered rows from index at on; or they do not fit; or a part is missing
+
+-- w from index at on, if it fits
+pub record PutIs (d d' : List ℕ) (at r : ℕ) (w : List ℕ) : Type 0 where
+  pub next : r ≡ at + length w
+  pub size : length d' ≡ length d
+  pub wrote : r ≤ length d → Wrote d d' at r w
+
+-- 19 for a part that is missing, or 1 where the buffer cannot hold these rows
+abbrev pub NotFilled : List ℕ → ℕ → Option (List (List ℕ)) → Refusal → Type 0
+NotFilled d at w r = ((r ≡ Set) × (w ≡ none)) ⊎ ((r ≡ Large) × ((rs : List (List ℕ)) × (w ≡ some rs) × (length d < at + length (flat rs))))
+
+abbrev pub FillMeans : List ℕ → List ℕ → ℕ → Option (List (List ℕ)) → Result ℕ Refusal → Type 0
+FillMeans d d' at w (Ok r) = (rs : List (List ℕ)) × (w ≡ some rs) × Wrote d d' at r (flat rs)
+FillMeans d d' at w (Err r) = NotFilled d at w r
+
+-- of whichever parts the tables have
+pub record FillIs {N : ℕ} (d d' : List ℕ) (at : ℕ) (s : List ℕ) (t : Members N) (r : Result ℕ Refusal) : Type 0 where
+  pub means : (ps : List Part) → Listed s t ps → FillMeans d d' at (gather ps t.count 1) r
+  pub size : length d' ≡ length d
+
+pub record FillRoom {N : ℕ} (d : List ℕ) (at : ℕ) (s : List ℕ) (t : Members N) : Type 0 where
+  pub bounds : Bounds s t
+  pub some : 1 ≤ t.count
+  pub count : t.count ≤ 999
+  pub room : at ≤ length d
+  pub start : at ≤ 13
+  pub small : length s ≤ 131072

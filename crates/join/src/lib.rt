@@ -2,6 +2,7 @@
 #![tactic(auto)]
 
 mod body;
+mod gathering;
 mod member;
 mod rows;
 mod set;
