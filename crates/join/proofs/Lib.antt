@@ -3,3 +3,4 @@ pub mod BodyLaws
 pub mod MemberLaws
 pub mod SetLaws
 pub mod GatheringLaws
+pub mod JoinLaws

@@ -15,6 +15,8 @@ use Rattle.division.specs.Pieces.{RowKind, head, end_head, body, end, broken, ki
 use Rattle.pieces.specs.Answers.{RowAt}
 use Rattle.replies.specs.declared.refusal.Refusal.{Refusal}
 use Rattle.replies.specs.declared.refusal.Refusal.TheVariants.{Large, Set}
+use Rattle.replies.specs.declared.refusal.Refused.{Refused}
+use Rattle.replies.specs.Refusals.{number_of}
 use Rattle.join.specs.declared.rows.Opening.{Opening}
 use Rattle.join.specs.declared.body.Mark.{Mark}
 use Rattle.join.specs.declared.body.Lines.{Lines}
@@ -349,4 +351,69 @@ pub record FillRoom {N : ℕ} (d : List ℕ) (at : ℕ) (s : List ℕ) (t : Memb
   pub count : t.count ≤ 999
   pub room : at ≤ length d
   pub start : at ≤ 13
+  pub small : length s ≤ 131072
+
+-- ---- the joined file in a buffer of m bytes; or the refusal
+
+-- the buffer cannot hold the file
+abbrev pub TooLong : Res (List ℕ) → List ℕ → Type 0
+TooLong x d = (w : List ℕ) × (x ≡ ok w) × (length d < length w)
+
+-- sure: the input is sound. Of one that is not, 19 says nothing.
+abbrev pub NotMade : Bool → Res (List ℕ) → List ℕ → Refusal → Type 0
+NotMade sure x d r = ((r ≡ Set) × (sure ≡ true → x ≡ refused 19 0)) ⊎ ((r ≡ Large) × (sure ≡ true) × TooLong x d)
+
+abbrev pub MadeMeans : Bool → Res (List ℕ) → List ℕ → Result ℕ Refusal → Type 0
+MadeMeans sure x d (Ok t) = (sure ≡ true) × (x ≡ ok (take t d)) × (t ≤ length d)
+MadeMeans sure x d (Err r) = NotMade sure x d r
+
+pub record MadeIs (sure : Bool) (m : ℕ) (x : Res (List ℕ)) (d : List ℕ) (r : Result ℕ Refusal) : Type 0 where
+  pub means : MadeMeans sure x d r
+  pub size : length d ≡ m
+
+-- the rows of a set, line 1 of a direction before them
+abbrev pub with_head : Bool → Option (List (List ℕ)) → Res (List ℕ)
+with_head side x = or_set (one_piece side x)
+
+-- of whichever parts the tables have
+pub record SetIs {N : ℕ} (m : ℕ) (side : Bool) (s : List ℕ) (t : Members N) (d : List ℕ) (r : Result ℕ Refusal) : Type 0 where
+  pub made : (ps : List Part) → Listed s t ps → MadeIs true m (with_head side (gather ps t.count 1)) d r
+  pub size : length d ≡ m
+
+-- of any input
+abbrev pub JoinedMeans : Res (List ℕ) → List ℕ → Result ℕ Refused → Type 0
+JoinedMeans x d (Ok t) = (x ≡ ok (take t d)) × (t ≤ length d)
+JoinedMeans x d (Err r) = (x ≡ refused (number_of r.refusal) r.line) ⊎ ((r ≡ record { refusal = Large; line = 0 }) × TooLong x d)
+
+pub record JoinedIs (m : ℕ) (x : Res (List ℕ)) (d : List ℕ) (r : Result ℕ Refused) : Type 0 where
+  pub means : JoinedMeans x d r
+  pub size : length d ≡ m
+
+-- ---- the buffer, and what it is lent for
+
+-- a span of the input
+pub record Given (d s : List ℕ) (x : Span) : Type 0 where
+  pub line : 13 ≤ length d
+  pub low : x.from ≤ x.to
+  pub high : x.to ≤ length s
+
+-- the tables of a set
+pub record GivenSet {N : ℕ} (d s : List ℕ) (t : Members N) : Type 0 where
+  pub line : 13 ≤ length d
+  pub small : length s ≤ 131072
+  pub bounds : Bounds s t
+  pub some : 1 ≤ t.count
+  pub count : t.count ≤ 999
+
+-- the first of a set, and tables that have no piece yet
+pub record FirstIn {N : ℕ} (d s : List ℕ) (x : Member) (t : Members N) : Type 0 where
+  pub line : 13 ≤ length d
+  pub first : First s x
+  pub more : 1 < x.n
+  pub room : x.n ≤ N
+  pub none : t.count ≡ 0
+
+-- an input within the limit
+pub record Input (d s : List ℕ) : Type 0 where
+  pub line : 13 ≤ length d
   pub small : length s ≤ 131072

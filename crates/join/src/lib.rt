@@ -2,6 +2,7 @@
 #![tactic(auto)]
 
 mod body;
+mod file;
 mod gathering;
 mod member;
 mod rows;

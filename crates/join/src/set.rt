@@ -6,6 +6,7 @@ use crate::rows::next_piece;
 use replies::Refusal;
 
 // The pieces of a set as they lie. Their k's are apart, two bytes each, since joining 999 pieces takes 499,500 looks.
+#[derive(Drop)]
 pub(crate) struct Members<const N: usize> {
     pub count: usize,
     ks: [u16; N],
