@@ -4,3 +4,5 @@ pub mod MemberLaws
 pub mod SetLaws
 pub mod GatheringLaws
 pub mod JoinLaws
+pub mod SoundLaws
+pub mod InputLaws

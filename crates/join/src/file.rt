@@ -122,10 +122,11 @@ pub(crate) fn join_into(s: &[u8], buf: &mut [u8]) -> Result<usize, Refused>
     }
     match join_pieces(s, buf) {
         Ok(end) => Ok(end),
-        Err(Refusal::Set) => match broken_line(s) {
+        Err(Refusal::Large) => Err(Refusal::Large.at(0)),
+        // 2 goes before 19.
+        Err(refusal) => match broken_line(s) {
             Some(line) => Err(Refusal::LineEnd.at(line)),
-            None => Err(Refusal::Set.at(0)),
+            None => Err(refusal.at(0)),
         },
-        Err(refusal) => Err(refusal.at(0)),
     }
 }
