@@ -15,21 +15,20 @@ use Rattle.digits.specs.Digits.{is_digit, value}
 use Rattle.digits.proofs.Numbers.{digit_is}
 use Rattle.eras.specs.declared.Era.{Era}
 use Rattle.calendar.specs.declared.Day.{Day}
-use Rattle.calendar.specs.declared.Number.{Number}
-use Rattle.calendar.specs.declared.Number.TheVariants.{Is, NoNumber}
-use Rattle.calendar.specs.Digits.{number_from}
-use Rattle.calendar.specs.declared.DateRead.{DateRead}
-use Rattle.calendar.specs.declared.DateRead.TheVariants.{Date, NotADate}
-use Rattle.eras.specs.Era.{six_digits, era_of, era_on, write_day}
+use Rattle.digits.specs.Short.{number_from}
+use Rattle.std.specs.Prelude.{Option, Some, None}
+use Rattle.eras.specs.Era.{six_digits, eras, no_era, has_letter, era_of, era_on, write_day}
+use Rattle.std.specs.List.{find as first}
+use Rattle.std.specs.Option.{unwrap_or}
 use Rattle.eras.specs.Day.{is_day}
 use Rattle.calendar.specs.Day.{gregorian}
 use Rattle.calendar.specs.Era.{in_era, from_era, read_day}
 use Rattle.calendar.specs.Form.{under, is_written_form, TellsForm}
-use Rattle.eras.proofs.Eras.{day_named, letter_names, letter_small, letter_kept}
+use Rattle.eras.proofs.Eras.{day_named, letter_names, letter_kept}
 use Rattle.calendar.proofs.Laws.{read_is_day}
-use Rattle.calendar.proofs.Steps.{some_digits, no_digits}
+use Rattle.calendar.proofs.Steps.{era_of_first, some_digits, no_digits}
 
-pub not_date : {d : Day} → ◌≡◌ {A = DateRead} NotADate (Date d) → ⊥
+pub not_date : {d : Day} → ◌≡◌ {A = Option Day} None (Some d) → ⊥
 not_date e = let z : ◌≡◌ {A = ℕ} 0 1 = cc in omega arith
 
 -- ---- the digits
@@ -70,12 +69,12 @@ pub record Within (e : Era) (k n : ℕ) : Type 0 where
   pub is : n ≡ e.before + k
   pub short : k ≤ 999999
 
-in_era_lem : (e : Era) (k n : ℕ) → k ≤ 999999 → in_era e (e.before + k) ≡ Date (record { ymd = n }) → Within e k n
+in_era_lem : (e : Era) (k n : ℕ) → k ≤ 999999 → in_era e (e.before + k) ≡ Some (record { ymd = n }) → Within e k n
 unfolding in_era gregorian
 in_era_lem e k n b h = go (leb e.first (e.before + k)) refl (leb (e.before + k) e.last) refl (is_day (e.before + k)) h
   where
     go : (x : Bool) → leb e.first (e.before + k) ≡ x → (y : Bool) → leb (e.before + k) e.last ≡ y → (z : Bool)
-        → cond (x && y) (cond z (Date (record { ymd = e.before + k })) NotADate) NotADate ≡ Date (record { ymd = n }) → Within e k n
+        → cond {A = Option Day} (x && y) (cond z (Some (record { ymd = e.before + k })) None) None ≡ Some (record { ymd = n }) → Within e k n
     go true p true q true f =
         let d : ◌≡◌ {A = Day} (record { ymd = e.before + k }) (record { ymd = n }) = cc in
         let m : e.before + k ≡ n = ap (λ (t : Day). t.ymd) d in
@@ -84,11 +83,11 @@ in_era_lem e k n b h = go (leb e.first (e.before + k)) refl (leb (e.before + k) 
     go true p false q z f = absurd (not_date f)
     go false p y q z f = absurd (not_date f)
 
-from_era_lem : (c k n : ℕ) → from_era c k ≡ Date (record { ymd = n }) → Within (era_of c) k n
+from_era_lem : (c k n : ℕ) → from_era c k ≡ Some (record { ymd = n }) → Within (era_of c) k n
 unfolding from_era
 from_era_lem c k n h = go (leb k 999999) refl h
   where
-    go : (x : Bool) → leb k 999999 ≡ x → cond x (in_era (era_of c) ((era_of c).before + k)) NotADate ≡ Date (record { ymd = n }) → Within (era_of c) k n
+    go : (x : Bool) → leb k 999999 ≡ x → cond x (in_era (era_of c) ((era_of c).before + k)) None ≡ Some (record { ymd = n }) → Within (era_of c) k n
     go true b f = in_era_lem (era_of c) k n (leb-true k 999999 b) f
     go false b f = absurd (not_date f)
 
@@ -101,7 +100,7 @@ pub record EraSpelled (s : List ℕ) (n : ℕ) : Type 0 where
   pub numeric : all is_digit rest ≡ true
   pub within : Within (era_of letter) (value 0 rest) n
 
-module _ (s : List ℕ) (n : ℕ) (e : read_day s ≡ Date (record { ymd = n })) where
+module _ (s : List ℕ) (n : ℕ) (e : read_day s ≡ Some (record { ymd = n })) where
   -- what is read and is not eight digits is one
   pub era_spelled : (length s ≡ 8 → 57 < get_or s 0 0) → EraSpelled s n
   unfolding read_day
@@ -111,18 +110,18 @@ module _ (s : List ℕ) (n : ℕ) (e : read_day s ≡ Date (record { ymd = n }))
       first_digit [] z h = absurd (omega arith)
       first_digit (b ∷ l) z h = (digit_is b (both (is_digit b) _ h).0).1
 
-      by : (s : List ℕ) → length s ≡ 7 → all is_digit (drop 1 s) ≡ true → from_era (get_or s 0 0) (value 0 (drop 1 s)) ≡ Date (record { ymd = n }) → EraSpelled s n
+      by : (s : List ℕ) → length s ≡ 7 → all is_digit (drop 1 s) ≡ true → from_era (get_or s 0 0) (value 0 (drop 1 s)) ≡ Some (record { ymd = n }) → EraSpelled s n
       by [] z h f = absurd (omega arith)
       by (a ∷ l) z h f = record { letter = a; rest = l; is = refl; six = omega arith; numeric = h; within = from_era_lem a (value 0 l) n f }
 
       seven : (x : Bool) → eqb (length s) 7 ≡ x → (y : Bool) → all is_digit (drop 1 s) ≡ y
-          → cond (x && y) (from_era (get_or s 0 0) (value 0 (drop 1 s))) NotADate ≡ Date (record { ymd = n }) → EraSpelled s n
+          → cond (x && y) (from_era (get_or s 0 0) (value 0 (drop 1 s))) None ≡ Some (record { ymd = n }) → EraSpelled s n
       seven true p true h f = by s (eqb-true (length s) 7 p) h f
       seven true p false h f = absurd (not_date f)
       seven false p y h f = absurd (not_date f)
 
       go : (v : Bool) → eqb (length s) 8 ≡ v → (w : Bool) → all is_digit s ≡ w → (x : Bool) → eqb (length s) 7 ≡ x → (y : Bool) → all is_digit (drop 1 s) ≡ y
-          → cond (v && w) (gregorian (value 0 s)) (cond (x && y) (from_era (get_or s 0 0) (value 0 (drop 1 s))) NotADate) ≡ Date (record { ymd = n }) → EraSpelled s n
+          → cond (v && w) (gregorian (value 0 s)) (cond (x && y) (from_era (get_or s 0 0) (value 0 (drop 1 s))) None) ≡ Some (record { ymd = n }) → EraSpelled s n
       go true p true h x q y r f = absurd (omega (arith, first_digit s (eqb-true (length s) 8 p) h, o (eqb-true (length s) 8 p)))
       go true p false h x q y r f = seven x q y r f
       go false p w h x q y r f = seven x q y r f
@@ -139,7 +138,7 @@ digits (a ∷ b ∷ c ∷ d ∷ f ∷ []) z h = absurd (omega arith)
 digits (a ∷ b ∷ c ∷ d ∷ f ∷ g ∷ []) z h = six a b c d f g h
 digits (a ∷ b ∷ c ∷ d ∷ f ∷ g ∷ x ∷ l) z h = absurd (omega arith)
 
-module _ (s : List ℕ) (n : ℕ) (e : read_day s ≡ Date (record { ymd = n })) where
+module _ (s : List ℕ) (n : ℕ) (e : read_day s ≡ Some (record { ymd = n })) where
   -- IT IS WHAT IS WRITTEN: where the letter is that of the day's era, they are one era
   pub form_is : is_written_form s ≡ true → write_day n ≡ s
   unfolding is_written_form write_day
@@ -159,68 +158,86 @@ module _ (s : List ℕ) (n : ℕ) (e : read_day s ≡ Date (record { ymd = n }))
   unfolding is_written_form write_day
   form_only w = ap (under (get_or s 0 0)) e ∙ eq-eqb _ _ (ap (λ (t : List ℕ). get_or t 0 0) w)
 
--- the era of a letter is of years that fit 32 bits
-pub small_of : (b : ℕ) {e : Era} → e ≡ era_of b → e.before ≤ 40000000
-small_of b {e} v = omega (arith, letter_small b, ap (λ (y : Era). y.before) v)
-
 -- 0 is no letter
 none_0 : (k n : ℕ) → Within (era_of 0) k n → ⊥
 unfolding era_of
 none_0 k n w = omega (arith, w.first, w.last)
 
--- ---- the ways through `Day::is_written_form`: b is the first byte, e the era that it names, k what `digits_value` answered
+-- ---- the ways through `Day::is_written_form`: b is the first byte, o the era that is found by it, k what `digits_value` answered, x what `is_under` did
 
-module _ (s : List ℕ) (z : length s ≡ 7) {b : ℕ} (i : b ≡ get_or s 0 0) {e : Era} (v : e ≡ era_of b) where
-  spelled : {n : ℕ} → read_day s ≡ Date (record { ymd = n }) → EraSpelled s n
+module _ (s : List ℕ) (z : length s ≡ 7) {b : ℕ} (i : b ≡ get_or s 0 0) {o : Option Era} (g : o ≡ first (has_letter b) eras) where
+  spelled : {n : ℕ} → read_day s ≡ Some (record { ymd = n }) → EraSpelled s n
   spelled {n} h = era_spelled s n h (λ q. absurd (omega (arith, q)))
 
   letter_is : {n : ℕ} (w : EraSpelled s n) → w.letter ≡ b
   letter_is w = ap (λ (t : List ℕ). get_or t 0 0) (sym w.is) ∙ sym i
 
-  era_is : {n : ℕ} (w : EraSpelled s n) → era_of w.letter ≡ e
-  era_is w = ap era_of (letter_is w) ∙ sym v
+  found_is : era_of b ≡ unwrap_or o no_era
+  found_is = era_of_first b ∙ ap (λ (t : Option Era). unwrap_or t no_era) (sym g)
 
-  is_under : {n : ℕ} → read_day s ≡ Date (record { ymd = n }) → eqb (era_on n).letter b ≡ is_written_form s
+  within_found : (n : ℕ) (w : EraSpelled s n) → Within (unwrap_or o no_era) (value 0 w.rest) n
+  within_found n w = subst (λ (e : Era). Within e (value 0 w.rest) n) (ap era_of (letter_is w) ∙ found_is) w.within
+
+  some_letter : {n : ℕ} → EraSpelled s n → 1 ≤ b
+  some_letter {n} w = go (eqb b 0) refl
+    where
+      go : (t : Bool) → eqb b 0 ≡ t → 1 ≤ b
+      go true q = absurd (none_0 (value 0 w.rest) n (subst (λ (c : ℕ). Within (era_of c) (value 0 w.rest) n) (letter_is w ∙ eqb-true b 0 q) w.within))
+      go false q = omega (arith, eqb-false b 0 q)
+
+  is_under : {n : ℕ} → read_day s ≡ Some (record { ymd = n }) → eqb (era_on n).letter b ≡ is_written_form s
   unfolding is_written_form
   is_under h = ap (eqb _) i ∙ sym (ap (under (get_or s 0 0)) h)
 
-  pub form_always : {x : Era} → x ≡ era_on e.last → x.letter ≡ b → TellsForm true s
-  form_always {x} q l = record { is = λ n h. sym (eq-eqb _ _ (kept n (spelled h))) ∙ is_under h }
+  pub form_nameless : o ≡ None → TellsForm false s
+  form_nameless q = record { is = λ n h. absurd (nothing (spelled h)) }
     where
-      kept : (n : ℕ) → EraSpelled s n → (era_on n).letter ≡ b
-      kept n w =
-          letter_kept b n (some (eqb b 0) refl w)
-          (ap (λ (y : Era). (era_on y.last).letter) (sym v) ∙ ap (λ (y : Era). y.letter) (sym q) ∙ l)
-          (omega (arith, w.within.first, ap (λ (y : Era). y.first) (era_is w), ap (λ (y : Era). y.first) v))
-          (omega (arith, w.within.last, ap (λ (y : Era). y.last) (era_is w), ap (λ (y : Era). y.last) v))
+      nothing : {n : ℕ} → EraSpelled s n → ⊥
+      nothing {n} w = let v : Within no_era (value 0 w.rest) n = rw q at within_found n w in omega (arith, v.first, v.last)
+
+  module _ {e : Era} (f : o ≡ Some e) where
+    within_e : {n : ℕ} (w : EraSpelled s n) → Within e (value 0 w.rest) n
+    within_e {n} w = rw f at within_found n w
+
+    e_is : era_of b ≡ e
+    e_is = rw f at found_is
+
+    pub form_always : {x : Bool} → (0 < b → x ≡ eqb (era_on e.last).letter b) → x ≡ true → TellsForm true s
+    form_always {x} q l = record { is = λ n h. sym (eq-eqb _ _ (kept n (spelled h))) ∙ is_under h }
+      where
+        kept : (n : ℕ) → EraSpelled s n → (era_on n).letter ≡ b
+        kept n w =
+            let k : 1 ≤ b = some_letter w in
+            let v : Within e (value 0 w.rest) n = within_e w in
+            letter_kept b n k
+            (rw e_is (eqb-true _ _ (sym (q k) ∙ l)))
+            (rw e_is v.first) (rw e_is v.last)
+
+    module _ {k : Option ℕ} (p : k ≡ number_from 0 (take (length s - 1) (drop 1 s))) where
+      rest : k ≡ number_from 0 (drop 1 s)
+      rest = p ∙ ap (number_from 0) (rest_all 1 s)
+
+      value_is : {m n : ℕ} → k ≡ Some m → (w : EraSpelled s n) → value 0 w.rest ≡ m
+      value_is q w = ap (λ (t : List ℕ). value 0 (drop 1 t)) (sym w.is) ∙ (some_digits (drop 1 s) rest q).1
+
+      pub form_long : {m : ℕ} {x : Bool} → k ≡ Some m → 999999 < m → TellsForm x s
+      form_long {m} q l = record { is = λ n h. absurd (too_long (spelled h)) }
         where
-          some : (t : Bool) → eqb b 0 ≡ t → EraSpelled s n → 1 ≤ b
-          some true q w = absurd (none_0 (value 0 w.rest) n (subst (λ (c : ℕ). Within (era_of c) (value 0 w.rest) n) (letter_is w ∙ eqb-true b 0 q) w.within))
-          some false q w = omega (arith, eqb-false b 0 q)
+          too_long : {n : ℕ} → EraSpelled s n → ⊥
+          too_long w = omega (arith, w.within.short, value_is q w)
 
-  module _ {k : Number} (p : k ≡ number_from 0 (take (length s - 1) (drop 1 s))) where
-    rest : k ≡ number_from 0 (drop 1 s)
-    rest = p ∙ ap (number_from 0) (rest_all 1 s)
+      pub form_on : {m : ℕ} {x : Bool} → k ≡ Some m → (0 < b → x ≡ eqb (era_on (e.before + m)).letter b) → TellsForm x s
+      form_on {m} {x} q r = record { is = λ n h. told n (spelled h) ∙ is_under h }
+        where
+          told : (n : ℕ) → EraSpelled s n → x ≡ eqb (era_on n).letter b
+          told n w =
+              let d : e.before + m ≡ n = omega (arith, (within_e w).is, value_is q w) in
+              r (some_letter w) ∙ ap (λ (y : ℕ). eqb (era_on y).letter b) d
 
-    value_is : {m n : ℕ} → k ≡ Is m → (w : EraSpelled s n) → value 0 w.rest ≡ m
-    value_is q w = ap (λ (t : List ℕ). value 0 (drop 1 t)) (sym w.is) ∙ (some_digits (drop 1 s) rest q).1
+      pub form_none : k ≡ None → TellsForm false s
+      form_none q = record { is = λ n h. absurd (digits_there (spelled h)) }
+        where
+          digits_there : {n : ℕ} → EraSpelled s n → ⊥
+          digits_there w = false≢true (sym (no_digits (drop 1 s) rest q) ∙ ap (λ (t : List ℕ). all is_digit (drop 1 t)) w.is ∙ w.numeric)
 
-    pub form_long : {m : ℕ} → k ≡ Is m → 999999 < m → TellsForm false s
-    form_long {m} q l = record { is = λ n h. absurd (too_long (spelled h)) }
-      where
-        too_long : {n : ℕ} → EraSpelled s n → ⊥
-        too_long w = omega (arith, w.within.short, value_is q w)
-
-    pub form_on : {m : ℕ} {x : Era} → k ≡ Is m → x ≡ era_on (e.before + m) → TellsForm (eqb x.letter b) s
-    form_on {m} {x} q r = record { is = λ n h. ap (λ (y : Era). eqb y.letter b) (r ∙ ap era_on (day n (spelled h))) ∙ is_under h }
-      where
-        day : (n : ℕ) → EraSpelled s n → e.before + m ≡ n
-        day n w = omega (arith, w.within.is, ap (λ (y : Era). y.before) (era_is w), value_is q w)
-
-    pub form_none : k ≡ NoNumber → TellsForm false s
-    form_none q = record { is = λ n h. absurd (digits_there (spelled h)) }
-      where
-        digits_there : {n : ℕ} → EraSpelled s n → ⊥
-        digits_there w = false≢true (sym (no_digits (drop 1 s) rest q) ∙ ap (λ (t : List ℕ). all is_digit (drop 1 t)) w.is ∙ w.numeric)
-
-pub ruleset form_laws = (form_always, form_long, form_on, form_none)
+pub ruleset form_laws = (form_nameless, form_always, form_long, form_on, form_none)

@@ -13,8 +13,7 @@ use Rattle.lists.proofs.Tests.{cond_case, both}
 use Rattle.digits.specs.Digits.{is_digit, value}
 use Rattle.eras.specs.declared.Era.{Era}
 use Rattle.calendar.specs.declared.Day.{Day}
-use Rattle.calendar.specs.declared.DateRead.{DateRead}
-use Rattle.calendar.specs.declared.DateRead.TheVariants.{Date, NotADate}
+use Rattle.std.specs.Prelude.{Option, Some, None}
 use Rattle.eras.specs.Era.{six_digits, era_of, era_on, write_day}
 use Rattle.eras.specs.Day.{first_day, last_day, is_day}
 use Rattle.calendar.specs.Day.{gregorian}
@@ -60,7 +59,7 @@ in_range n d =
 
 -- a day that lies in an era is read under its letter
 pub read_under : (e : Era) (n : ℕ) → era_of e.letter ≡ e → WellMade e → e.first ≤ n → n ≤ e.last → is_day n ≡ true
-    → read_day (e.letter ∷ six_digits (n - e.before)) ≡ Date (record { ymd = n })
+    → read_day (e.letter ∷ six_digits (n - e.before)) ≡ Some (record { ymd = n })
 unfolding read_day from_era in_era gregorian
 read_under e n l w lo hi d =
     let k : n - e.before ≤ 999999 = omega (arith, w.last_year) in
@@ -68,11 +67,11 @@ read_under e n l w lo hi d =
     simp (six_value _ k, six_digits_lem (n - e.before), le-leb _ _ k, l, s, le-leb _ _ lo, le-leb _ _ hi, d)
 
 -- reading what was written gives the day back
-pub read_write : (n : ℕ) → is_day n ≡ true → read_day (write_day n) ≡ Date (record { ymd = n })
+pub read_write : (n : ℕ) → is_day n ≡ true → read_day (write_day n) ≡ Some (record { ymd = n })
 unfolding write_day
 read_write n d = let w = day_named n d in read_under (era_on n) n (letter_names n d) w.row w.newest.begun w.high d
 
-date_injective : (m n : ℕ) → Date (record { ymd = m }) ≡ Date (record { ymd = n }) → m ≡ n
+date_injective : (m n : ℕ) → ◌≡◌ {A = Option Day} (Some (record { ymd = m })) (Some (record { ymd = n })) → m ≡ n
 date_injective m n e = let d : ◌≡◌ {A = Day} (record { ymd = m }) (record { ymd = n }) = cc in ap (λ (x : Day). x.ymd) d
 
 -- writing tells days apart
@@ -80,36 +79,36 @@ pub write_injective : (m n : ℕ) → is_day m ≡ true → is_day n ≡ true �
 write_injective m n p q e = date_injective m n (sym (read_write m p) ∙ ap read_day e ∙ read_write n q)
 
 -- what is read from s: a day, and from no fewer than seven bytes
-abbrev Found : List ℕ → DateRead → Type 0
-Found s (Date d) = (is_day d.ymd ≡ true) × (7 ≤ length s)
-Found s NotADate = Unit {0}
+abbrev Found : List ℕ → Option Day → Type 0
+Found s (Some d) = (is_day d.ymd ≡ true) × (7 ≤ length s)
+Found s None = Unit {0}
 
 gregorian_found : (s : List ℕ) (n : ℕ) → 7 ≤ length s → Found s (gregorian n)
 unfolding gregorian
-gregorian_found s n h = cond_case (Found s) (is_day n) (Date (record { ymd = n })) NotADate (λ d. (d, h)) (λ _. tt)
+gregorian_found s n h = cond_case (Found s) (is_day n) (Some (record { ymd = n })) None (λ d. (d, h)) (λ _. tt)
 
 in_era_found : (s : List ℕ) (e : Era) (n : ℕ) → 7 ≤ length s → Found s (in_era e n)
 unfolding in_era
-in_era_found s e n h = cond_case (Found s) (leb e.first n && leb n e.last) (gregorian n) NotADate (λ _. gregorian_found s n h) (λ _. tt)
+in_era_found s e n h = cond_case (Found s) (leb e.first n && leb n e.last) (gregorian n) None (λ _. gregorian_found s n h) (λ _. tt)
 
 era_found : (s : List ℕ) (c k : ℕ) → 7 ≤ length s → Found s (from_era c k)
 unfolding from_era
-era_found s c k h = cond_case (Found s) (leb k 999999) _ NotADate (λ _. in_era_found s _ _ h) (λ _. tt)
+era_found s c k h = cond_case (Found s) (leb k 999999) _ None (λ _. in_era_found s _ _ h) (λ _. tt)
 
 found : (s : List ℕ) → Found s (read_day s)
 unfolding read_day
 found s =
     cond_case (Found s) (eqb (length s) 8 && all is_digit s) _ _
     (λ h. gregorian_found s (value 0 s) (omega (arith, eqb-true (length s) 8 (both _ _ h).0)))
-    (λ _. cond_case (Found s) (eqb (length s) 7 && all is_digit (drop 1 s)) _ NotADate
+    (λ _. cond_case (Found s) (eqb (length s) 7 && all is_digit (drop 1 s)) _ None
     (λ h. era_found s (get_or s 0 0) (value 0 (drop 1 s)) (omega (arith, eqb-true (length s) 7 (both _ _ h).0))) (λ _. tt))
 
 -- what is read is a day
-pub read_is_day : (s : List ℕ) (n : ℕ) → read_day s ≡ Date (record { ymd = n }) → is_day n ≡ true
+pub read_is_day : (s : List ℕ) (n : ℕ) → read_day s ≡ Some (record { ymd = n }) → is_day n ≡ true
 read_is_day s n e = (subst (Found s) e (found s)).0
 
 -- two spellings are read to one day exactly if what is written for them is one
-pub one_spelling_lem : (s t : List ℕ) (m n : ℕ) → read_day s ≡ Date (record { ymd = m }) → read_day t ≡ Date (record { ymd = n }) → (m ≡ n → write_day m ≡ write_day n) × (write_day m ≡ write_day n → m ≡ n)
+pub one_spelling_lem : (s t : List ℕ) (m n : ℕ) → read_day s ≡ Some (record { ymd = m }) → read_day t ≡ Some (record { ymd = n }) → (m ≡ n → write_day m ≡ write_day n) × (write_day m ≡ write_day n → m ≡ n)
 one_spelling_lem s t m n p q = (ap write_day, write_injective m n (read_is_day s m p) (read_is_day t n q))
 
 pub write_length : (n : ℕ) → length (write_day n) ≡ 7
@@ -117,7 +116,7 @@ unfolding write_day
 write_length n = refl
 
 -- what is written is no longer than any spelling of the day
-pub write_shortest : (s : List ℕ) (n : ℕ) → read_day s ≡ Date (record { ymd = n }) → length (write_day n) ≤ length s
+pub write_shortest : (s : List ℕ) (n : ℕ) → read_day s ≡ Some (record { ymd = n }) → length (write_day n) ≤ length s
 write_shortest s n e = rw write_length (subst (Found s) e (found s)).1
 
 -- bytes that are digits or capitals, so that none separates items or lines or is a space

@@ -1,4 +1,3 @@
 pub mod Day
 pub mod Era
 pub mod Form
-pub mod Digits

@@ -2,7 +2,7 @@
 use Prim.Native.Nat.{ℕ, ◌≤◌}
 use mathlib.Core.Path.{◌≡◌, refl, sym, ap, ◌∙◌, subst}
 use mathlib.Core.Bool.{Bool, true, false, cond, not}
-use mathlib.Core.Option.{Option, none, some}
+use Rattle.std.specs.Prelude.{Option, Some, None}
 use mathlib.Core.List.{List, [], ◌∷◌, ◌++◌, map, head-eq_of_cons-eq}
 use borrow.Author.Tests.{le-leb}
 use lib.ListN.{length}
@@ -37,11 +37,11 @@ record HasPart (i : List ℕ) (zs : List Chunk) : Type 0 where
   others : List Chunk
   found : Insert chunk others zs
   part : Part
-  is : part_of chunk.provider chunk.rows ≡ some part
+  is : part_of chunk.provider chunk.rows ≡ Some part
   ident : part.mark.ident ≡ i
 
 -- the chunk of bytes that a marked piece has
-marked_part : {i q : List ℕ} (e : Bool) (z : Chunk) → Good z → chunk_bytes z ≡ q ++ mark e → (m : Marked i q) → part_of z.provider z.rows ≡ some m.part
+marked_part : {i q : List ℕ} (e : Bool) (z : Chunk) → Good z → chunk_bytes z ≡ q ++ mark e → (m : Marked i q) → part_of z.provider z.rows ≡ Some m.part
 marked_part {i} {q} e z g p m =
     let x : Chunk = record { provider = m.provider; rows = m.rows; ended = e } in
     let s : z ∷ [] ≡ x ∷ [] = chunks_once (z ∷ []) (x ∷ []) (g, tt) (m.good, tt) (ap (λ (t : List ℕ). t ++ []) (p ∙ m.bytes e)) in
@@ -59,7 +59,7 @@ has_part e [] _ k h m = elim k [ ]
 -- ---- all parts that are joined have one ID
 
 -- a piece without a record 911 is no part
-no_part : (d : Bool) (rs : List (List ℕ)) → unmarked rs ≡ true → part_of d rs ≡ none
+no_part : (d : Bool) (rs : List (List ℕ)) → unmarked rs ≡ true → part_of d rs ≡ None
 unfolding unmarked part_of
 no_part d [] u = refl
 no_part d (r ∷ rs) u =
@@ -68,23 +68,23 @@ no_part d (r ∷ rs) u =
 
 record FromParts (xs : List Piece) (w : Piece) : Type 0 where
   parts : List Part
-  all : all_parts xs ≡ some parts
-  joined : join_parts (some parts) ≡ some w
+  all : all_parts xs ≡ Some parts
+  joined : join_parts (Some parts) ≡ Some w
 
-from_parts : (xs : List Piece) (w : Piece) → join_parts (all_parts xs) ≡ some w → FromParts xs w
+from_parts : (xs : List Piece) (w : Piece) → join_parts (all_parts xs) ≡ Some w → FromParts xs w
 from_parts xs w e = go (all_parts xs) refl e
   where
-    go : (m : Option (List Part)) → all_parts xs ≡ m → join_parts m ≡ some w → FromParts xs w
-    go none p q = absurd (no_none q)
-    go (some ps) p q = record { parts = ps; all = p; joined = q }
+    go : (m : Option (List Part)) → all_parts xs ≡ m → join_parts m ≡ Some w → FromParts xs w
+    go None p q = absurd (no_none q)
+    go (Some ps) p q = record { parts = ps; all = p; joined = q }
 
-set_parts : {i : List ℕ} (zs : List Chunk) (w : Piece) → HasPart i zs → join_pieces (map piece_of zs) ≡ some w → FromParts (map piece_of zs) w
+set_parts : {i : List ℕ} (zs : List Chunk) (w : Piece) → HasPart i zs → join_pieces (map piece_of zs) ≡ Some w → FromParts (map piece_of zs) w
 unfolding join_pieces
 set_parts [] w h e = absurd (no_none e)
 set_parts {i} (z ∷ []) w h e = go (unmarked z.rows) refl h.found h.is e
   where
-    go : (b : Bool) → unmarked z.rows ≡ b → {x : Chunk} {os : List Chunk} {p : Part} → Insert x os (z ∷ []) → part_of x.provider x.rows ≡ some p
-        → cond b (some (piece_of z)) (join_parts (all_parts (piece_of z ∷ []))) ≡ some w → FromParts (piece_of z ∷ []) w
+    go : (b : Bool) → unmarked z.rows ≡ b → {x : Chunk} {os : List Chunk} {p : Part} → Insert x os (z ∷ []) → part_of x.provider x.rows ≡ Some p
+        → cond b (Some (piece_of z)) (join_parts (all_parts (piece_of z ∷ []))) ≡ Some w → FromParts (piece_of z ∷ []) w
     go true u here i e = absurd (no_none (sym (no_part z.provider z.rows u) ∙ i))
     go true u (there k) i e = elim k [ ]
     go false u f i e = from_parts (piece_of z ∷ []) w e
@@ -94,22 +94,22 @@ set_parts (z ∷ y ∷ zs) w h e = from_parts (map piece_of (z ∷ y ∷ zs)) w 
 record FirstPart (x : Piece) (xs : List Piece) (ps : List Part) : Type 0 where
   part : Part
   rest : List Part
-  first : part_of x.provider x.rows ≡ some part
-  others : all_parts xs ≡ some rest
+  first : part_of x.provider x.rows ≡ Some part
+  others : all_parts xs ≡ Some rest
   is : part ∷ rest ≡ ps
 
-first_part_lem : (x : Piece) (xs : List Piece) (ps : List Part) → all_parts (x ∷ xs) ≡ some ps → FirstPart x xs ps
+first_part_lem : (x : Piece) (xs : List Piece) (ps : List Part) → all_parts (x ∷ xs) ≡ Some ps → FirstPart x xs ps
 unfolding all_parts
 first_part_lem x xs ps e = go (part_of x.provider x.rows) refl (all_parts xs) refl e
   where
-    go : (m : Option Part) → part_of x.provider x.rows ≡ m → (r : Option (List Part)) → all_parts xs ≡ r → part_with m r ≡ some ps → FirstPart x xs ps
-    go none p r q e = absurd (no_none e)
-    go (some y) p none q e = absurd (no_none e)
-    go (some y) p (some qs) q e = record { part = y; rest = qs; first = p; others = q; is = some_inj e }
+    go : (m : Option Part) → part_of x.provider x.rows ≡ m → (r : Option (List Part)) → all_parts xs ≡ r → part_with m r ≡ Some ps → FirstPart x xs ps
+    go None p r q e = absurd (no_none e)
+    go (Some y) p None q e = absurd (no_none e)
+    go (Some y) p (Some qs) q e = record { part = y; rest = qs; first = p; others = q; is = some_inj e }
 
 -- a part of the set has the ID that all have
-one_of : {j : List ℕ} (zs : List Chunk) (ps : List Part) → all_parts (map piece_of zs) ≡ some ps → All (λ p. p.mark.ident ≡ j) ps
-    → {x : Chunk} {os : List Chunk} {p : Part} → Insert x os zs → part_of x.provider x.rows ≡ some p → p.mark.ident ≡ j
+one_of : {j : List ℕ} (zs : List Chunk) (ps : List Part) → all_parts (map piece_of zs) ≡ Some ps → All (λ p. p.mark.ident ≡ j) ps
+    → {x : Chunk} {os : List Chunk} {p : Part} → Insert x os zs → part_of x.provider x.rows ≡ Some p → p.mark.ident ≡ j
 one_of {j} [] ps e a k h = elim k [ ]
 one_of {j} (z ∷ zs) ps e a here h =
     let f : FirstPart (piece_of z) (map piece_of zs) ps = first_part_lem (piece_of z) (map piece_of zs) ps e in
@@ -120,12 +120,12 @@ one_of {j} (z ∷ zs) ps e a (there i) h =
     let b : All (λ p. p.mark.ident ≡ j) (f.part ∷ f.rest) = subst (All (λ p. p.mark.ident ≡ j)) (sym f.is) a in
     one_of zs f.rest f.others b.1 i h
 
-no_set : {i j : List ℕ} (zs : List Chunk) → HasPart i zs → HasPart j zs → (i ≡ j → ⊥) → join_pieces (map piece_of zs) ≡ none
+no_set : {i j : List ℕ} (zs : List Chunk) → HasPart i zs → HasPart j zs → (i ≡ j → ⊥) → join_pieces (map piece_of zs) ≡ None
 no_set {i} {j} zs h g n = go (join_pieces (map piece_of zs)) refl
   where
-    go : (m : Option Piece) → join_pieces (map piece_of zs) ≡ m → m ≡ none
-    go none e = refl
-    go (some w) e =
+    go : (m : Option Piece) → join_pieces (map piece_of zs) ≡ m → m ≡ None
+    go None e = refl
+    go (Some w) e =
         let f : FromParts (map piece_of zs) w = set_parts zs w h e in
         let s : Joined f.parts w = parts_joined f.parts w f.joined in
         let a : h.part.mark.ident ≡ s.ident = one_of zs f.parts f.all s.one_id h.found h.is in

@@ -12,7 +12,7 @@ use Rattle.characters.specs.Rows.{rows, flat, line_end}
 use Rattle.characters.proofs.RowLaws.{line_text}
 use Rattle.eras.specs.Day.{is_day}
 use Rattle.eras.specs.Era.{write_day}
-use Rattle.calendar.specs.declared.DateRead.TheVariants.{Date}
+use Rattle.std.specs.Prelude.{Some}
 use Rattle.calendar.specs.Era.{read_day}
 use Rattle.calendar.proofs.Laws.{Plain, read_write, write_plain}
 use Rattle.records.specs.Split.{items_of, joined}
@@ -47,13 +47,13 @@ birth n = record {
 abbrev items : List ℕ → List (List ℕ)
 items s = bytes "A" ∷ bytes "1" ∷ s ∷ [] ∷ [] ∷ [] ∷ [] ∷ [] ∷ [] ∷ [] ∷ []
 
-no_fault : (n : ℕ) (s : List ℕ) → empty s ≡ false → read_day s ≡ Date (record { ymd = n })
+no_fault : (n : ℕ) (s : List ℕ) → empty s ≡ false → read_day s ≡ Some (record { ymd = n })
     → (fault_from false (bytes "1" ∷ items s) ≡ 0) × (record_from (bytes "1" ∷ items s) ≡ birth n)
 unfolding birth bytes spell table edge one_width is_decimal sized fault value_of item_fault item_value items_fault items_value row_in table_row pairs t911 record_from fault_from
 no_fault n s f e = (rw (f, e) refl, rw (f, e) refl)
 
 -- a file with this record, the day in any spelling: it is accepted, and has that spelling for the day
-module _ (n : ℕ) (s : List ℕ) (f : empty s ≡ false) (p : Plain s) (z : length s ≡ 7) (e : read_day s ≡ Date (record { ymd = n })) where
+module _ (n : ℕ) (s : List ℕ) (f : empty s ≡ false) (p : Plain s) (z : length s ≡ 7) (e : read_day s ≡ Some (record { ymd = n })) where
   pub line : List ℕ
   line = joined (bytes "1") (items s)
 

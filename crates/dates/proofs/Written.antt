@@ -2,7 +2,7 @@
 use Prim.Native.Nat.{ℕ}
 use mathlib.Core.Path.{◌≡◌, refl, sym, ap, ap₂, subst, ◌∙◌}
 use mathlib.Core.Bool.{Bool, true, false}
-use mathlib.Core.Option.{Option, none as nothing, some}
+use Rattle.std.specs.Prelude.{Option, Some, None}
 use mathlib.Core.List.{List, [], ◌∷◌, ◌++◌, map}
 use lib.ListN.{drop}
 use Rattle.lists.specs.Lists.{bytes, empty, All, ok}
@@ -12,8 +12,7 @@ use Rattle.characters.specs.Text.{text}
 use Rattle.characters.specs.Rows.{rows, flat}
 use Rattle.characters.proofs.RowLaws.{line_text}
 use Rattle.eras.specs.Era.{write_day}
-use Rattle.calendar.specs.declared.DateRead.{DateRead}
-use Rattle.calendar.specs.declared.DateRead.TheVariants.{Date, NotADate}
+use Rattle.calendar.specs.declared.Day.{Day}
 use Rattle.calendar.specs.Era.{read_day}
 use Rattle.records.specs.Split.{items_of}
 use Rattle.records.specs.Table.{Kind, N, U, X, K, A, F, C, P, R, W, Q, D, among, Item, table}
@@ -110,21 +109,21 @@ written_is n s w =
 -- ---- the dates of any bytes are read as their days
 
 abbrev pub IsRead : Spelled → Type 0
-IsRead x = read_day x.bytes ≡ Date (record { ymd = x.ymd })
+IsRead x = read_day x.bytes ≡ Some (record { ymd = x.ymd })
 
 -- a value that is a day was read from the bytes
 abbrev Told : Value → List ℕ → Type 0
 Told (raw t) s = Unit {0}
 Told (num n) s = Unit {0}
-Told (day n) s = read_day s ≡ Date (record { ymd = n })
+Told (day n) s = read_day s ≡ Some (record { ymd = n })
 
 number_told : (o : Option ℕ) (s : List ℕ) → Told (number_value o) s
-number_told nothing s = tt
-number_told (some n) s = tt
+number_told None s = tt
+number_told (Some n) s = tt
 
-day_told : (o : DateRead) (s : List ℕ) → read_day s ≡ o → Told (day_value o) s
-day_told (Date d) s e = e
-day_told NotADate s e = tt
+day_told : (o : Option Day) (s : List ℕ) → read_day s ≡ o → Told (day_value o) s
+day_told (Some d) s e = e
+day_told None s e = tt
 
 kind_told : (k : Kind) (s : List ℕ) → Told (value_of k s) s
 unfolding value_of

@@ -1,6 +1,6 @@
 -- Promises, to be believed.
 -- DOCUMENT 02 (i), Reiwa, as statements about the days that are read and the files that the call canonical writes. proofs/Promises.antt proves each.
-use Rattle.std.specs.Prelude.{ℕ, ◌-◌, ◌≤◌, ◌≡◌, ◌↔◌, true, List, [], ◌∷◌, ◌++◌, get_or, drop}
+use Rattle.std.specs.Prelude.{ℕ, ◌-◌, ◌≤◌, ◌≡◌, ◌↔◌, true, List, [], ◌∷◌, ◌++◌, Some, get_or, drop}
 use Rattle.lists.specs.Lists.{All, ok}
 use Rattle.characters.specs.Text.{text}
 use Rattle.characters.specs.Rows.{rows}
@@ -8,7 +8,6 @@ use Rattle.eras.specs.declared.Era.{Era}
 use Rattle.eras.specs.Day.{is_day}
 use Rattle.eras.specs.Era.{eras, six_digits}
 use Rattle.eras.specs.Newest.{Newest}
-use Rattle.calendar.specs.declared.DateRead.TheVariants.{Date}
 use Rattle.calendar.specs.Era.{read_day}
 use Rattle.records.specs.Split.{items_of}
 use Rattle.records.specs.Items.{Value, raw, num, day}
@@ -69,7 +68,7 @@ pub record OneSpelling (n : ℕ) : Type 0 where
   pub spelling : List ℕ
   pub written : WrittenFor n spelling
   pub only : (s : List ℕ) → WrittenFor n s → s ≡ spelling
-  pub read : read_day spelling ≡ Date (record { ymd = n })
+  pub read : read_day spelling ≡ Some (record { ymd = n })
 
 abbrev pub SpelledOnce : Type 0
 SpelledOnce = (n : ℕ) → is_day n ≡ true → OneSpelling n

@@ -1,3 +1,3 @@
 pub mod Numbers
 pub mod Spelling
-pub mod Loops
+pub mod Reading

@@ -2,7 +2,7 @@
 use Prim.Native.Nat.{ℕ, ◌≤◌, ◌<◌}
 use mathlib.Core.Path.{◌≡◌, refl, ap}
 use mathlib.Core.Bool.{Bool, true, false, cond, ◌&&◌, false≢true}
-use mathlib.Core.Option.{Option, none, some}
+use Rattle.std.specs.Prelude.{Option, Some, None}
 use mathlib.Core.List.{List, [], ◌∷◌}
 use native.Mathlib.Omega.{arith}
 use borrow.Author.Tests.{leb-true, leb-false, le-leb, lt-leb, eqb-true}
@@ -13,13 +13,13 @@ use Rattle.lists.proofs.Tests.{both, cond_case, below, below_at}
 use Rattle.digits.specs.Digits.{is_digit, value, number, spell, digit_count}
 
 is : Option ℕ → ℕ → Bool
-is none n = false
-is (some m) n = eqb m n
+is None n = false
+is (Some m) n = eqb m n
 
-is_some : (m : Option ℕ) (n : ℕ) → is m n ≡ true → m ≡ some n
+is_some : (m : Option ℕ) (n : ℕ) → is m n ≡ true → m ≡ Some n
 unfolding is
-is_some none n e = absurd (false≢true e)
-is_some (some m) n e = ap some (eqb-true m n e)
+is_some None n e = absurd (false≢true e)
+is_some (Some m) n e = ap Some (eqb-true m n e)
 
 good : ℕ → Bool
 good n = is (number (spell n)) n && (eqb (length (spell n)) (digit_count n) && all is_digit (spell n))
@@ -33,7 +33,7 @@ module _ (n : ℕ) (h : n ≤ 999) where
   unfolding good
   all_at = both (is (number (spell n)) n) (eqb (length (spell n)) (digit_count n) && all is_digit (spell n)) (below_at good 1000 all_good n (omega arith))
 
-  pub number_spell : number (spell n) ≡ some n
+  pub number_spell : number (spell n) ≡ Some n
   number_spell = is_some _ n all_at.0
 
   pub length_spell : length (spell n) ≡ digit_count n
@@ -125,16 +125,16 @@ pub record Digits (s : List ℕ) (n : ℕ) : Type 0 where
   pub digits : all is_digit s ≡ true
   pub is : value 0 s ≡ n
 
-pub number_is : (s : List ℕ) (n : ℕ) → number s ≡ some n → Digits s n
+pub number_is : (s : List ℕ) (n : ℕ) → number s ≡ Some n → Digits s n
 unfolding number
 number_is s n e = go (leb 1 (length s)) refl (leb (length s) 3) refl (all is_digit s) refl e
   where
     go : (x : Bool) → leb 1 (length s) ≡ x → (y : Bool) → leb (length s) 3 ≡ y → (z : Bool) → all is_digit s ≡ z
-        → cond (x && (y && z)) (some (value 0 s)) none ≡ some n → Digits s n
+        → cond (x && (y && z)) (Some (value 0 s)) None ≡ Some n → Digits s n
     go true p true q true r e = record { low = leb-true _ _ p; high = leb-true _ _ q; digits = r; is = cc }
     go true p true q false r e = let z : ◌≡◌ {A = ℕ} 0 1 = cc in absurd (omega arith)
     go true p false q z r e = let z : ◌≡◌ {A = ℕ} 0 1 = cc in absurd (omega arith)
     go false p y q z r e = let z : ◌≡◌ {A = ℕ} 0 1 = cc in absurd (omega arith)
 
-pub number_length : (s : List ℕ) (n : ℕ) → number s ≡ some n → (digit_count n ≤ length s) × (n ≤ 999)
+pub number_length : (s : List ℕ) (n : ℕ) → number s ≡ Some n → (digit_count n ≤ length s) × (n ≤ 999)
 number_length s n e = let d = number_is s n e in rw (← d.is) (digits_value_lem s d.high d.low d.digits)

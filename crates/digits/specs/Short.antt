@@ -1,17 +1,25 @@
 -- Vocabulary of the code.
--- The same numbers as it hands them on, with a number outside the range for "none".
-use Rattle.std.specs.Prelude.{ℕ, cond, List, leb, eqb, get_or}
-use Rattle.std.proofs.Math.Option.{Option, none, some}
-use Rattle.digits.specs.Digits.{number}
+-- Digits read one by one, a number with no leading zero, and numbers with 1000 for "none".
+use Rattle.std.specs.Prelude.{ℕ, ◌+◌, ◌-◌, ◌*◌, cond, List, [], ◌∷◌, Option, Some, None, eqb, get_or}
+use Rattle.digits.specs.Digits.{is_digit, number}
+
+-- the value of a digit
+abbrev pub digit : ℕ → Option ℕ
+digit b = cond (is_digit b) (Some (b - 48)) None
+
+-- the number that the digits spell, after a part of value n; a byte that is no digit: none
+unfoldable pub number_from : ℕ → List ℕ → Option ℕ
+number_from n [] = Some n
+number_from n (b ∷ s) = cond (is_digit b) (number_from (10 * n + (b - 48)) s) None
+
+-- one to three digits with no leading zero: their value
+unfoldable pub plain_number : List ℕ → Option ℕ
+plain_number s = cond (eqb (get_or s 0 0) 48) None (number s)
 
 abbrev pub or_thousand : Option ℕ → ℕ
-or_thousand none = 1000
-or_thousand (some n) = n
+or_thousand None = 1000
+or_thousand (Some n) = n
 
 -- one to three digits: their value; else 1000
 unfoldable pub short_value : List ℕ → ℕ
 short_value s = or_thousand (number s)
-
--- one to three digits with no leading zero: their value; else 0
-unfoldable pub plain_number : List ℕ → ℕ
-plain_number s = cond (eqb (get_or s 0 0) 48) 0 (cond (leb (short_value s) 999) (short_value s) 0)

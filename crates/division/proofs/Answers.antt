@@ -5,7 +5,7 @@ use native.Mathlib.Nat.{le_refl}
 use mathlib.Core.Path.{◌≡◌, refl, sym, ap, ◌∙◌, subst}
 use mathlib.Core.Logic.{◌↔◌, inl, inr}
 use mathlib.Core.Bool.{Bool, true, false, cond, false≢true}
-use mathlib.Core.Option.{Option, none, some}
+use Rattle.std.specs.Prelude.{Option, Some, None}
 use mathlib.Core.List.{List, ◌∷◌, ◌++◌, map}
 use borrow.Author.Tests.{leb-true, leb-false}
 use lib.Dec.{leb}
@@ -65,8 +65,8 @@ numbered f b c id used out e = rw e (valid (valid_id id) (unused id used))
     written false r = omega arith
 
     list : (m : Option (List (List ℕ))) → Numbered (answer_of (fitting (map_res writes_pieces (listed m)) out))
-    list none = omega arith
-    list (some ps) = written (leb (length (flat ps)) (length out)) (writes_pieces ps)
+    list None = omega arith
+    list (Some ps) = written (leb (length (flat ps)) (length out)) (writes_pieces ps)
 
     valid : (v p : Bool) → Numbered (answer_of (fitting (map_res writes_pieces (for_id v p (listed (cutting id c (arrange b))))) out))
     valid true true = list (cutting id c (arrange b))
@@ -114,10 +114,10 @@ done_refused e = let z : ◌≡◌ {A = ℕ} 0 1 = cc in omega arith
 -- a list was planned for a valid ID
 pub record Planned (id used : List ℕ) (c : ℕ) (b : Notebook) (ps : List (List ℕ)) : Type 0 where
   pub valid : Valid id used
-  pub is : cutting id c (arrange b) ≡ some ps
+  pub is : cutting id c (arrange b) ≡ Some ps
 
 module _ (f : List ℕ) (b : Notebook) (c : ℕ) (id used : List ℕ) (e : read_file f ≡ ok b) where
-  pub own_sound : valid_id id ≡ true → (ps : List (List ℕ)) → cutting id c (arrange b) ≡ some ps → Sound f c ps
+  pub own_sound : valid_id id ≡ true → (ps : List (List ℕ)) → cutting id c (arrange b) ≡ Some ps → Sound f c ps
   own_sound v =
       let r : read_file (write_file (arrange b)) ≡ ok (arrange b) = arranged_carries f b e in
       sound (write_file (arrange b)) id (arrange b) c r v f (record { one = arrange b; other = b; read_one = r; read_other = e; same = arranged_again b })
@@ -135,8 +135,8 @@ module _ (f : List ℕ) (b : Notebook) (c : ℕ) (id used : List ℕ) (e : read_
     where
       go : (v : Bool) → valid_id id ≡ v → (x : Bool) → unused id used ≡ x → (m : Option (List (List ℕ))) → cutting id c (arrange b) ≡ m
           → for_id v x (listed m) ≡ ok ps → Planned id used c b ps
-      go true p true u none q l = absurd (no_refusal l)
-      go true p true u (some xs) q l = let z : xs ≡ ps = cc in record { valid = record { digits = p; passes = u }; is = q ∙ ap some z }
+      go true p true u None q l = absurd (no_refusal l)
+      go true p true u (Some xs) q l = let z : xs ≡ ps = cc in record { valid = record { digits = p; passes = u }; is = q ∙ ap Some z }
       go true p false u m q l = absurd (no_refusal l)
       go false p x u m q l = absurd (no_refusal l)
 
@@ -200,17 +200,17 @@ module _ (f : List ℕ) (b : Notebook) (c : ℕ) (id used : List ℕ) (e : read_
     where
       few : {k : ℕ} (w : Wrote out n t) → Listed id (arrange b) c k → n ≤ k
       few w l =
-          let q : some l.list ≡ some w.list = sym l.is ∙ w.found.is in
+          let q : Some l.list ≡ Some w.list = sym l.is ∙ w.found.is in
           let z : l.list ≡ w.list = cc in
           omega (arith, ap length z, l.few, w.count)
 
   -- ---- no list
 
-  no_list_18 : Valid id used → (out : List ℕ) → cutting id c (arrange b) ≡ none → answer_in (cut_result f c id used) out ≡ Refused 18 0
+  no_list_18 : Valid id used → (out : List ℕ) → cutting id c (arrange b) ≡ None → answer_in (cut_result f c id used) out ≡ Refused 18 0
   unfolding cut_result
   no_list_18 v out q = sym (gives_refusal out (ap (map_res writes_pieces) (list_of v ∙ ap listed q))).answer
 
-  list_no_18 : Valid id used → (out : List ℕ) (ps : List (List ℕ)) → cutting id c (arrange b) ≡ some ps → answer_in (cut_result f c id used) out ≡ Refused 18 0 → ⊥
+  list_no_18 : Valid id used → (out : List ℕ) (ps : List (List ℕ)) → cutting id c (arrange b) ≡ Some ps → answer_in (cut_result f c id used) out ≡ Refused 18 0 → ⊥
   unfolding cut_result
   list_no_18 v out ps q h = go (leb (length (flat ps)) (length out)) refl
     where
@@ -231,8 +231,8 @@ module _ (f : List ℕ) (b : Notebook) (c : ℕ) (id used : List ℕ) (e : read_
   )
     where
       go : ((qs : List (List ℕ)) → Sound f c qs → ⊥) → (m : Option (List (List ℕ))) → cutting id c (arrange b) ≡ m → answer_in (cut_result f c id used) out ≡ Refused 18 0
-      go h none q = no_list_18 v out q
-      go h (some ps) q = absurd (h ps (own_sound v.digits ps q))
+      go h None q = no_list_18 v out q
+      go h (Some ps) q = absurd (h ps (own_sound v.digits ps q))
 
   -- ---- a list that is found
 
@@ -244,8 +244,8 @@ module _ (f : List ℕ) (b : Notebook) (c : ℕ) (id used : List ℕ) (e : read_
   withholds v out h = go (cutting id c (arrange b)) refl
     where
       go : (m : Option (List (List ℕ))) → cutting id c (arrange b) ≡ m → Found f c id used
-      go none q = absurd (h (ap reply_of (no_list_18 v out q)))
-      go (some ps) q = record { list = ps; sound = own_sound v.digits ps q; delivered = delivers ps (list_of v ∙ ap listed q) }
+      go None q = absurd (h (ap reply_of (no_list_18 v out q)))
+      go (Some ps) q = record { list = ps; sound = own_sound v.digits ps q; delivered = delivers ps (list_of v ∙ ap listed q) }
 
   pub says : Valid id used → (out : List ℕ) → OneOfThree (reply_to (cut_result f c id used) out)
   unfolding answer_in cut_result
@@ -256,8 +256,8 @@ module _ (f : List ℕ) (b : Notebook) (c : ℕ) (id used : List ℕ) (e : read_
       room ps false = inr (inr refl)
 
       list : (m : Option (List (List ℕ))) → OneOfThree (reply_of (answer_of (fitting (map_res writes_pieces (listed m)) out)))
-      list none = inr (inl refl)
-      list (some ps) = room ps (leb (length (flat ps)) (length out))
+      list None = inr (inl refl)
+      list (Some ps) = room ps (leb (length (flat ps)) (length out))
 
 -- another refusal is none of the three
 pub none_of_three : (n : ℕ) → (n ≡ 0 → ⊥) → (n ≡ 18 → ⊥) → (n ≡ 20 → ⊥) → OneOfThree (refusal n 0) → ⊥

@@ -5,7 +5,7 @@ use native.Mathlib.Omega.{arith}
 use native.Mathlib.Nat.{le_refl}
 use mathlib.Core.Path.{◌≡◌, refl, sym, ap, ◌∙◌, subst}
 use mathlib.Core.Bool.{Bool, true, false, cond}
-use mathlib.Core.Option.{Option, none, some}
+use Rattle.std.specs.Prelude.{Option, Some, None}
 use mathlib.Core.List.{List, [], ◌∷◌, ◌++◌, map}
 use lib.Dec.{leb}
 use lib.ListN.{length, length-append}
@@ -151,7 +151,7 @@ record JoinedFrom (s file : List ℕ) : Type 0 where
   pieces : List Piece
   piece : Piece
   cut : split s ≡ ok pieces
-  joins : join_pieces pieces ≡ some piece
+  joins : join_pieces pieces ≡ Some piece
   is : file_of piece ≡ file
 
 joined_from : (s file : List ℕ) → join_file s ≡ ok file → JoinedFrom s file
@@ -163,8 +163,8 @@ joined_from s file e = sized (leb (length s) 131072) e
     checked w (refused n line) e = absurd (no_refusal e)
 
     set : (ps : List Piece) → split s ≡ ok ps → (m : Option Piece) → join_pieces ps ≡ m → then_checked (or_set m) ≡ ok file → JoinedFrom s file
-    set ps p none q e = absurd (no_refusal e)
-    set ps p (some w) q e = record { pieces = ps; piece = w; cut = p; joins = q; is = checked (file_of w) (read_file (file_of w)) e }
+    set ps p None q e = absurd (no_refusal e)
+    set ps p (Some w) q e = record { pieces = ps; piece = w; cut = p; joins = q; is = checked (file_of w) (read_file (file_of w)) e }
 
     cut : (r : Res (List Piece)) → split s ≡ r → then_checked (join_split r) ≡ ok file → JoinedFrom s file
     cut (ok ps) p e = set ps p (join_pieces ps) refl e
@@ -187,7 +187,7 @@ module _ (i : List ℕ) (b : Notebook) (c : ℕ) where
   -- the plan has at most n pieces, and so has the list
   pub record Listed (n : ℕ) : Type 0 where
     pub list : List (List ℕ)
-    pub is : cutting i c b ≡ some list
+    pub is : cutting i c b ≡ Some list
     pub few : length list ≤ n
 
   numbered_length : (d : Bool) (n k : ℕ) (xs : List (List (List ℕ))) → length (numbered d i n k xs) ≡ length xs
@@ -212,8 +212,8 @@ module _ (i : List ℕ) (b : Notebook) (c : ℕ) where
       let r : LinesRead w.provider w.rows b = lines_read w.provider w.rows b (bodies_lines w.rows a) e in
       subst (λ (d : Bool). Lines d b.records w.rows) r.way r.lines
 
-  several : (zs : List Chunk) (w : Piece) (ps : List Part) → All Good zs → All (Within c) (map chunk_bytes zs) → all_parts (map piece_of zs) ≡ some ps
-      → join_parts (some ps) ≡ some w → read_file (file_of w) ≡ ok b → AtMost (length zs) (plan length c ls)
+  several : (zs : List Chunk) (w : Piece) (ps : List Part) → All Good zs → All (Within c) (map chunk_bytes zs) → all_parts (map piece_of zs) ≡ Some ps
+      → join_parts (Some ps) ≡ Some w → read_file (file_of w) ≡ ok b → AtMost (length zs) (plan length c ls)
   several zs w ps g h p j e =
       let s : All (Small c) ps × (length ps ≡ length zs) = small_parts c zs ps g h (parts_are (map piece_of zs) ps p) in
       let d : Divided c (length ps) w.rows = divided_by c ps w s.0 (parts_joined ps w j) in
@@ -228,21 +228,21 @@ module _ (i : List ℕ) (b : Notebook) (c : ℕ) where
       let r : Lines b.provider b.records x.rows = rows_read (piece_of x) g e in
       rw (plan_whole length c ls (omega (arith, chunk_length x, lines_short r, total_flat ls))) (le_refl 1)
 
-  joined_least : (zs : List Chunk) (w : Piece) → All Good zs → All (Within c) (map chunk_bytes zs) → join_pieces (map piece_of zs) ≡ some w → read_file (file_of w) ≡ ok b
+  joined_least : (zs : List Chunk) (w : Piece) → All Good zs → All (Within c) (map chunk_bytes zs) → join_pieces (map piece_of zs) ≡ Some w → read_file (file_of w) ≡ ok b
       → AtMost (length zs) (plan length c ls)
   unfolding join_pieces
   joined_least zs w g h j e = go zs g h j
     where
-      many : (zs : List Chunk) → All Good zs → All (Within c) (map chunk_bytes zs) → (m : Option (List Part)) → all_parts (map piece_of zs) ≡ m → join_parts m ≡ some w
+      many : (zs : List Chunk) → All Good zs → All (Within c) (map chunk_bytes zs) → (m : Option (List Part)) → all_parts (map piece_of zs) ≡ m → join_parts m ≡ Some w
           → AtMost (length zs) (plan length c ls)
-      many zs g h none p j = absurd (no_none j)
-      many zs g h (some ps) p j = several zs w ps g h p j e
+      many zs g h None p j = absurd (no_none j)
+      many zs g h (Some ps) p j = several zs w ps g h p j e
 
-      go : (zs : List Chunk) → All Good zs → All (Within c) (map chunk_bytes zs) → join_pieces (map piece_of zs) ≡ some w → AtMost (length zs) (plan length c ls)
+      go : (zs : List Chunk) → All Good zs → All (Within c) (map chunk_bytes zs) → join_pieces (map piece_of zs) ≡ Some w → AtMost (length zs) (plan length c ls)
       go [] g h j = absurd (no_none j)
       go (x ∷ []) g h j = by (unmarked x.rows) j
         where
-          by : (u : Bool) → cond u (some (piece_of x)) (join_parts (all_parts (piece_of x ∷ []))) ≡ some w → AtMost 1 (plan length c ls)
+          by : (u : Bool) → cond u (Some (piece_of x)) (join_parts (all_parts (piece_of x ∷ []))) ≡ Some w → AtMost 1 (plan length c ls)
           by true j = single x g.0 h.0.fits (ap (λ (z : Piece). read_file (file_of z)) (some_inj j) ∙ e)
           by false j = many (x ∷ []) g h (all_parts (piece_of x ∷ [])) refl j
       go (x ∷ y ∷ xs) g h j = many (x ∷ y ∷ xs) g h (all_parts (map piece_of (x ∷ y ∷ xs))) refl j
@@ -254,7 +254,7 @@ module _ (i : List ℕ) (b : Notebook) (c : ℕ) where
       let j : JoinedFrom (flat qs) s.file = joined_from (flat qs) s.file s.joins in
       let r : read_file (file_of j.piece) ≡ ok b = ap read_file j.is ∙ s.same.read_one ∙ ap ok q in
       let c' : split (flat (map chunk_bytes z.chunks)) ≡ ok j.pieces = subst (λ (t : List (List ℕ)). split (flat t) ≡ ok j.pieces) z.bytes j.cut in
-      let k : join_pieces (map piece_of z.chunks) ≡ some j.piece = ap join_pieces (same_pieces z.chunks j.pieces z.good c') ∙ j.joins in
+      let k : join_pieces (map piece_of z.chunks) ≡ Some j.piece = ap join_pieces (same_pieces z.chunks j.pieces z.good c') ∙ j.joins in
       let n : length z.chunks ≡ length qs = sym (ap length z.bytes ∙ map_length chunk_bytes z.chunks) in
       listed (length qs) (subst (λ (m : ℕ). AtMost m (plan length c ls)) n
       (joined_least z.chunks j.piece z.good (subst (All (Within c)) z.bytes s.fits) k r))

@@ -3,7 +3,7 @@ use Prim.Native.Nat.{ℕ, ◌+◌, ◌≤◌}
 use native.Mathlib.Omega.{arith}
 use mathlib.Core.Path.{◌≡◌, refl, ap}
 use mathlib.Core.Bool.{Bool, true, false, cond, ◌&&◌}
-use mathlib.Core.Option.{Option, none, some}
+use Rattle.std.specs.Prelude.{Option, Some, None}
 use mathlib.Core.List.{List, [], ◌∷◌, ◌++◌}
 use lib.Dec.{leb, eqb}
 use lib.ListN.{length, length-append}
@@ -40,72 +40,72 @@ pieces_bytes (r ∷ rs) = go (kind_of r) (head_bytes r) (pieces_bytes rs)
     go end h i = omega (arith, length-append r (flat rs), i)
     go broken h i = omega (arith, length-append r (flat rs), i)
 
-part_bytes : (d : Bool) (rs : List (List ℕ)) (p : Part) → part_of d rs ≡ some p → length (flat p.rows) ≤ length (flat rs)
+part_bytes : (d : Bool) (rs : List (List ℕ)) (p : Part) → part_of d rs ≡ Some p → length (flat p.rows) ≤ length (flat rs)
 unfolding part_of
 part_bytes d [] p e = absurd (no_none e)
 part_bytes d (r ∷ rs) p e = go (is_mark (text r)) (part_bytes d rs) e
   where
-    last : (l : List (List ℕ)) (m : Option Mark) → last_mark d l m ≡ some p → length (flat p.rows) ≤ length (flat (r ∷ rs))
-    last [] none e = absurd (no_none e)
-    last [] (some m) e = omega (arith, ap (λ (q : Part). length (flat q.rows)) (some_inj e))
+    last : (l : List (List ℕ)) (m : Option Mark) → last_mark d l m ≡ Some p → length (flat p.rows) ≤ length (flat (r ∷ rs))
+    last [] None e = absurd (no_none e)
+    last [] (Some m) e = omega (arith, ap (λ (q : Part). length (flat q.rows)) (some_inj e))
     last (x ∷ l) m e = absurd (no_none e)
 
-    more : (o : Option Part) → ((q : Part) → o ≡ some q → length (flat q.rows) ≤ length (flat rs)) → row_before r o ≡ some p
+    more : (o : Option Part) → ((q : Part) → o ≡ Some q → length (flat q.rows) ≤ length (flat rs)) → row_before r o ≡ Some p
         → length (flat p.rows) ≤ length (flat (r ∷ rs))
-    more none i e = absurd (no_none e)
-    more (some q) i e =
+    more None i e = absurd (no_none e)
+    more (Some q) i e =
         omega (arith, ap (λ (z : Part). length (flat z.rows)) (some_inj e), length-append r (flat q.rows), length-append r (flat rs), i q refl)
 
-    go : (b : Bool) → ((q : Part) → part_of d rs ≡ some q → length (flat q.rows) ≤ length (flat rs))
-        → cond b (last_mark d rs (read_mark (text r))) (row_before r (part_of d rs)) ≡ some p → length (flat p.rows) ≤ length (flat (r ∷ rs))
+    go : (b : Bool) → ((q : Part) → part_of d rs ≡ Some q → length (flat q.rows) ≤ length (flat rs))
+        → cond b (last_mark d rs (read_mark (text r))) (row_before r (part_of d rs)) ≡ Some p → length (flat p.rows) ≤ length (flat (r ∷ rs))
     go true i e = last rs (read_mark (text r)) e
     go false i e = more (part_of d rs) i e
 
-parts_bytes : (xs : List Piece) (ps : List Part) → all_parts xs ≡ some ps → bytes_in ps ≤ piece_bytes xs
+parts_bytes : (xs : List Piece) (ps : List Part) → all_parts xs ≡ Some ps → bytes_in ps ≤ piece_bytes xs
 unfolding all_parts
 parts_bytes [] ps e = omega (arith, ap bytes_in (some_inj e))
 parts_bytes (x ∷ xs) ps e = go (part_of x.provider x.rows) (part_bytes x.provider x.rows) (all_parts xs) (parts_bytes xs) e
   where
-    go : (o : Option Part) → ((p : Part) → o ≡ some p → length (flat p.rows) ≤ length (flat x.rows)) → (t : Option (List Part))
-        → ((ps : List Part) → t ≡ some ps → bytes_in ps ≤ piece_bytes xs) → part_with o t ≡ some ps → bytes_in ps ≤ piece_bytes (x ∷ xs)
-    go none i t j e = absurd (no_none e)
-    go (some p) i none j e = absurd (no_none e)
-    go (some p) i (some qs) j e = omega (arith, ap bytes_in (some_inj e), i p refl, j qs refl)
+    go : (o : Option Part) → ((p : Part) → o ≡ Some p → length (flat p.rows) ≤ length (flat x.rows)) → (t : Option (List Part))
+        → ((ps : List Part) → t ≡ Some ps → bytes_in ps ≤ piece_bytes xs) → part_with o t ≡ Some ps → bytes_in ps ≤ piece_bytes (x ∷ xs)
+    go None i t j e = absurd (no_none e)
+    go (Some p) i None j e = absurd (no_none e)
+    go (Some p) i (Some qs) j e = omega (arith, ap bytes_in (some_inj e), i p refl, j qs refl)
 
 -- a first piece has a line 1 more
-first_bytes : (x : Piece) (xs : List Piece) (ps : List Part) → all_parts (x ∷ xs) ≡ some ps → 13 + bytes_in ps ≤ piece_bytes (x ∷ xs)
+first_bytes : (x : Piece) (xs : List Piece) (ps : List Part) → all_parts (x ∷ xs) ≡ Some ps → 13 + bytes_in ps ≤ piece_bytes (x ∷ xs)
 unfolding all_parts
 first_bytes x xs ps e = go (part_of x.provider x.rows) (part_bytes x.provider x.rows) (all_parts xs) (parts_bytes xs) e
   where
-    go : (o : Option Part) → ((p : Part) → o ≡ some p → length (flat p.rows) ≤ length (flat x.rows)) → (t : Option (List Part))
-        → ((ps : List Part) → t ≡ some ps → bytes_in ps ≤ piece_bytes xs) → part_with o t ≡ some ps → 13 + bytes_in ps ≤ piece_bytes (x ∷ xs)
-    go none i t j e = absurd (no_none e)
-    go (some p) i none j e = absurd (no_none e)
-    go (some p) i (some qs) j e = omega (arith, ap bytes_in (some_inj e), i p refl, j qs refl)
+    go : (o : Option Part) → ((p : Part) → o ≡ Some p → length (flat p.rows) ≤ length (flat x.rows)) → (t : Option (List Part))
+        → ((ps : List Part) → t ≡ Some ps → bytes_in ps ≤ piece_bytes xs) → part_with o t ≡ Some ps → 13 + bytes_in ps ≤ piece_bytes (x ∷ xs)
+    go None i t j e = absurd (no_none e)
+    go (Some p) i None j e = absurd (no_none e)
+    go (Some p) i (Some qs) j e = omega (arith, ap bytes_in (some_inj e), i p refl, j qs refl)
 
 -- ---- the joined piece
 
-joined_bytes : (o : Option (List Part)) (m : ℕ) → ((ps : List Part) → o ≡ some ps → 13 + bytes_in ps ≤ m) → (p : Piece) → join_parts o ≡ some p
+joined_bytes : (o : Option (List Part)) (m : ℕ) → ((ps : List Part) → o ≡ Some ps → 13 + bytes_in ps ≤ m) → (p : Piece) → join_parts o ≡ Some p
     → 13 + length (flat p.rows) ≤ m
-joined_bytes none m h p e = absurd (no_none e)
-joined_bytes (some []) m h p e = absurd (no_none e)
-joined_bytes (some (q ∷ qs)) m h p e = go (agree q qs && (leb 2 q.mark.count && eqb (length (q ∷ qs)) q.mark.count)) e
+joined_bytes None m h p e = absurd (no_none e)
+joined_bytes (Some []) m h p e = absurd (no_none e)
+joined_bytes (Some (q ∷ qs)) m h p e = go (agree q qs && (leb 2 q.mark.count && eqb (length (q ∷ qs)) q.mark.count)) e
   where
-    rows_of : (o : Option (List (List ℕ))) → ((ls : List (List ℕ)) → o ≡ some ls → length (flat ls) ≤ bytes_in (q ∷ qs)) → one_piece q.provider o ≡ some p
+    rows_of : (o : Option (List (List ℕ))) → ((ls : List (List ℕ)) → o ≡ Some ls → length (flat ls) ≤ bytes_in (q ∷ qs)) → one_piece q.provider o ≡ Some p
         → 13 + length (flat p.rows) ≤ m
-    rows_of none i e = absurd (no_none e)
-    rows_of (some ls) i e = omega (arith, ap (λ (z : Piece). length (flat z.rows)) (some_inj e), i ls refl, h (q ∷ qs) refl)
+    rows_of None i e = absurd (no_none e)
+    rows_of (Some ls) i e = omega (arith, ap (λ (z : Piece). length (flat z.rows)) (some_inj e), i ls refl, h (q ∷ qs) refl)
 
-    go : (b : Bool) → cond b (one_piece q.provider (gather (q ∷ qs) q.mark.count 1)) none ≡ some p → 13 + length (flat p.rows) ≤ m
+    go : (b : Bool) → cond b (one_piece q.provider (gather (q ∷ qs) q.mark.count 1)) None ≡ Some p → 13 + length (flat p.rows) ≤ m
     go true e = rows_of (gather (q ∷ qs) q.mark.count 1) (gather_bytes q.mark.count 1 (q ∷ qs)) e
     go false e = absurd (no_none e)
 
-join_bytes : (xs : List Piece) (p : Piece) → join_pieces xs ≡ some p → 13 + length (flat p.rows) ≤ piece_bytes xs
+join_bytes : (xs : List Piece) (p : Piece) → join_pieces xs ≡ Some p → 13 + length (flat p.rows) ≤ piece_bytes xs
 unfolding join_pieces
 join_bytes [] p e = absurd (no_none e)
 join_bytes (x ∷ []) p e = go (unmarked x.rows) e
   where
-    go : (b : Bool) → cond b (some x) (join_parts (all_parts (x ∷ []))) ≡ some p → 13 + length (flat p.rows) ≤ piece_bytes (x ∷ [])
+    go : (b : Bool) → cond b (Some x) (join_parts (all_parts (x ∷ []))) ≡ Some p → 13 + length (flat p.rows) ≤ piece_bytes (x ∷ [])
     go true e = omega (arith, ap (λ (z : Piece). length (flat z.rows)) (some_inj e))
     go false e = joined_bytes (all_parts (x ∷ [])) (piece_bytes (x ∷ [])) (first_bytes x []) p e
 join_bytes (x ∷ y ∷ xs) p e = joined_bytes (all_parts (x ∷ y ∷ xs)) (piece_bytes (x ∷ y ∷ xs)) (first_bytes x (y ∷ xs)) p e
@@ -115,10 +115,10 @@ pub joined_no_longer : (s w : List ℕ) → joined_file s ≡ ok w → length w 
 unfolding joined_file split split_rows file_of
 joined_no_longer s w e = go (leb (length s) 131072) (eqb (broken_line (rows s)) 0) (starts_well (rows s)) e
   where
-    file : (o : Option Piece) → ((p : Piece) → o ≡ some p → 13 + length (flat p.rows) ≤ piece_bytes (pieces_in (rows s))) → or_set o ≡ ok w
+    file : (o : Option Piece) → ((p : Piece) → o ≡ Some p → 13 + length (flat p.rows) ≤ piece_bytes (pieces_in (rows s))) → or_set o ≡ ok w
         → length w ≤ length s
-    file none i e = absurd (no_refusal e)
-    file (some p) i e =
+    file None i e = absurd (no_refusal e)
+    file (Some p) i e =
         let z : head_row p.provider ++ flat p.rows ≡ w = cc in
         omega (arith, ap length z, length-append (head_row p.provider) (flat p.rows), head_length p.provider, i p refl, pieces_bytes (rows s), ap length (flat_rows s))
 

@@ -3,7 +3,7 @@ use Prim.Native.Nat.{ℕ, ◌+◌, ◌≤◌}
 use native.Mathlib.Omega.{arith}
 use mathlib.Core.Path.{◌≡◌, refl, sym, ap, ◌∙◌, subst}
 use mathlib.Core.Bool.{Bool, true, false, cond, not, ◌&&◌}
-use mathlib.Core.Option.{Option, none, some}
+use Rattle.std.specs.Prelude.{Option, Some, None}
 use mathlib.Core.List.{List, [], ◌∷◌, ◌++◌}
 use borrow.Author.Tests.{eqb-true, ne_eqb}
 use lib.Dec.{eqb}
@@ -24,7 +24,7 @@ use Rattle.notebook.proofs.Accepted.{IsLine}
 use Rattle.division.specs.Marks.{valid_id, Mark, mark_line, mark_row, marked, mark_of, read_mark}
 use Rattle.division.proofs.Chunks.{Body, body_is}
 
-no_none : {A : Type 0} {a : A} → ◌≡◌ {A = Option A} none (some a) → ⊥
+no_none : {A : Type 0} {a : A} → ◌≡◌ {A = Option A} None (Some a) → ⊥
 no_none e = let z : ◌≡◌ {A = ℕ} 0 1 = cc in omega arith
 
 -- ---- digits are no commas, and no line ends
@@ -56,7 +56,7 @@ module _ (i : List ℕ) (n k : ℕ) (hi : valid_id i ≡ true) (hn : n ≤ 999) 
       items_joined t911 (i ∷ spell n ∷ spell k ∷ []) (refl, (refl, (refl, tt)))
       (no_comma i (id_is i hi).1, (no_comma (spell n) (digits_spell n hn), (no_comma (spell k) (digits_spell k hk), tt)))
 
-  pub read_written : read_mark (mark_line i n k) ≡ some (record { ident = i; count = n; place = k })
+  pub read_written : read_mark (mark_line i n k) ≡ Some (record { ident = i; count = n; place = k })
   unfolding read_mark
   read_written = ap mark_of items_mark ∙ rw (same_refl t911, hi, number_spell n hn, number_spell k hk)
 
@@ -108,10 +108,10 @@ pub record Items (xs : List (List ℕ)) (m : Mark) : Type 0 where
   pub k : List ℕ
   pub shape : xs ≡ t911 ∷ m.ident ∷ n ∷ k ∷ []
   pub valid : valid_id m.ident ≡ true
-  pub count : number n ≡ some m.count
-  pub place : number k ≡ some m.place
+  pub count : number n ≡ Some m.count
+  pub place : number k ≡ Some m.place
 
-items_are : (xs : List (List ℕ)) (m : Mark) → mark_of xs ≡ some m → Items xs m
+items_are : (xs : List (List ℕ)) (m : Mark) → mark_of xs ≡ Some m → Items xs m
 items_are [] m e = absurd (no_none e)
 items_are (a ∷ []) m e = absurd (no_none e)
 items_are (a ∷ i ∷ []) m e = absurd (no_none e)
@@ -119,18 +119,18 @@ items_are (a ∷ i ∷ n ∷ []) m e = absurd (no_none e)
 items_are (a ∷ i ∷ n ∷ k ∷ []) m e = go (same a t911) refl (valid_id i) refl (number n) refl (number k) refl e
   where
     go : (x : Bool) → same a t911 ≡ x → (y : Bool) → valid_id i ≡ y → (u : Option ℕ) → number n ≡ u → (v : Option ℕ) → number k ≡ v
-        → cond (x && y) (marked i u v) none ≡ some m → Items (a ∷ i ∷ n ∷ k ∷ []) m
-    go true p true q (some u) r (some v) s e =
+        → cond (x && y) (marked i u v) None ≡ Some m → Items (a ∷ i ∷ n ∷ k ∷ []) m
+    go true p true q (Some u) r (Some v) s e =
         let w : ◌≡◌ {A = Mark} (record { ident = i; count = u; place = v }) m = cc in
         subst (Items (a ∷ i ∷ n ∷ k ∷ [])) w
         (record { n = n; k = k; shape = ap (λ (z : List ℕ). z ∷ i ∷ n ∷ k ∷ []) (same_true a t911 p); valid = q; count = r; place = s })
-    go true p true q (some u) r none s e = absurd (no_none e)
-    go true p true q none r v s e = absurd (no_none e)
+    go true p true q (Some u) r None s e = absurd (no_none e)
+    go true p true q None r v s e = absurd (no_none e)
     go true p false q u r v s e = absurd (no_none e)
     go false p y q u r v s e = absurd (no_none e)
 items_are (a ∷ i ∷ n ∷ k ∷ x ∷ xs) m e = absurd (no_none e)
 
-module _ (l : List ℕ) (m : Mark) (e : read_mark l ≡ some m) where
+module _ (l : List ℕ) (m : Mark) (e : read_mark l ≡ Some m) where
   items_read : Items (items_of l) m
   unfolding read_mark
   items_read = items_are (items_of l) m e

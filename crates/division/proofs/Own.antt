@@ -4,7 +4,7 @@ use Prim.Native.Nat.{ℕ, suc, ◌+◌, ◌*◌, ◌≤◌}
 use native.Mathlib.Omega.{arith}
 use mathlib.Core.Path.{◌≡◌, refl, sym, ap, ◌∙◌, subst}
 use mathlib.Core.Bool.{Bool, true, false}
-use mathlib.Core.Option.{some}
+use Rattle.std.specs.Prelude.{Some}
 use mathlib.Core.List.{List, [], ◌∷◌, ◌++◌, map, append-nil, append_assoc}
 use borrow.Author.Tests.{le-leb}
 use lib.ListN.{length, length-append}
@@ -83,7 +83,7 @@ own_good p o =
     all_append Body p.rows (row_of p ∷ []) (free_bodies p.rows o.rows)
     (mark_body p.mark.ident p.mark.count p.mark.place o.valid o.count o.place, tt)
 
-own_part : (p : Part) → Own p → part_of p.provider (chunk_of p).rows ≡ some p
+own_part : (p : Part) → Own p → part_of p.provider (chunk_of p).rows ≡ Some p
 own_part p o =
     let t : text (row_of p) ≡ mark_line p.mark.ident p.mark.count p.mark.place =
     mark_text p.mark.ident p.mark.count p.mark.place o.valid o.count o.place in
@@ -105,7 +105,7 @@ piece_length p o =
 
 -- ---- all pieces
 
-own_parts : (ps : List Part) → All Own ps → all_parts (map piece_of (map chunk_of ps)) ≡ some ps
+own_parts : (ps : List Part) → All Own ps → all_parts (map piece_of (map chunk_of ps)) ≡ Some ps
 unfolding all_parts
 own_parts [] h = refl
 own_parts (p ∷ ps) (h, t) = rw (own_part p h, own_parts ps t)
@@ -129,7 +129,7 @@ pub record Marked (i p : List ℕ) : Type 0 where
   pub good : All Body rows
   pub bytes : (e : Bool) → p ++ mark e ≡ chunk_bytes (record { provider = provider; rows = rows; ended = e })
   pub part : Part
-  pub is : part_of provider rows ≡ some part
+  pub is : part_of provider rows ≡ Some part
   pub ident : part.mark.ident ≡ i
 
 own_ended : (p : Part) (e : Bool) → bytes_of p ++ mark e ≡ chunk_bytes (record { provider = p.provider; rows = p.rows ++ (row_of p ∷ []); ended = e })
@@ -207,7 +207,7 @@ join_many [] h = absurd (omega arith)
 join_many (x ∷ []) h = absurd (omega arith)
 join_many (x ∷ y ∷ xs) h = refl
 
-joined_split : (s : List ℕ) (ps : List Piece) (p : Piece) → length s ≤ 131072 → split s ≡ ok ps → join_pieces ps ≡ some p → joined_file s ≡ ok (file_of p)
+joined_split : (s : List ℕ) (ps : List Piece) (p : Piece) → length s ≤ 131072 → split s ≡ ok ps → join_pieces ps ≡ Some p → joined_file s ≡ ok (file_of p)
 unfolding joined_file
 joined_split s ps p h e j = rw (le-leb (length s) 131072 h, e, j)
 
@@ -217,7 +217,7 @@ join_file_lem s w b e r = rw (e, r)
 
 -- pieces that are numbered 1 to n, in any order
 module _ (d : Bool) (i : List ℕ) (ys : List (List (List ℕ))) (v : valid_id i ≡ true) (two : 2 ≤ length ys) (most : length ys ≤ 999) (a : All AllFree ys) where
-  join_own : (ps : List Part) → Perm (parts d i (length ys) 1 ys) ps → join_pieces (map piece_of (map chunk_of ps)) ≡ some (record { provider = d; rows = concat ys })
+  join_own : (ps : List Part) → Perm (parts d i (length ys) 1 ys) ps → join_pieces (map piece_of (map chunk_of ps)) ≡ Some (record { provider = d; rows = concat ys })
   join_own ps w =
       let o : All Own ps = perm_all Own w (parts_own d i (length ys) 1 ys v most (omega arith) a) in
       let l : length ps ≡ length ys = perm_length w ∙ parts_length d i (length ys) 1 ys in
@@ -275,7 +275,7 @@ module _ (f i : List ℕ) (b : Notebook) (c : ℕ) (e : read_file f ≡ ok b) wh
   unfolding join_pieces file_of write_file
   restore_whole =
       let n : flat (write_file b ∷ []) ≡ write_file b = append-nil (write_file b) in
-      let j : join_pieces (piece_of only ∷ []) ≡ some (piece_of only) = rw (free_unmarked ls all_free) in
+      let j : join_pieces (piece_of only ∷ []) ≡ Some (piece_of only) = rw (free_unmarked ls all_free) in
       let q : joined_file (write_file b) ≡ ok (write_file b) =
       joined_split (write_file b) (piece_of only ∷ []) (piece_of only) (omega (arith, written_small f b e)) split_whole j in
       ap join_file n ∙ join_file_lem (write_file b) (write_file b) b q (written_carries f b e)
@@ -331,18 +331,18 @@ module _ (f i : List ℕ) (b : Notebook) (c : ℕ) (e : read_file f ≡ ok b) wh
 
   by_plan : (P : List (List ℕ) → Type 0) → (13 + total length ls ≤ c → P (write_file b ∷ []))
       → ((xs : List (List (List ℕ))) → Divides length c ls xs → P (map bytes_of (parts b.provider i (length xs) 1 xs)))
-      → (ps : List (List ℕ)) → cutting i c b ≡ some ps → P ps
+      → (ps : List (List ℕ)) → cutting i c b ≡ Some ps → P ps
   unfolding cutting
   by_plan P single several ps k = go (plan length c ls) (plan_good length c ls) k
     where
-      go : (p : Plan (List ℕ)) → Planned length c ls p → planned i b p ≡ some ps → P ps
+      go : (p : Plan (List ℕ)) → Planned length c ls p → planned i b p ≡ Some ps → P ps
       go in_one h q = subst P (some_inj q) (single h)
       go (divided xs) h q = subst P (sym (numbered_bytes b.provider i (length xs) 1 xs) ∙ some_inj q) (several xs h)
       go no_plan h q = absurd (no_none q)
 
   module _ (v : valid_id i ≡ true) where
     -- PIECES OF MORE THAN ONE have the ID
-    pub marked : (ps : List (List ℕ)) → cutting i c b ≡ some ps → 2 ≤ length ps → All (Marked i) ps
+    pub marked : (ps : List (List ℕ)) → cutting i c b ≡ Some ps → 2 ≤ length ps → All (Marked i) ps
     marked = by_plan (λ ps. 2 ≤ length ps → All (Marked i) ps) (λ h l. absurd (omega (arith, l))) several
       where
         several : (xs : List (List (List ℕ))) → Divides length c ls xs → 2 ≤ length (map bytes_of (parts b.provider i (length xs) 1 xs))
@@ -352,11 +352,11 @@ module _ (f i : List ℕ) (b : Notebook) (c : ℕ) (e : read_file f ≡ ok b) wh
             (all_map (Alike b.provider i (length xs)) (λ p. p.mark.ident ≡ i) (λ p a. a.ident) (own v xs g) (parts_alike b.provider i (length xs) 1 xs))
 
     -- WHAT CUTTING FINDS IS SOUND
-    pub sound : (g : List ℕ) → CarrySame (write_file b) g → (ps : List (List ℕ)) → cutting i c b ≡ some ps → Sound g c ps
+    pub sound : (g : List ℕ) → CarrySame (write_file b) g → (ps : List (List ℕ)) → cutting i c b ≡ Some ps → Sound g c ps
     sound g s = by_plan (Sound g c) (sound_whole g s) (λ xs d. sound_split v xs d g s)
 
     -- IN ANY ORDER it is joined to the notebook's file
-    pub restores : (ps qs : List (List ℕ)) → cutting i c b ≡ some ps → Perm ps qs → join_file (flat qs) ≡ ok (write_file b)
+    pub restores : (ps qs : List (List ℕ)) → cutting i c b ≡ Some ps → Perm ps qs → join_file (flat qs) ≡ ok (write_file b)
     restores ps qs k = by_plan (λ ps. Perm ps qs → join_file (flat qs) ≡ ok (write_file b)) single several ps k
       where
         single : 13 + total length ls ≤ c → Perm (write_file b ∷ []) qs → join_file (flat qs) ≡ ok (write_file b)

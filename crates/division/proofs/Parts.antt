@@ -4,7 +4,7 @@ use Prim.Native.Nat.{ℕ, zero, suc, ◌+◌, ◌≤◌, ◌<◌}
 use native.Mathlib.Omega.{arith}
 use mathlib.Core.Path.{◌≡◌, refl, sym, ap, ◌∙◌, subst}
 use mathlib.Core.Bool.{Bool, true, false, cond, not, ◌&&◌, beq}
-use mathlib.Core.Option.{Option, none, some}
+use Rattle.std.specs.Prelude.{Option, Some, None}
 use mathlib.Core.List.{List, [], ◌∷◌, ◌++◌, append_assoc}
 use borrow.Author.Tests.{eqb-true, eqb-false, eq-eqb, ne_eqb, leb-true, le-leb}
 use lib.Dec.{leb, eqb}
@@ -22,10 +22,10 @@ use Rattle.division.specs.Orders.{Insert, here, there, Perm, nil, cons}
 use Rattle.division.proofs.Orders.{all_append, all_map}
 use Rattle.division.proofs.Chunks.{flat_append}
 
-pub no_none : {A : Type 0} {a : A} → ◌≡◌ {A = Option A} none (some a) → ⊥
+pub no_none : {A : Type 0} {a : A} → ◌≡◌ {A = Option A} None (Some a) → ⊥
 no_none e = let z : ◌≡◌ {A = ℕ} 0 1 = cc in omega arith
 
-pub some_inj : {A : Type 0} {a b : A} → some a ≡ some b → a ≡ b
+pub some_inj : {A : Type 0} {a b : A} → Some a ≡ Some b → a ≡ b
 some_inj e = cc
 
 -- ---- the order does not matter
@@ -33,9 +33,9 @@ some_inj e = cc
 -- no two places are equal
 abbrev Distinct : List Part → Type 0
 Distinct [] = Unit {0}
-Distinct (p ∷ ps) = (find_part p.mark.place ps ≡ none) × Distinct ps
+Distinct (p ∷ ps) = (find_part p.mark.place ps ≡ None) × Distinct ps
 
-find_hit : (k : ℕ) (p : Part) (ps : List Part) → p.mark.place ≡ k → find_part k (p ∷ ps) ≡ some p
+find_hit : (k : ℕ) (p : Part) (ps : List Part) → p.mark.place ≡ k → find_part k (p ∷ ps) ≡ Some p
 unfolding find_part
 find_hit k p ps h = rw (eq-eqb p.mark.place k h)
 
@@ -51,11 +51,11 @@ insert_other {p} k (there {x = q} {xs = qs} {l = l} i) h = go (eqb q.mark.place 
     go true e ih = find_hit k q l (eqb-true _ _ e) ∙ sym (find_hit k q qs (eqb-true _ _ e))
     go false e ih = find_miss k q l (eqb-false _ _ e) ∙ ih ∙ sym (find_miss k q qs (eqb-false _ _ e))
 
-insert_found : {p : Part} {ps l : List Part} (k : ℕ) → Insert p ps l → p.mark.place ≡ k → find_part k ps ≡ none → find_part k l ≡ some p
+insert_found : {p : Part} {ps l : List Part} (k : ℕ) → Insert p ps l → p.mark.place ≡ k → find_part k ps ≡ None → find_part k l ≡ Some p
 insert_found {p} k (here {xs = ps}) h n = find_hit k p ps h
 insert_found {p} k (there {x = q} {xs = qs} {l = l} i) h n = go (eqb q.mark.place k) refl (insert_found k i h)
   where
-    go : (b : Bool) → eqb q.mark.place k ≡ b → (find_part k qs ≡ none → find_part k l ≡ some p) → find_part k (q ∷ l) ≡ some p
+    go : (b : Bool) → eqb q.mark.place k ≡ b → (find_part k qs ≡ None → find_part k l ≡ Some p) → find_part k (q ∷ l) ≡ Some p
     go true e ih = absurd (no_none (sym n ∙ find_hit k q qs (eqb-true _ _ e)))
     go false e ih = find_miss k q l (eqb-false _ _ e) ∙ ih (sym (find_miss k q qs (eqb-false _ _ e)) ∙ n)
 
@@ -66,7 +66,7 @@ find_perm k (cons {a = p} {xs = ps} {ys = ys} {l = l} i w) (n, d) = go (eqb p.ma
     go : (b : Bool) → eqb p.mark.place k ≡ b → find_part k ys ≡ find_part k ps → find_part k l ≡ find_part k (p ∷ ps)
     go true e ih =
         let q : p.mark.place ≡ k = eqb-true _ _ e in
-        insert_found k i q (ih ∙ subst (λ (z : ℕ). find_part z ps ≡ none) q n) ∙ sym (find_hit k p ps q)
+        insert_found k i q (ih ∙ subst (λ (z : ℕ). find_part z ps ≡ None) q n) ∙ sym (find_hit k p ps q)
     go false e ih = insert_other k i (eqb-false _ _ e) ∙ ih ∙ sym (find_miss k p ps (eqb-false _ _ e))
 
 pub gather_perm : {ps qs : List Part} (n k : ℕ) → Perm ps qs → Distinct ps → gather qs n k ≡ gather ps n k
@@ -85,7 +85,7 @@ parts d i n k [] = []
 parts d i n k (x ∷ xs) = part d i n k x ∷ parts d i n (suc k) xs
 
 module _ (d : Bool) (i : List ℕ) (n : ℕ) where
-  find_later : (xs : List (List (List ℕ))) (j k : ℕ) → j < k → find_part j (parts d i n k xs) ≡ none
+  find_later : (xs : List (List (List ℕ))) (j k : ℕ) → j < k → find_part j (parts d i n k xs) ≡ None
   unfolding find_part
   find_later [] j k h = refl
   find_later (x ∷ xs) j k h =
@@ -103,19 +103,19 @@ module _ (d : Bool) (i : List ℕ) (n : ℕ) where
   find_past (p ∷ ps) qs k (h, t) = find_miss k p (ps ++ qs) (λ e. omega arith) ∙ find_past ps qs k t
 
   gather_from : (xs : List (List (List ℕ))) (ps : List Part) (k : ℕ) → All (Before k) ps
-      → gather (ps ++ parts d i n k xs) (length xs) k ≡ some (concat xs)
+      → gather (ps ++ parts d i n k xs) (length xs) k ≡ Some (concat xs)
   unfolding gather concat
   gather_from [] ps k h = refl
   gather_from (x ∷ xs) ps k h =
       let p : Part = part d i n k x in
       let a : All (Before (suc k)) (ps ++ (p ∷ [])) =
       all_append (Before (suc k)) ps (p ∷ []) (all_map (Before k) (Before (suc k)) (λ p h. omega arith) ps h) (omega arith, tt) in
-      let later : gather (ps ++ parts d i n k (x ∷ xs)) (length xs) (suc k) ≡ some (concat xs) =
-      subst (λ (z : List Part). gather z (length xs) (suc k) ≡ some (concat xs)) (append_assoc ps (p ∷ []) (parts d i n (suc k) xs))
+      let later : gather (ps ++ parts d i n k (x ∷ xs)) (length xs) (suc k) ≡ Some (concat xs) =
+      subst (λ (z : List Part). gather z (length xs) (suc k) ≡ Some (concat xs)) (append_assoc ps (p ∷ []) (parts d i n (suc k) xs))
       (gather_from xs (ps ++ (p ∷ [])) (suc k) a) in
       rw (find_past ps (parts d i n k (x ∷ xs)) k h ∙ find_hit k p (parts d i n (suc k) xs) refl, later)
 
-  pub gather_parts : (xs : List (List (List ℕ))) → gather (parts d i n 1 xs) (length xs) 1 ≡ some (concat xs)
+  pub gather_parts : (xs : List (List (List ℕ))) → gather (parts d i n 1 xs) (length xs) 1 ≡ Some (concat xs)
   gather_parts xs = gather_from xs [] 1 tt
 
 -- ---- parts that are alike are joined
@@ -150,13 +150,13 @@ agree_alike d i n p (q ∷ qs) h (g, t) =
     rw (same_way p.provider q.provider a, s, eq-eqb p.mark.count q.mark.count c, agree_alike d i n p qs h t)
 
 pub join_alike : (d : Bool) (i : List ℕ) (n : ℕ) (ps : List Part) (ls : List (List ℕ)) → All (Alike d i n) ps → 2 ≤ n → length ps ≡ n
-    → gather ps n 1 ≡ some ls → join_parts (some ps) ≡ some (record { provider = d; rows = ls })
+    → gather ps n 1 ≡ Some ls → join_parts (Some ps) ≡ Some (record { provider = d; rows = ls })
 join_alike d i n [] ls a h l g = absurd (omega arith)
 join_alike d i n (p ∷ ps) ls a h l g =
     let c : p.mark.count ≡ n = a.0.count in
-    let g' : gather (p ∷ ps) p.mark.count 1 ≡ some ls = subst (λ (z : ℕ). gather (p ∷ ps) z 1 ≡ some ls) (sym c) g in
+    let g' : gather (p ∷ ps) p.mark.count 1 ≡ Some ls = subst (λ (z : ℕ). gather (p ∷ ps) z 1 ≡ Some ls) (sym c) g in
     rw (agree_alike d i n p ps a.0 a.1, le-leb 2 p.mark.count (omega arith), eq-eqb (suc (length ps)) p.mark.count (l ∙ sym c), g')
-    (ap (λ (z : Bool). some (record { provider = z; rows = ls })) a.0.way)
+    (ap (λ (z : Bool). Some (record { provider = z; rows = ls })) a.0.way)
 
 -- ---- what the joined rows say of the pieces
 
@@ -183,12 +183,12 @@ record Found (k : ℕ) (ps : List Part) (p : Part) : Type 0 where
   others : List Part
   insert : Insert p others ps
 
-found : (k : ℕ) (ps : List Part) (p : Part) → find_part k ps ≡ some p → Found k ps p
+found : (k : ℕ) (ps : List Part) (p : Part) → find_part k ps ≡ Some p → Found k ps p
 unfolding find_part
 found k [] p e = absurd (no_none e)
 found k (q ∷ qs) p e = go (eqb q.mark.place k) refl (found k qs p) e
   where
-    go : (b : Bool) → eqb q.mark.place k ≡ b → (find_part k qs ≡ some p → Found k qs p) → cond b (some q) (find_part k qs) ≡ some p → Found k (q ∷ qs) p
+    go : (b : Bool) → eqb q.mark.place k ≡ b → (find_part k qs ≡ Some p → Found k qs p) → cond b (Some q) (find_part k qs) ≡ Some p → Found k (q ∷ qs) p
     go true r ih e = subst (Found k (q ∷ qs)) (some_inj e) (record { place = eqb-true _ _ r; others = qs; insert = here })
     go false r ih e = let f : Found k qs p = ih e in record { place = f.place; others = q ∷ f.others; insert = there f.insert }
 
@@ -199,21 +199,21 @@ insert_holds P (there i) (h, t) = insert_holds P i t
 -- the part at k, and the rows after it
 record Step (ps : List Part) (n k : ℕ) (ls : List (List ℕ)) : Type 0 where
   part : Part
-  found : find_part k ps ≡ some part
+  found : find_part k ps ≡ Some part
   rest : List (List ℕ)
-  gathered : gather ps n (suc k) ≡ some rest
+  gathered : gather ps n (suc k) ≡ Some rest
   all : part.rows ++ rest ≡ ls
 
-step : (ps : List Part) (n k : ℕ) (ls : List (List ℕ)) → gather ps (suc n) k ≡ some ls → Step ps n k ls
+step : (ps : List Part) (n k : ℕ) (ls : List (List ℕ)) → gather ps (suc n) k ≡ Some ls → Step ps n k ls
 unfolding gather
 step ps n k ls e = go (find_part k ps) refl (gather ps n (suc k)) refl e
   where
-    go : (m : Option Part) → find_part k ps ≡ m → (g : Option (List (List ℕ))) → gather ps n (suc k) ≡ g → rows_of_part m g ≡ some ls → Step ps n k ls
-    go none p g q e = absurd (no_none e)
-    go (some x) p none q e = absurd (no_none e)
-    go (some x) p (some g) q e = record { part = x; found = p; rest = g; gathered = q; all = some_inj e }
+    go : (m : Option Part) → find_part k ps ≡ m → (g : Option (List (List ℕ))) → gather ps n (suc k) ≡ g → rows_of_part m g ≡ Some ls → Step ps n k ls
+    go None p g q e = absurd (no_none e)
+    go (Some x) p None q e = absurd (no_none e)
+    go (Some x) p (Some g) q e = record { part = x; found = p; rest = g; gathered = q; all = some_inj e }
 
-pub gather_runs : (P : Part → Type 0) (ps : List Part) → All P ps → (n k : ℕ) (ls : List (List ℕ)) → gather ps n k ≡ some ls → Gathered P n k ls
+pub gather_runs : (P : Part → Type 0) (ps : List Part) → All P ps → (n k : ℕ) (ls : List (List ℕ)) → gather ps n k ≡ Some ls → Gathered P n k ls
 unfolding gather concat
 gather_runs P ps a zero k ls e = record { runs = []; all = some_inj e; many = refl; each = tt }
 gather_runs P ps a (suc n) k ls e =
@@ -249,7 +249,7 @@ insert_size : {p : Part} {qs ps : List Part} → Insert p qs ps → length ps �
 insert_size here = refl
 insert_size (there i) = ap suc (insert_size i)
 
-pub each_once : (n k : ℕ) (ps : List Part) (ls : List (List ℕ)) → length ps ≡ n → gather ps n k ≡ some ls → EachOnce k ps
+pub each_once : (n k : ℕ) (ps : List Part) (ls : List (List ℕ)) → length ps ≡ n → gather ps n k ≡ Some ls → EachOnce k ps
 each_once zero k [] ls l e = record { sorted = []; places = tt; order = nil }
 each_once zero k (p ∷ ps) ls l e = absurd (omega arith)
 each_once (suc n) k ps ls l e =
@@ -265,32 +265,32 @@ each_once (suc n) k ps ls l e =
 pub record IsPart (d : Bool) (rs : List (List ℕ)) (p : Part) : Type 0 where
   pub last : List ℕ
   pub shape : rs ≡ p.rows ++ (last ∷ [])
-  pub marked : read_mark (text last) ≡ some p.mark
+  pub marked : read_mark (text last) ≡ Some p.mark
   pub way : p.provider ≡ d
 
-pub part_is : (d : Bool) (rs : List (List ℕ)) (p : Part) → part_of d rs ≡ some p → IsPart d rs p
+pub part_is : (d : Bool) (rs : List (List ℕ)) (p : Part) → part_of d rs ≡ Some p → IsPart d rs p
 unfolding part_of
 part_is d [] p e = absurd (no_none e)
 part_is d (r ∷ rs) p e = go (is_mark (text r)) (part_is d rs) e
   where
-    ends : (us : List (List ℕ)) (m : Option Mark) → read_mark (text r) ≡ m → last_mark d us m ≡ some p → IsPart d (r ∷ us) p
-    ends [] none q f = absurd (no_none f)
-    ends [] (some m) q f = subst (IsPart d (r ∷ [])) (some_inj f) (record { last = r; shape = refl; marked = q; way = refl })
+    ends : (us : List (List ℕ)) (m : Option Mark) → read_mark (text r) ≡ m → last_mark d us m ≡ Some p → IsPart d (r ∷ us) p
+    ends [] None q f = absurd (no_none f)
+    ends [] (Some m) q f = subst (IsPart d (r ∷ [])) (some_inj f) (record { last = r; shape = refl; marked = q; way = refl })
     ends (u ∷ us) m q f = absurd (no_none f)
 
-    later : (m : Option Part) → ((q : Part) → m ≡ some q → IsPart d rs q) → row_before r m ≡ some p → IsPart d (r ∷ rs) p
-    later none ih f = absurd (no_none f)
-    later (some q) ih f =
+    later : (m : Option Part) → ((q : Part) → m ≡ Some q → IsPart d rs q) → row_before r m ≡ Some p → IsPart d (r ∷ rs) p
+    later None ih f = absurd (no_none f)
+    later (Some q) ih f =
         let s : IsPart d rs q = ih q refl in
         subst (IsPart d (r ∷ rs)) (some_inj f) (record { last = s.last; shape = ap (λ (y : List (List ℕ)). r ∷ y) s.shape; marked = s.marked; way = s.way })
 
-    go : (b : Bool) → ((q : Part) → part_of d rs ≡ some q → IsPart d rs q) → cond b (last_mark d rs (read_mark (text r))) (row_before r (part_of d rs)) ≡ some p
+    go : (b : Bool) → ((q : Part) → part_of d rs ≡ Some q → IsPart d rs q) → cond b (last_mark d rs (read_mark (text r))) (row_before r (part_of d rs)) ≡ Some p
         → IsPart d (r ∷ rs) p
     go true ih f = ends rs (read_mark (text r)) refl f
     go false ih f = later (part_of d rs) ih f
 
-pub part_of_lem : (d : Bool) (rs : List (List ℕ)) (l : List ℕ) (m : Mark) → unmarked rs ≡ true → is_mark (text l) ≡ true → read_mark (text l) ≡ some m
-    → part_of d (rs ++ (l ∷ [])) ≡ some (record { provider = d; mark = m; rows = rs })
+pub part_of_lem : (d : Bool) (rs : List (List ℕ)) (l : List ℕ) (m : Mark) → unmarked rs ≡ true → is_mark (text l) ≡ true → read_mark (text l) ≡ Some m
+    → part_of d (rs ++ (l ∷ [])) ≡ Some (record { provider = d; mark = m; rows = rs })
 unfolding part_of unmarked
 part_of_lem d [] l m u i e = rw (i, e)
 part_of_lem d (r ∷ rs) l m u i e =
@@ -302,16 +302,16 @@ pub data PartsOf : List Piece → List Part → Type 0 where
   over : PartsOf [] []
   more : {x : Piece} {p : Part} {xs : List Piece} {ps : List Part} → IsPart x.provider x.rows p → PartsOf xs ps → PartsOf (x ∷ xs) (p ∷ ps)
 
-pub parts_are : (xs : List Piece) (ps : List Part) → all_parts xs ≡ some ps → PartsOf xs ps
+pub parts_are : (xs : List Piece) (ps : List Part) → all_parts xs ≡ Some ps → PartsOf xs ps
 unfolding all_parts
 parts_are [] ps e = subst (PartsOf []) (some_inj e) over
 parts_are (x ∷ xs) ps e = go (part_of x.provider x.rows) refl (all_parts xs) refl (parts_are xs) e
   where
     go : (m : Option Part) → part_of x.provider x.rows ≡ m → (us : Option (List Part)) → all_parts xs ≡ us
-        → ((us : List Part) → all_parts xs ≡ some us → PartsOf xs us) → part_with m us ≡ some ps → PartsOf (x ∷ xs) ps
-    go none p us q ih e = absurd (no_none e)
-    go (some y) p none q ih e = absurd (no_none e)
-    go (some y) p (some us) q ih e = subst (PartsOf (x ∷ xs)) (some_inj e) (more (part_is x.provider x.rows y p) (ih us q))
+        → ((us : List Part) → all_parts xs ≡ Some us → PartsOf xs us) → part_with m us ≡ Some ps → PartsOf (x ∷ xs) ps
+    go None p us q ih e = absurd (no_none e)
+    go (Some y) p None q ih e = absurd (no_none e)
+    go (Some y) p (Some us) q ih e = subst (PartsOf (x ∷ xs)) (some_inj e) (more (part_is x.provider x.rows y p) (ih us q))
 
 -- ---- what parts that are joined have in common
 
@@ -322,7 +322,7 @@ pub record Joined (ps : List Part) (w : Piece) : Type 0 where
   pub alike : All (λ p. p.mark.count ≡ count) ps
   pub two : 2 ≤ count
   pub many : length ps ≡ count
-  pub gathered : gather ps count 1 ≡ some w.rows
+  pub gathered : gather ps count 1 ≡ Some w.rows
 
 agree_marks : (p : Part) (qs : List Part) → agree p qs ≡ true
     → All (λ q. q.mark.ident ≡ p.mark.ident) qs × All (λ q. q.mark.count ≡ p.mark.count) qs
@@ -335,16 +335,16 @@ agree_marks p (q ∷ qs) e =
     let t = agree_marks p qs a.1 in
     ((sym (same_true _ _ c.0), t.0), (sym (eqb-true _ _ c.1), t.1))
 
-whole_rows : (d : Bool) (m : Option (List (List ℕ))) (w : Piece) → one_piece d m ≡ some w → m ≡ some w.rows
-whole_rows d none w e = absurd (no_none e)
-whole_rows d (some rs) w e = ap (λ (x : Piece). some x.rows) (some_inj e)
+whole_rows : (d : Bool) (m : Option (List (List ℕ))) (w : Piece) → one_piece d m ≡ Some w → m ≡ Some w.rows
+whole_rows d None w e = absurd (no_none e)
+whole_rows d (Some rs) w e = ap (λ (x : Piece). Some x.rows) (some_inj e)
 
-pub parts_joined : (ps : List Part) (w : Piece) → join_parts (some ps) ≡ some w → Joined ps w
+pub parts_joined : (ps : List Part) (w : Piece) → join_parts (Some ps) ≡ Some w → Joined ps w
 parts_joined [] w e = absurd (no_none e)
 parts_joined (p ∷ ps) w e = go (agree p ps && (leb 2 p.mark.count && eqb (suc (length ps)) p.mark.count)) refl e
   where
     go : (b : Bool) → agree p ps && (leb 2 p.mark.count && eqb (suc (length ps)) p.mark.count) ≡ b
-        → cond b (one_piece p.provider (gather (p ∷ ps) p.mark.count 1)) none ≡ some w → Joined (p ∷ ps) w
+        → cond b (one_piece p.provider (gather (p ∷ ps) p.mark.count 1)) None ≡ Some w → Joined (p ∷ ps) w
     go false q e = absurd (no_none e)
     go true q e =
         let a = both (agree p ps) (leb 2 p.mark.count && eqb (suc (length ps)) p.mark.count) q in
@@ -361,7 +361,7 @@ parts_joined (p ∷ ps) w e = go (agree p ps && (leb 2 p.mark.count && eqb (suc 
         }
 
 -- parts that are joined have the places 1 to n, each once
-pub set_once : (ps : List Part) (w : Piece) → join_parts (some ps) ≡ some w → EachOnce 1 ps
+pub set_once : (ps : List Part) (w : Piece) → join_parts (Some ps) ≡ Some w → EachOnce 1 ps
 set_once ps w e = let j : Joined ps w = parts_joined ps w e in each_once j.count 1 ps w.rows j.many j.gathered
 
 -- ---- the joined rows are no longer than those of the pieces
@@ -376,7 +376,7 @@ insert_bytes here = refl
 insert_bytes (there i) = omega (arith, insert_bytes i)
 
 -- a piece that was found is not found again
-pub gather_bytes : (n k : ℕ) (ps : List Part) (ls : List (List ℕ)) → gather ps n k ≡ some ls → length (flat ls) ≤ bytes_in ps
+pub gather_bytes : (n k : ℕ) (ps : List Part) (ls : List (List ℕ)) → gather ps n k ≡ Some ls → length (flat ls) ≤ bytes_in ps
 unfolding gather
 gather_bytes zero k ps ls e = omega (arith, ap (λ (z : List (List ℕ)). length (flat z)) (some_inj e))
 gather_bytes (suc n) k ps ls e =

@@ -2,12 +2,11 @@
 -- Document 01's cases marked ●, in its order, as one list: what is asked, and what the paper says to it. `answer` asks the definitions that
 -- the contracts of the exported calls cite; proofs/Cases.antt shows that it says the same, for all of them at once.
 -- Another kind of case is a constructor of `Asked`, its line in `answer`, and a constructor of `Said` where none of these fits.
-use Rattle.std.specs.Prelude.{ℕ, zero, suc, List, [], ◌∷◌, ◌++◌, length, replicate}
+use Rattle.std.specs.Prelude.{ℕ, zero, suc, List, [], ◌∷◌, ◌++◌, Option, Some, None, length, replicate}
 use Prim.Native.String.{String}
 use Rattle.lists.specs.Lists.{bytes}
 use Rattle.characters.specs.Rows.{line_end}
-use Rattle.calendar.specs.declared.DateRead.{DateRead}
-use Rattle.calendar.specs.declared.DateRead.TheVariants.{Date, NotADate}
+use Rattle.calendar.specs.declared.Day.{Day}
 use Rattle.calendar.specs.Era.{read_day}
 use Rattle.eras.specs.Era.{write_day}
 use Rattle.records.specs.Table.{Kind, Q, D}
@@ -99,9 +98,9 @@ cases =
 
 -- ---- what the definitions say
 
-abbrev pub dated : DateRead → Said
-dated (Date d) = day d.ymd (write_day d.ymd)
-dated NotADate = no_day
+abbrev pub dated : Option Day → Said
+dated (Some d) = day d.ymd (write_day d.ymd)
+dated None = no_day
 
 -- an output of a thousand bytes
 abbrev pub thousand : List ℕ

@@ -2,8 +2,7 @@
 -- The call cut. Document 01, "Cutting and joining": "Piece k is line 1, a run of canonical records, and 911,ID,n,k"; "Pieces are written one
 -- after another; the result holds their count and total length"; "Cutting: 1–16, 17, 18, 20". Document 02 (vii): "Cutting now also takes the used
 -- IDs"; 24 "after 17 and before 18".
-use Rattle.std.specs.Prelude.{ℕ, suc, Bool, cond, List, [], ◌∷◌, ◌++◌, length}
-use Rattle.std.proofs.Math.Option.{Option, none, some}
+use Rattle.std.specs.Prelude.{ℕ, suc, Bool, cond, List, [], ◌∷◌, ◌++◌, Option, Some, None, length}
 use Rattle.lists.specs.Lists.{Res, ok, refused, map_res, and_then}
 use Rattle.characters.specs.Rows.{flat}
 use Rattle.notebook.specs.Notebook.{Notebook, read_file}
@@ -27,9 +26,9 @@ numbered provider id n k (x ∷ xs) = piece_bytes provider id n k x ∷ numbered
 
 -- "If the canonical file fits the capacity, it is the only piece. Otherwise the pieces number n"
 abbrev pub planned : List ℕ → Notebook → Plan (List ℕ) → Option (List (List ℕ))
-planned id b in_one = some (write_file b ∷ [])
-planned id b (in_runs xs) = some (numbered b.provider id (length xs) 1 xs)
-planned id b no_plan = none
+planned id b in_one = Some (write_file b ∷ [])
+planned id b (in_runs xs) = Some (numbered b.provider id (length xs) 1 xs)
+planned id b no_plan = None
 
 -- the list of pieces of a notebook whose records stand as they are, for an ID and a capacity; none where no width serves
 unfoldable pub cutting : List ℕ → ℕ → Notebook → Option (List (List ℕ))
@@ -38,8 +37,8 @@ cutting id c b = planned id b (plan length c (record_rows b.records))
 -- ---- the list that is written, or a refusal: the file's, then 17, then 24, then 18
 
 abbrev pub listed : Option (List (List ℕ)) → Res (List (List ℕ))
-listed none = refused 18 0
-listed (some ps) = ok ps
+listed None = refused 18 0
+listed (Some ps) = ok ps
 
 -- 17, then 24, then what follows; digits: the ID is 14 digits, passes: 24 lets it pass
 abbrev pub for_id : {A : Type 0} → Bool → Bool → Res A → Res A

@@ -1,8 +1,7 @@
 -- Examples, computed.
 -- Worked examples of cutting and joining, written from document 01: records 911, inputs of joining with what is joined or refused, and the
 -- refusals of cutting. proofs/AllExamples.antt computes them. The marked cases are in Cases.antt.
-use Rattle.std.specs.Prelude.{ℕ, List, [], ◌∷◌, ◌++◌}
-use Rattle.std.proofs.Math.Option.{Option, none, some}
+use Rattle.std.specs.Prelude.{ℕ, List, [], ◌∷◌, ◌++◌, Option, Some, None}
 use Rattle.lists.specs.Lists.{bytes, Res, ok, refused}
 use Rattle.characters.specs.Rows.{line_end, end_mark}
 use Rattle.replies.specs.Replies.{Answer}
@@ -20,7 +19,7 @@ ident = bytes "20261115000001"
 -- ---- records 911: "911,ID,n,k with no leading zeros in n and k"; "n and k have one to three digits"
 
 abbrev pub mark : ℕ → ℕ → Option Mark
-mark n k = some (record { ident = ident; count = n; place = k })
+mark n k = Some (record { ident = ident; count = n; place = k })
 
 abbrev pub mark_lines : List (List ℕ)
 mark_lines =
@@ -35,7 +34,7 @@ mark_lines =
     ∷ []
 
 abbrev pub their_marks : List (Option Mark)
-their_marks = mark 12 3 ∷ mark 12 3 ∷ mark 999 100 ∷ none ∷ none ∷ none ∷ none ∷ none ∷ []
+their_marks = mark 12 3 ∷ mark 12 3 ∷ mark 999 100 ∷ None ∷ None ∷ None ∷ None ∷ None ∷ []
 
 -- ---- joining
 

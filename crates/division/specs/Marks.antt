@@ -1,7 +1,6 @@
 -- Definitions, to be believed.
 -- The record 911 of a piece: `911,ID,n,k`. Document 01, "Cutting and joining"; 15-106 3.2.9, record 911.
-use Rattle.std.specs.Prelude.{ℕ, Bool, cond, ◌&&◌, List, [], ◌∷◌, eqb, length}
-use Rattle.std.proofs.Math.Option.{Option, none, some}
+use Rattle.std.specs.Prelude.{ℕ, Bool, cond, ◌&&◌, List, [], ◌∷◌, Option, Some, None, eqb, length}
 use Rattle.lists.specs.Lists.{all, same}
 use Rattle.digits.specs.Digits.{is_digit, number, spell}
 use Rattle.records.specs.Split.{items_of, joined}
@@ -29,18 +28,18 @@ mark_row i n k = ended (mark_line i n k)
 -- ---- read: "ID (14 digits)", "n and k have one to three digits"; leading zeros are read
 
 abbrev pub marked : List ℕ → Option ℕ → Option ℕ → Option Mark
-marked i none k = none
-marked i (some n) none = none
-marked i (some n) (some k) = some (record { ident = i; count = n; place = k })
+marked i None k = None
+marked i (Some n) None = None
+marked i (Some n) (Some k) = Some (record { ident = i; count = n; place = k })
 
 -- the items of a line: 911 and three more
 abbrev pub mark_of : List (List ℕ) → Option Mark
-mark_of [] = none
-mark_of (a ∷ []) = none
-mark_of (a ∷ i ∷ []) = none
-mark_of (a ∷ i ∷ n ∷ []) = none
-mark_of (a ∷ i ∷ n ∷ k ∷ []) = cond (same a t911 && valid_id i) (marked i (number n) (number k)) none
-mark_of (a ∷ i ∷ n ∷ k ∷ x ∷ xs) = none
+mark_of [] = None
+mark_of (a ∷ []) = None
+mark_of (a ∷ i ∷ []) = None
+mark_of (a ∷ i ∷ n ∷ []) = None
+mark_of (a ∷ i ∷ n ∷ k ∷ []) = cond (same a t911 && valid_id i) (marked i (number n) (number k)) None
+mark_of (a ∷ i ∷ n ∷ k ∷ x ∷ xs) = None
 
 unfoldable pub read_mark : List ℕ → Option Mark
 read_mark l = mark_of (items_of l)

@@ -5,7 +5,7 @@ use native.Mathlib.Omega.{arith}
 use mathlib.Core.Path.{◌≡◌, refl, ap, ap₂, sym, ◌∙◌, subst}
 use mathlib.Core.Logic.{◌⊎◌, inl, inr}
 use mathlib.Core.Bool.{Bool, true, false, cond, not, ◌||◌, false≢true}
-use mathlib.Core.Option.{Option, none, some}
+use Rattle.std.specs.Prelude.{Option, Some, None}
 use mathlib.Core.List.{List, [], ◌∷◌, ◌++◌}
 use lib.Dec.{eqb, leb, eqb-suc-zero}
 use lib.ListN.{length}
@@ -14,8 +14,7 @@ use Rattle.lists.specs.Lists.{empty, all, same, All, Res, ok, refused, ◌or_els
 use Rattle.lists.proofs.Tests.{cond_case, or_zero_lem}
 use Rattle.characters.specs.Text.{text, all_chars}
 use Rattle.characters.specs.Rows.{rows, is_line, end_mark}
-use Rattle.calendar.specs.declared.DateRead.{DateRead}
-use Rattle.calendar.specs.declared.DateRead.TheVariants.{Date, NotADate}
+use Rattle.calendar.specs.declared.Day.{Day}
 use Rattle.calendar.specs.Era.{read_day}
 use Rattle.digits.specs.Digits.{number}
 use Rattle.records.specs.Table.{Kind, N, U, X, K, A, F, C, P, R, W, Q, D, among, Item, required}
@@ -211,15 +210,15 @@ fault_item P s = unless_item (postal s) 11 (omega arith) (omega arith)
 fault_item R s = go (number s)
   where
     go : (o : Option ℕ) → OfItem (number_fault o)
-    go none = λ h. (omega arith, omega arith)
-    go (some n) = unless_item (leb 1 n) 11 (omega arith) (omega arith)
+    go None = λ h. (omega arith, omega arith)
+    go (Some n) = unless_item (leb 1 n) 11 (omega arith) (omega arith)
 fault_item W s = unless_item (is_decimal 3 3 s) 11 (omega arith) (omega arith)
 fault_item Q s = unless_item (is_decimal 6 5 s) 11 (omega arith) (omega arith)
 fault_item D s = go (read_day s)
   where
-    go : (r : DateRead) → OfItem (day_fault r)
-    go (Date d) = λ h. absurd (omega arith)
-    go NotADate = λ h. (omega arith, omega arith)
+    go : (r : Option Day) → OfItem (day_fault r)
+    go (Some d) = λ h. absurd (omega arith)
+    go None = λ h. (omega arith, omega arith)
 fault_item (among ns) s = unless_item (spelled_as ns s) 11 (omega arith) (omega arith)
 
 item_item : (provider : Bool) (i : Item) (s : List ℕ) → OfItem (item_fault provider i s)
@@ -281,15 +280,15 @@ fault_form P s e h = unless_form (postal s) h
 fault_form R s e h = go (number s) h
   where
     go : (o : Option ℕ) → 0 < number_fault o → number_fault o ≡ 11
-    go none h = refl
-    go (some n) h = unless_form (leb 1 n) h
+    go None h = refl
+    go (Some n) h = unless_form (leb 1 n) h
 fault_form W s e h = unless_form (is_decimal 3 3 s) h
 fault_form Q s e h = unless_form (is_decimal 6 5 s) h
 fault_form D s e h = go (read_day s) h
   where
-    go : (r : DateRead) → 0 < day_fault r → day_fault r ≡ 11
-    go (Date d) h = absurd (omega arith)
-    go NotADate h = refl
+    go : (r : Option Day) → 0 < day_fault r → day_fault r ≡ 11
+    go (Some d) h = absurd (omega arith)
+    go None h = refl
 fault_form (among ns) s e h = unless_form (spelled_as ns s) h
 
 pub only_form : OnlyForm

@@ -2,8 +2,7 @@
 -- Worked examples of the grammar, written from document 01: notebooks that meet the conditions, notebooks that break one, and records that no
 -- notebook has. proofs/AllExamples.antt shows that they come out so, of the wrong records
 -- proofs/Examples.antt of verdict.
-use Rattle.std.specs.Prelude.{ℕ, Bool, true, false, List, [], ◌∷◌}
-use Rattle.std.proofs.Math.Option.{Option, none, some}
+use Rattle.std.specs.Prelude.{ℕ, Bool, true, false, List, [], ◌∷◌, Option, Some, None}
 use Rattle.order.specs.declared.Facts.{Facts}
 use Rattle.grammar.specs.Grammar.{Details, Usage, Prescription, Prescriptions, without_doctors, with_doctors, Group, Tree, rec}
 
@@ -33,7 +32,7 @@ abbrev pub rp_with : ℕ → Option Usage → Prescription
 rp_with v u = record { drug = record { r201 = of v; r281s = []; r291s = [] }; drugs = []; usage = u; r391s = [] }
 
 abbrev pub usage : Details → Option Usage
-usage d = some (record { r301 = d; r311s = [] })
+usage d = Some (record { r301 = d; r311s = [] })
 
 -- an RP of one drug and a 301 with a usage name
 abbrev pub rp : ℕ → Prescription
@@ -43,7 +42,7 @@ abbrev pub group : ℕ → Option Details → Option Details → Prescriptions �
 group day eleven fiftyOne ps r401s r411s = record {
   r5 = on day;
   r11 = eleven;
-  r15 = none;
+  r15 = None;
   r51 = fiftyOne;
   prescriptions = ps;
   r401s = r401s;
@@ -57,20 +56,20 @@ notebook first gs = record { r1 = first; r2s = []; r3s = []; r4s = []; groups = 
 
 -- a notebook of direction 1 of one group, and one of direction 2
 abbrev pub dispensed : Group → Tree
-dispensed g = notebook none (g ∷ [])
+dispensed g = notebook None (g ∷ [])
 
 abbrev pub told : List Group → Tree
-told gs = notebook (some plain) gs
+told gs = notebook (Some plain) gs
 
 abbrev pub pharmacy : Prescriptions → Group
-pharmacy ps = group 20160411 (some (with 4)) (some plain) ps [] []
+pharmacy ps = group 20160411 (Some (with 4)) (Some plain) ps [] []
 
 abbrev pub hospital : Prescriptions → Group
-hospital ps = group 20160411 (some (with 1)) none ps [] []
+hospital ps = group 20160411 (Some (with 1)) None ps [] []
 
 -- two RPs under two doctors
 abbrev pub two_doctors : Prescriptions
-two_doctors = with_doctors plain (rp 1) (record { r55 = some plain; prescription = rp 2 } ∷ [])
+two_doctors = with_doctors plain (rp 1) (record { r55 = Some plain; prescription = rp 2 } ∷ [])
 
 abbrev pub no_doctors : Prescriptions
 no_doctors = without_doctors (rp 1 ∷ rp 2 ∷ [])
@@ -81,13 +80,13 @@ abbrev pub cases : List (Bool × (Tree × Bool))
 cases =
     (true, (dispensed (pharmacy two_doctors), true))
     ∷ (true, (dispensed (hospital no_doctors), true))
-    ∷ (true, (dispensed (group 20160411 (some (with 4)) none (without_doctors []) [] (plain ∷ [])), true))
+    ∷ (true, (dispensed (group 20160411 (Some (with 4)) None (without_doctors []) [] (plain ∷ [])), true))
     ∷ (true, (dispensed (pharmacy (without_doctors (rp_with 1 (usage (nameless 1 9)) ∷ []))), true))
     ∷ (true, (dispensed (hospital (without_doctors (rp_with 1 (usage (nameless 1 1)) ∷ []))), true))
-    ∷ (true, (notebook none (hospital no_doctors ∷ hospital no_doctors ∷ []), true))
+    ∷ (true, (notebook None (hospital no_doctors ∷ hospital no_doctors ∷ []), true))
     ∷ (false, (told [], true))
-    ∷ (false, (told (group 20160411 none none (without_doctors (rp_with 1 none ∷ [])) [] [] ∷ []), true))
-    ∷ (false, (told (group 20160411 (some (with 1)) (some plain) two_doctors [] [] ∷ []), true))
+    ∷ (false, (told (group 20160411 None None (without_doctors (rp_with 1 None ∷ [])) [] [] ∷ []), true))
+    ∷ (false, (told (group 20160411 (Some (with 1)) (Some plain) two_doctors [] [] ∷ []), true))
     -- 12: no usage name
     ∷ (true, (dispensed (pharmacy (without_doctors (rp_with 1 (usage (nameless 1 1)) ∷ []))), false))
     ∷ (false, (told (hospital (without_doctors (rp_with 1 (usage (nameless 1 9)) ∷ [])) ∷ []), false))
@@ -96,20 +95,20 @@ cases =
     ∷ (true, (dispensed (hospital (without_doctors (rp 2 ∷ []))), false))
     ∷ (true, (dispensed (hospital (without_doctors (rp_with 1 (usage (used 2)) ∷ []))), false))
     -- 16: the second group is newer
-    ∷ (true, (notebook none (hospital no_doctors ∷ group 20160412 (some (with 1)) none no_doctors [] [] ∷ []), false))
+    ∷ (true, (notebook None (hospital no_doctors ∷ group 20160412 (Some (with 1)) None no_doctors [] [] ∷ []), false))
     -- 14 and 13 of direction 1: no group; no 11; an RP without 301; 51 or 55 of a hospital; no 51 of a pharmacy; a 51 and no RP after it; no
     -- RP and no 411; no RP and a 401
     ∷ (true, (told [], false))
-    ∷ (true, (dispensed (group 20160411 none none no_doctors [] []), false))
-    ∷ (true, (dispensed (hospital (without_doctors (rp_with 1 none ∷ []))), false))
-    ∷ (true, (dispensed (group 20160411 (some (with 3)) (some plain) no_doctors [] []), false))
+    ∷ (true, (dispensed (group 20160411 None None no_doctors [] []), false))
+    ∷ (true, (dispensed (hospital (without_doctors (rp_with 1 None ∷ []))), false))
+    ∷ (true, (dispensed (group 20160411 (Some (with 3)) (Some plain) no_doctors [] []), false))
     ∷ (true, (dispensed (hospital two_doctors), false))
-    ∷ (true, (dispensed (group 20160411 (some (with 4)) none two_doctors [] []), false))
-    ∷ (true, (dispensed (group 20160411 (some (with 4)) (some plain) (without_doctors []) [] (plain ∷ [])), false))
+    ∷ (true, (dispensed (group 20160411 (Some (with 4)) None two_doctors [] []), false))
+    ∷ (true, (dispensed (group 20160411 (Some (with 4)) (Some plain) (without_doctors []) [] (plain ∷ [])), false))
     ∷ (true, (dispensed (hospital (without_doctors [])), false))
-    ∷ (true, (dispensed (group 20160411 (some (with 1)) none (without_doctors []) (plain ∷ []) (plain ∷ [])), false))
+    ∷ (true, (dispensed (group 20160411 (Some (with 1)) None (without_doctors []) (plain ∷ []) (plain ∷ [])), false))
     -- 14 of direction 2: no record 1
-    ∷ (false, (notebook none [], false))
+    ∷ (false, (notebook None [], false))
     ∷ []
 
 -- ---- records
@@ -136,21 +135,21 @@ abbrev pub whole_rp : Prescription
 whole_rp = record {
   drug = record { r201 = of 1; r281s = twice 1; r291s = twice 1 };
   drugs = (rp 1).drug ∷ [];
-  usage = some (record { r301 = used 1; r311s = twice 1 });
+  usage = Some (record { r301 = used 1; r311s = twice 1 });
   r391s = twice 1;
 }
 
 abbrev pub every_record : Tree
 every_record = record {
-  r1 = some plain;
+  r1 = Some plain;
   r2s = twice 0;
   r3s = twice 0;
   r4s = twice 0;
   groups = record {
     r5 = on 20160411;
-    r11 = some (with 4);
-    r15 = some plain;
-    r51 = some plain;
+    r11 = Some (with 4);
+    r15 = Some plain;
+    r51 = Some plain;
     prescriptions = with_doctors plain whole_rp [];
     r401s = twice 0;
     r411s = twice 0;

@@ -4,8 +4,7 @@
 -- wholes that name them; the conditions are in document 01's order. Two of its sentences need no line: "A 201 with another value than the open
 -- RP begins a new RP; so does any 201 after a 301 or 391" and what closes a part. They tell where a fault stands, and in a notebook without
 -- fault they follow from the pattern and the values.
-use Rattle.std.specs.Prelude.{ℕ, ◌+◌, ◌≡◌, Bool, true, false, not, ◌&&◌, ◌||◌, List, [], ◌∷◌, leb, eqb}
-use Rattle.std.proofs.Math.Option.{Option, none, some}
+use Rattle.std.specs.Prelude.{ℕ, ◌+◌, ◌≡◌, Bool, true, false, not, ◌&&◌, ◌||◌, List, [], ◌∷◌, Option, Some, None, leb, eqb}
 use Rattle.order.specs.declared.Facts.{Facts}
 
 -- ---- the pattern: 15-106 3.2.7, patterns 1 and 2; how many of a number, 3.2.8, last column
@@ -75,8 +74,8 @@ rec n d = record { number = n; rp = d.rp; day = d.day; schedule = d.schedule; fo
 
 -- "at most one"
 abbrev pub opt : ℕ → Option Details → List Facts → List Facts
-opt n none rs = rs
-opt n (some d) rs = rec n d ∷ rs
+opt n None rs = rs
+opt n (Some d) rs = rec n d ∷ rs
 
 -- "any"
 abbrev pub any_of : ℕ → List Details → List Facts → List Facts
@@ -91,8 +90,8 @@ drugs_records [] rs = rs
 drugs_records (d ∷ ds) rs = drug_records d (drugs_records ds rs)
 
 abbrev pub usage_records : Option Usage → List Facts → List Facts
-usage_records none rs = rs
-usage_records (some u) rs = rec 301 u.r301 ∷ any_of 311 u.r311s rs
+usage_records None rs = rs
+usage_records (Some u) rs = rec 301 u.r301 ∷ any_of 311 u.r311s rs
 
 abbrev pub rp_records : Prescription → List Facts → List Facts
 rp_records p rs = drug_records p.drug (drugs_records p.drugs (usage_records p.usage (any_of 391 p.r391s rs)))
@@ -135,8 +134,8 @@ none_of [] = true
 none_of (x ∷ xs) = false
 
 abbrev pub stands : {A : Type 0} → Option A → Bool
-stands none = false
-stands (some a) = true
+stands None = false
+stands (Some a) = true
 
 infixr 25 ◌⇒◌
 abbrev pub ◌⇒◌ : Bool → Bool → Bool
@@ -161,8 +160,8 @@ no55 (with_doctors d p ls) = false
 
 -- the fee schedule of an 11 (3.2.9, record 11, third item: 1 medical, 3 dental, 4 dispensing); 0 where there is none
 abbrev pub schedule_of : Option Details → ℕ
-schedule_of none = 0
-schedule_of (some d) = d.schedule
+schedule_of None = 0
+schedule_of (Some d) = d.schedule
 
 -- "an 11 with" n
 abbrev pub eleven_with : ℕ → Group → Bool
@@ -176,8 +175,8 @@ name_asked true schedule form = eqb schedule 4 && not (eqb form 9 || eqb form 10
 name_asked false schedule form = true
 
 abbrev pub usage_named : Bool → ℕ → Option Usage → Bool
-usage_named provider schedule none = true
-usage_named provider schedule (some u) = name_asked provider schedule u.r301.form ⇒ u.r301.named
+usage_named provider schedule None = true
+usage_named provider schedule (Some u) = name_asked provider schedule u.r301.form ⇒ u.r301.named
 
 abbrev pub all_named : Bool → ℕ → List Prescription → Bool
 all_named provider schedule ps = all_of (λ p. usage_named provider schedule p.usage) ps
@@ -195,8 +194,8 @@ abbrev pub drug_valued : ℕ → Drug → Bool
 drug_valued v d = valued v d.r201 && (all_of (valued v) d.r281s && all_of (valued v) d.r291s)
 
 abbrev pub usage_valued : ℕ → Option Usage → Bool
-usage_valued v none = true
-usage_valued v (some u) = valued v u.r301 && all_of (valued v) u.r311s
+usage_valued v None = true
+usage_valued v (Some u) = valued v u.r301 && all_of (valued v) u.r311s
 
 abbrev pub one_value : ℕ → Prescription → Bool
 one_value v p = drug_valued v p.drug && (all_of (drug_valued v) p.drugs && (usage_valued v p.usage && all_of (valued v) p.r391s))

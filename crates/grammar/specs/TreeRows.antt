@@ -1,8 +1,7 @@
 -- A second statement, proved equal.
 -- Document 01, "Index", and document 02, (v), read off the tree: the group of each record, the line of the 55 under which the tree puts its RP, the line of
 -- the 201 to whose drug a 281 or 291 belongs, the line of its group's 51 from that record on. No record before is looked for.
-use Rattle.std.specs.Prelude.{ℕ, ◌+◌, List, [], ◌∷◌}
-use Rattle.std.proofs.Math.Option.{Option, none, some}
+use Rattle.std.specs.Prelude.{ℕ, ◌+◌, List, [], ◌∷◌, Option, Some, None}
 use Rattle.grammar.specs.Grammar.{Details, Drug, Usage, Prescription, Later, Prescriptions, without_doctors, with_doctors, Group, Tree}
 
 -- the columns that the order of records decides
@@ -27,8 +26,8 @@ tree_row n v c d = record { number = n; group = v.group; doctor = c; drug = d; c
 -- ---- the rows of each part, in front of those after it; l is the line of the record before, and k gives the rows after by the line reached
 
 abbrev pub opt_rows : TreeRow → ℕ → Option Details → (ℕ → List TreeRow) → List TreeRow
-opt_rows w l none k = k l
-opt_rows w l (some d) k = w ∷ k (l + 1)
+opt_rows w l None k = k l
+opt_rows w l (Some d) k = w ∷ k (l + 1)
 
 abbrev pub any_rows : TreeRow → ℕ → List Details → (ℕ → List TreeRow) → List TreeRow
 any_rows w l [] k = k l
@@ -43,8 +42,8 @@ drugs_rows v c l [] k = k l
 drugs_rows v c l (d ∷ ds) k = drug_rows v c l d (λ m. drugs_rows v c m ds k)
 
 abbrev pub usage_rows : Visit → ℕ → ℕ → Option Usage → (ℕ → List TreeRow) → List TreeRow
-usage_rows v c l none k = k l
-usage_rows v c l (some u) k = tree_row 301 v c 0 ∷ any_rows (tree_row 311 v c 0) (l + 1) u.r311s k
+usage_rows v c l None k = k l
+usage_rows v c l (Some u) k = tree_row 301 v c 0 ∷ any_rows (tree_row 311 v c 0) (l + 1) u.r311s k
 
 abbrev pub rp_rows : Visit → ℕ → ℕ → Prescription → (ℕ → List TreeRow) → List TreeRow
 rp_rows v c l p k = drug_rows v c l p.drug (λ l. drugs_rows v c l p.drugs (λ l. usage_rows v c l p.usage (λ l. any_rows (tree_row 391 v c 0) l p.r391s k)))
@@ -56,8 +55,8 @@ plain_rows v l (p ∷ ps) k = rp_rows v 0 l p (λ m. plain_rows v m ps k)
 
 -- a later RP is under its own 55, or else under the doctor before (15-106 3.2.9, record 55: the RPs up to the next 55); k also by the doctor
 abbrev pub under_rows : Visit → ℕ → ℕ → Option Details → Prescription → (ℕ → ℕ → List TreeRow) → List TreeRow
-under_rows v c l none p k = rp_rows v c l p (k c)
-under_rows v c l (some d) p k = tree_row 55 v 0 0 ∷ rp_rows v (l + 1) (l + 1) p (k (l + 1))
+under_rows v c l None p k = rp_rows v c l p (k c)
+under_rows v c l (Some d) p k = tree_row 55 v 0 0 ∷ rp_rows v (l + 1) (l + 1) p (k (l + 1))
 
 abbrev pub later_rows : Visit → ℕ → ℕ → List Later → (ℕ → List TreeRow) → List TreeRow
 later_rows v c l [] k = k l
@@ -78,8 +77,8 @@ rest_rows v l x k =
 
 -- "The record 51 itself shows its own line", and so does all that follows in the group; k also by that line
 abbrev pub clinic_rows : ℕ → ℕ → Option Details → (Visit → ℕ → List TreeRow) → List TreeRow
-clinic_rows g l none k = k (visit g 0) l
-clinic_rows g l (some d) k = bare (visit g (l + 1)) 51 ∷ k (visit g (l + 1)) (l + 1)
+clinic_rows g l None k = k (visit g 0) l
+clinic_rows g l (Some d) k = bare (visit g (l + 1)) 51 ∷ k (visit g (l + 1)) (l + 1)
 
 abbrev pub group_rows : ℕ → ℕ → Group → (ℕ → List TreeRow) → List TreeRow
 group_rows g l x k =

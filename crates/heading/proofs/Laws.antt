@@ -1,6 +1,5 @@
 -- Line 1: the ways through the code, and what its answer says of a row. Assumes nothing.
 use Prim.Native.Nat.{ℕ}
-use native.Mathlib.Omega.{arith}
 use mathlib.Core.Path.{◌≡◌, refl, sym, ap, ◌∙◌}
 use mathlib.Core.Bool.{Bool, true, false, cond}
 use mathlib.Core.List.{List, [], ◌∷◌}
@@ -8,8 +7,7 @@ use Rattle.lists.specs.Lists.{bytes, same}
 use Rattle.lists.proofs.Tests.{same_true}
 use Rattle.records.specs.Records.{header}
 use Rattle.notebook.specs.Canonical.{head_row}
-use Rattle.heading.specs.declared.Heading.{Heading}
-use Rattle.heading.specs.declared.Heading.TheVariants.{Line1, Other}
+use Rattle.std.specs.Prelude.{Option, Some, None}
 use Rattle.heading.specs.Reading.{heading_of}
 
 -- ---- the texts
@@ -29,25 +27,27 @@ row_provider e = sym (ap head_row e ∙ heading_bytes true)
 pub row_patient : {provider : Bool} → provider ≡ false → line1 50 ≡ head_row provider
 row_patient e = sym (ap head_row e ∙ heading_bytes false)
 
+pub ruleset row_laws = (row_provider, row_patient)
+
 -- ---- the ways through read_heading
 
-module _ (row : List ℕ) {x : Bool} {a : List ℕ} (o : a ≡ head_row true) (p : x ≡ same row a) where
+module _ (row : List ℕ) {x : Bool} {a l : List ℕ} (i : a ≡ l) (o : l ≡ head_row true) (p : x ≡ same row a) where
   first : same row (head_row true) ≡ x
-  first = ap (same row) (sym o) ∙ sym p
+  first = ap (same row) (sym (i ∙ o)) ∙ sym p
 
-  pub heading_provider : x ≡ true → Line1 true ≡ heading_of row
+  pub heading_provider : x ≡ true → Some true ≡ heading_of row
   unfolding heading_of
   heading_provider q = rw (first ∙ q)
 
-  module _ (q : x ≡ false) {y : Bool} {b : List ℕ} (u : b ≡ head_row false) (r : y ≡ same row b) where
+  module _ (q : x ≡ false) {y : Bool} {b m : List ℕ} (j : b ≡ m) (u : m ≡ head_row false) (r : y ≡ same row b) where
     second : same row (head_row false) ≡ y
-    second = ap (same row) (sym u) ∙ sym r
+    second = ap (same row) (sym (j ∙ u)) ∙ sym r
 
-    pub heading_patient : y ≡ true → Line1 false ≡ heading_of row
+    pub heading_patient : y ≡ true → Some false ≡ heading_of row
     unfolding heading_of
     heading_patient t = rw (first ∙ q, second ∙ t)
 
-    pub heading_other : y ≡ false → Other ≡ heading_of row
+    pub heading_other : y ≡ false → None ≡ heading_of row
     unfolding heading_of
     heading_other t = rw (first ∙ q, second ∙ t)
 
@@ -55,27 +55,27 @@ pub ruleset heading_laws = (heading_provider, heading_patient, heading_other)
 
 -- ---- what is read says of a row
 
-line_1 : {a b : Bool} → Line1 a ≡ Line1 b → a ≡ b
-line_1 e = cc
+some_same : {a b : Bool} → Some a ≡ Some b → a ≡ b
+some_same e = cc
 
-module _ (row : List ℕ) {k : Heading} (p : k ≡ heading_of row) where
-  by_tests : (x y : Bool) → same row (head_row true) ≡ x → same row (head_row false) ≡ y → k ≡ cond x (Line1 true) (cond y (Line1 false) Other)
+module _ (row : List ℕ) {k : Option Bool} (p : k ≡ heading_of row) where
+  by_tests : (x y : Bool) → same row (head_row true) ≡ x → same row (head_row false) ≡ y → k ≡ cond x (Some true) (cond y (Some false) None)
   unfolding heading_of
   by_tests x y a b = p ∙ rw (a, b)
 
-  pub heading_is : {d : Bool} → k ≡ Line1 d → row ≡ head_row d
+  pub heading_is : {d : Bool} → k ≡ Some d → row ≡ head_row d
   heading_is {d} q = go (same row (head_row true)) (same row (head_row false)) refl refl
     where
       go : (x y : Bool) → same row (head_row true) ≡ x → same row (head_row false) ≡ y → row ≡ head_row d
-      go true y a b = let e : true ≡ d = line_1 (sym (by_tests true y a b) ∙ q) in same_true row (head_row true) a ∙ ap head_row e
-      go false true a b = let e : false ≡ d = line_1 (sym (by_tests false true a b) ∙ q) in same_true row (head_row false) b ∙ ap head_row e
-      go false false a b = let u : Other ≡ Line1 d = sym (by_tests false false a b) ∙ q in let z : ◌≡◌ {A = ℕ} 0 1 = cc in absurd (omega arith)
+      go true y a b = let e : true ≡ d = some_same (sym (by_tests true y a b) ∙ q) in same_true row (head_row true) a ∙ ap head_row e
+      go false true a b = let e : false ≡ d = some_same (sym (by_tests false true a b) ∙ q) in same_true row (head_row false) b ∙ ap head_row e
+      go false false a b = let u : None ≡ Some d = sym (by_tests false false a b) ∙ q in cc
 
-  pub heading_not : k ≡ Other → (d : Bool) → same row (head_row d) ≡ false
+  pub heading_not : k ≡ None → (d : Bool) → same row (head_row d) ≡ false
   heading_not q = go (same row (head_row true)) (same row (head_row false)) refl refl
     where
       go : (x y : Bool) → same row (head_row true) ≡ x → same row (head_row false) ≡ y → (d : Bool) → same row (head_row d) ≡ false
-      go true y a b d = let u : Line1 true ≡ Other = sym (by_tests true y a b) ∙ q in let z : ◌≡◌ {A = ℕ} 0 1 = cc in absurd (omega arith)
-      go false true a b d = let u : Line1 false ≡ Other = sym (by_tests false true a b) ∙ q in let z : ◌≡◌ {A = ℕ} 0 1 = cc in absurd (omega arith)
+      go true y a b d = let u : Some true ≡ None = sym (by_tests true y a b) ∙ q in cc
+      go false true a b d = let u : Some false ≡ None = sym (by_tests false true a b) ∙ q in cc
       go false false a b true = a
       go false false a b false = b

@@ -8,34 +8,26 @@ ghost use Rattle.notebook.specs.Canonical.{head_row};
 ghost use Rattle.heading.specs.Reading.{heading_of};
 
 // Line 1 of a direction with its line end; provider: the direction is 1.
+#[tactic(auto, using(crate::proofs::Laws::row_laws))]
 pub fn heading_row(provider: bool) -> [u8; 13]
     ensures { result ≡ head_row provider }
 {
-    let mut row = *b"JAHISTC04,1\r\n";
     if provider {
-        return row;
+        *b"JAHISTC04,1\r\n"
+    } else {
+        *b"JAHISTC04,2\r\n"
     }
-    row[10] = b'2';
-    row
 }
 
-// What a row is: line 1 of a direction (true: 1), or another.
-#[derive(Clone, Copy)]
-pub enum Heading {
-    Line1(bool),
-    Other,
-}
-
-pub fn read_heading(row: &[u8]) -> Heading
+// The direction of a row that is line 1 (true: 1).
+pub fn read_heading(row: &[u8]) -> Option<bool>
     ensures { result ≡ heading_of row.now }
 {
-    let provider = heading_row(true);
-    if lists::same_bytes(row, &provider) {
-        return Heading::Line1(true);
+    if row == heading_row(true).as_slice() {
+        return Some(true);
     }
-    let patient = heading_row(false);
-    if lists::same_bytes(row, &patient) {
-        return Heading::Line1(false);
+    if row == heading_row(false).as_slice() {
+        return Some(false);
     }
-    Heading::Other
+    None
 }

@@ -1,6 +1,6 @@
 -- Laws of Booleans, of tests of lists, and of faults in their order. Assumes nothing.
 use Prim.Native.Nat.{ℕ, zero, suc, ◌≤◌, ◌<◌}
-use mathlib.Core.Path.{◌≡◌, refl, sym, ◌∙◌}
+use mathlib.Core.Path.{◌≡◌, refl, sym, ap, ◌∙◌}
 use mathlib.Core.Bool.{Bool, true, false, cond, not, ◌&&◌, ◌||◌, and-false, or-false, false≢true, true≢false}
 use mathlib.Core.Logic.{◌⊎◌, inl, inr}
 use mathlib.Core.List.{List, [], ◌∷◌, ◌++◌}
@@ -8,6 +8,7 @@ use native.Mathlib.Omega.{arith}
 use borrow.Author.Tests.{le-leb, lt-leb, eqb-true, eqb-false, eq-eqb, ne_eqb}
 use lib.Dec.{eqb}
 use lib.ListN.{length}
+use Rattle.std.specs.List.{list_all}
 use Rattle.lists.specs.Lists.{within, empty, all, same, member, All, ◌or_else◌, unless}
 
 -- ---- Booleans
@@ -113,6 +114,11 @@ all_append p (x ∷ a) b = go (p x) (all_append p a b)
     go : (y : Bool) → all p (a ++ b) ≡ (all p a && all p b) → (y && all p (a ++ b)) ≡ ((y && all p a) && all p b)
     go true i = i
     go false i = refl
+
+-- it is the library's test, which a chain of iterators answers
+pub all_pass : (p : ℕ → Bool) (s : List ℕ) → all p s ≡ list_all p s
+all_pass p [] = refl
+all_pass p (b ∷ s) = ap (λ (x : Bool). p b && x) (all_pass p s)
 
 pub all_both : {A : Type 0} (P Q : A → Type 0) (xs : List A) → All P xs → All Q xs → All (λ x. P x × Q x) xs
 all_both P Q [] h g = tt

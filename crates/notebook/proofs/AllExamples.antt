@@ -1,6 +1,6 @@
 -- The parts, ordinals, days, institution codes, record 1 and clinics of specs/Examples.antt come out as written there. Assumes nothing.
 use mathlib.Core.Path.{◌≡◌, refl}
-use mathlib.Core.Option.{some}
+use Rattle.std.specs.Prelude.{Some}
 use mathlib.Core.List.{map}
 use Rattle.notebook.specs.Groups.{parts_of, ordinals_from, ordinals, first, group_day, institution, person}
 use Rattle.rules.specs.Places.{in_group}
@@ -23,7 +23,7 @@ pub institutions_hold : map institution their_parts.groups ≡ their_institution
 unfolding first institution
 institutions_hold = refl
 
-pub person_holds : person two_groups ≡ some r1
+pub person_holds : person two_groups ≡ Some r1
 unfolding first person
 person_holds = refl
 

@@ -1,8 +1,7 @@
 -- Definitions, to be believed.
 -- What the order of records looks at in a record. Document 01, "Order of records" and "Pairs" name these and no
 -- others, so a respelled file takes the same steps.
-use Rattle.std.specs.Prelude.{ℕ, cond, not, ◌&&◌, eqb}
-use Rattle.std.proofs.Math.Option.{Option, none, some}
+use Rattle.std.specs.Prelude.{ℕ, cond, not, ◌&&◌, eqb, Option, Some, None}
 use Rattle.digits.specs.Digits.{number}
 use Rattle.order.specs.declared.Facts.{Facts}
 use Rattle.records.specs.Items.{Value, raw, num, day}
@@ -21,8 +20,8 @@ day_of (num n) = 0
 day_of (day n) = n
 
 abbrev pub or_zero : Option ℕ → ℕ
-or_zero none = 0
-or_zero (some n) = n
+or_zero None = 0
+or_zero (Some n) = n
 
 -- the number that the bytes are the digits of, 0 where they are empty
 abbrev pub spelled : Value → ℕ

@@ -3,8 +3,7 @@
 -- together, and no other division has the shape `Shaped` (proofs/GroupLaws.antt). Then what is asked of a group (`group_day`, `institution`), of the
 -- groups (`NewestFirst`) and of a notebook (`person`). Proved equal to what the index and check say are the groups, their ordinals and their days; `institution`
 -- and `person` are held by examples alone until a call rests on them. Document 01, "Order of records", "Index"; 15-106 3.2.7, 3.2.9.
-use Rattle.std.specs.Prelude.{ℕ, ◌+◌, ◌≤◌, ◌≡◌, false, cond, ◌||◌, eqb}
-use Rattle.std.proofs.Math.Option.{Option, none, some}
+use Rattle.std.specs.Prelude.{ℕ, ◌+◌, ◌≤◌, ◌≡◌, false, cond, ◌||◌, eqb, Option, Some, None}
 use mathlib.Core.List.{List, [], ◌∷◌, ◌++◌, map, flatten}
 use Rattle.lists.specs.Lists.{All}
 use Rattle.records.specs.Items.{Value, raw, num, day}
@@ -63,13 +62,13 @@ ordinals p = map (λ r. 0) p.front ++ (ordinals_from 1 p.groups ++ map (λ r. 0)
 
 -- the first record of the number
 unfoldable pub first : ℕ → List Record → Option Record
-first n [] = none
-first n (r ∷ rs) = cond (eqb r.number n) (some r) (first n rs)
+first n [] = None
+first n (r ∷ rs) = cond (eqb r.number n) (Some r) (first n rs)
 
 -- "An omitted item is empty": so is every item of a record that does not stand
 abbrev pub item_of : Option Record → ℕ → Value
-item_of none i = raw []
-item_of (some r) i = item r i
+item_of None i = raw []
+item_of (Some r) i = item r i
 
 -- the bytes of a kind that is kept as bytes, none for any other
 abbrev pub text_of : Value → List ℕ

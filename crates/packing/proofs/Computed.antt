@@ -2,20 +2,21 @@
 use Prim.Native.Nat.{ℕ, zero, suc, ◌+◌}
 use mathlib.Core.Path.{◌≡◌, refl, ap}
 use mathlib.Core.Bool.{Bool, true, false, cond}
-use mathlib.Core.Option.{Option, none, some, map}
+use Rattle.std.specs.Prelude.{Option, Some, None}
+use Rattle.std.specs.Option.{option_map}
 use mathlib.Core.List.{List, [], ◌∷◌}
 use lib.Dec.{leb}
 use Rattle.packing.specs.Packing.{total, put, pack}
 use Rattle.packing.specs.Widths.{over, Plan, in_one, no_plan, or_next, tries, plan}
 
 unfoldable pub packed : {A : Type 0} → (A → ℕ) → (ℕ → ℕ) → ℕ → ℕ → ℕ → List A → Option (List (List A))
-packed len o c k u [] = some ([] ∷ [])
+packed len o c k u [] = Some ([] ∷ [])
 packed len o c k u (r ∷ rs) =
     elim (leb (u + len r) c) [
-      | true ↦ map (put r) (packed len o c k (u + len r) rs)
+      | true ↦ option_map (put r) (packed len o c k (u + len r) rs)
       | false ↦ elim (leb (o (suc k) + len r) c) [
-        | true ↦ map (λ xs. [] ∷ put r xs) (packed len o c (suc k) (o (suc k) + len r) rs)
-        | false ↦ none
+        | true ↦ option_map (λ xs. [] ∷ put r xs) (packed len o c (suc k) (o (suc k) + len r) rs)
+        | false ↦ None
       ]
     ]
 
@@ -34,13 +35,13 @@ pack_is {A} len o c k u (r ∷ rs) =
   where
     go : (a b : Bool) → pack len o c k (u + len r) rs ≡ packed len o c k (u + len r) rs
         → pack len o c (suc k) (o (suc k) + len r) rs ≡ packed len o c (suc k) (o (suc k) + len r) rs
-        → cond a (map (put r) (pack len o c k (u + len r) rs)) (cond b (map (λ xs. [] ∷ put r xs) (pack len o c (suc k) (o (suc k) + len r) rs)) none)
+        → cond a (option_map (put r) (pack len o c k (u + len r) rs)) (cond b (option_map (λ xs. [] ∷ put r xs) (pack len o c (suc k) (o (suc k) + len r) rs)) None)
         ≡ elim a [
-          | true ↦ map (put r) (packed len o c k (u + len r) rs)
-          | false ↦ elim b [ true ↦ map (λ xs. [] ∷ put r xs) (packed len o c (suc k) (o (suc k) + len r) rs) | false ↦ none ]
+          | true ↦ option_map (put r) (packed len o c k (u + len r) rs)
+          | false ↦ elim b [ true ↦ option_map (λ xs. [] ∷ put r xs) (packed len o c (suc k) (o (suc k) + len r) rs) | false ↦ None ]
         ]
-    go true b p q = ap (map (put r)) p
-    go false true p q = ap (map (λ xs. [] ∷ put r xs)) q
+    go true b p q = ap (option_map (put r)) p
+    go false true p q = ap (option_map (λ xs. [] ∷ put r xs)) q
     go false false p q = refl
 
 tries_is : {A : Type 0} (len : A → ℕ) (c f w : ℕ) (rs : List A) → tries len c f w rs ≡ tried len c f w rs

@@ -4,7 +4,8 @@ use Prim.Native.Nat.{ℕ, suc, ◌+◌, ◌≤◌, ◌<◌}
 use mathlib.Core.Path.{◌≡◌, refl, sym, ap, ◌∙◌, subst}
 use mathlib.Core.Logic.{◌⊎◌, inl, inr}
 use mathlib.Core.Bool.{Bool, true, false, cond}
-use mathlib.Core.Option.{Option, none, some, map}
+use Rattle.std.specs.Prelude.{Option, Some, None}
+use Rattle.std.specs.Option.{option_map}
 use mathlib.Core.List.{List, [], ◌∷◌, ◌++◌}
 use native.Mathlib.Omega.{arith}
 use native.Mathlib.Nat.{le_refl}
@@ -23,16 +24,16 @@ pub data Way {A : Type 0} (len : A → ℕ) (o : ℕ → ℕ) (c : ℕ) : ℕ �
 -- ---- the clauses of `pack`
 
 module _ {A : Type 0} (len : A → ℕ) (o : ℕ → ℕ) (c k u : ℕ) (r : A) (rs : List A) where
-  pub pack_stay : u + len r ≤ c → pack len o c k u (r ∷ rs) ≡ map (put r) (pack len o c k (u + len r) rs)
+  pub pack_stay : u + len r ≤ c → pack len o c k u (r ∷ rs) ≡ option_map (put r) (pack len o c k (u + len r) rs)
   unfolding pack
   pack_stay h = rw (le-leb (u + len r) c h, pack)
 
   pub pack_next : c < u + len r → o (suc k) + len r ≤ c
-      → pack len o c k u (r ∷ rs) ≡ map (λ xs. [] ∷ put r xs) (pack len o c (suc k) (o (suc k) + len r) rs)
+      → pack len o c k u (r ∷ rs) ≡ option_map (λ xs. [] ∷ put r xs) (pack len o c (suc k) (o (suc k) + len r) rs)
   unfolding pack
   pack_next h g = rw (lt-leb (u + len r) c h, le-leb (o (suc k) + len r) c g, pack)
 
-  pub pack_none : c < u + len r → c < o (suc k) + len r → pack len o c k u (r ∷ rs) ≡ none
+  pub pack_none : c < u + len r → c < o (suc k) + len r → pack len o c k u (r ∷ rs) ≡ None
   unfolding pack
   pack_none h g = rw (lt-leb (u + len r) c h, lt-leb (o (suc k) + len r) c g, pack)
 
@@ -40,49 +41,49 @@ module _ {A : Type 0} (len : A → ℕ) (o : ℕ → ℕ) (c k u : ℕ) (r : A) 
 
 module _ {A : Type 0} (len : A → ℕ) (o : ℕ → ℕ) (c : ℕ) where
   -- all that is left fits
-  pub pack_last : (k u : ℕ) (rs : List A) → u + total len rs ≤ c → pack len o c k u rs ≡ some (rs ∷ [])
+  pub pack_last : (k u : ℕ) (rs : List A) → u + total len rs ≤ c → pack len o c k u rs ≡ Some (rs ∷ [])
   unfolding pack total put
   pack_last k u [] h = refl
   pack_last k u (r ∷ rs) h =
-      pack_stay len o c k u r rs (omega arith) ∙ ap (map (put r)) (pack_last k (u + len r) rs (omega arith))
+      pack_stay len o c k u r rs (omega arith) ∙ ap (option_map (put r)) (pack_last k (u + len r) rs (omega arith))
 
   module _ (up : (i j : ℕ) → i ≤ j → o i ≤ o j) where
     -- what does not fit an empty piece fits no later one
-    pub pack_stuck : (k : ℕ) (r : A) (rs : List A) → c < o k + len r → pack len o c k (o k) (r ∷ rs) ≡ none
+    pub pack_stuck : (k : ℕ) (r : A) (rs : List A) → c < o k + len r → pack len o c k (o k) (r ∷ rs) ≡ None
     pack_stuck k r rs h = pack_none len o c k (o k) r rs h (omega (arith, up k (suc k) (omega arith)))
 
     pack_open : (k u : ℕ) (r : A) (rs : List A) → c < u + len r
-        → pack len o c k u (r ∷ rs) ≡ map (λ xs. [] ∷ xs) (pack len o c (suc k) (o (suc k)) (r ∷ rs))
+        → pack len o c k u (r ∷ rs) ≡ option_map (λ xs. [] ∷ xs) (pack len o c (suc k) (o (suc k)) (r ∷ rs))
     pack_open k u r rs h = go (leb (o (suc k) + len r) c) refl
       where
-        twice : (m : Option (List (List A))) → map (λ xs. [] ∷ put r xs) m ≡ map (λ xs. [] ∷ xs) (map (put r) m)
-        twice none = refl
-        twice (some xs) = refl
+        twice : (m : Option (List (List A))) → option_map (λ xs. [] ∷ put r xs) m ≡ option_map (λ xs. [] ∷ xs) (option_map (put r) m)
+        twice None = refl
+        twice (Some xs) = refl
 
         go : (b : Bool) → leb (o (suc k) + len r) c ≡ b
-            → pack len o c k u (r ∷ rs) ≡ map (λ xs. [] ∷ xs) (pack len o c (suc k) (o (suc k)) (r ∷ rs))
+            → pack len o c k u (r ∷ rs) ≡ option_map (λ xs. [] ∷ xs) (pack len o c (suc k) (o (suc k)) (r ∷ rs))
         go true e =
             let l : o (suc k) + len r ≤ c = leb-true _ _ e in
             pack_next len o c k u r rs h l
             ∙ twice (pack len o c (suc k) (o (suc k) + len r) rs)
-            ∙ ap (map (λ xs. [] ∷ xs)) (sym (pack_stay len o c (suc k) (o (suc k)) r rs l))
+            ∙ ap (option_map (λ xs. [] ∷ xs)) (sym (pack_stay len o c (suc k) (o (suc k)) r rs l))
         go false e =
             let l : c < o (suc k) + len r = leb-false _ _ e in
-            pack_none len o c k u r rs h l ∙ ap (map (λ xs. [] ∷ xs)) (sym (pack_stuck (suc k) r rs l))
+            pack_none len o c k u r rs h l ∙ ap (option_map (λ xs. [] ∷ xs)) (sym (pack_stuck (suc k) r rs l))
 
     -- a run fits and the next thing does not: the run is the piece's
     pub pack_run : (k u : ℕ) (rs : List A) (t : A) (ts : List A) → u + total len rs ≤ c → c < u + total len rs + len t
-        → pack len o c k u (rs ++ t ∷ ts) ≡ map (λ xs. rs ∷ xs) (pack len o c (suc k) (o (suc k)) (t ∷ ts))
+        → pack len o c k u (rs ++ t ∷ ts) ≡ option_map (λ xs. rs ∷ xs) (pack len o c (suc k) (o (suc k)) (t ∷ ts))
     unfolding total put
     pack_run k u [] t ts h g = pack_open k u t ts (omega arith)
     pack_run k u (r ∷ rs) t ts h g =
         pack_stay len o c k u r (rs ++ t ∷ ts) (omega arith)
-        ∙ ap (map (put r)) (pack_run k (u + len r) rs t ts (omega arith) (omega arith))
+        ∙ ap (option_map (put r)) (pack_run k (u + len r) rs t ts (omega arith) (omega arith))
         ∙ twice (pack len o c (suc k) (o (suc k)) (t ∷ ts))
       where
-        twice : (m : Option (List (List A))) → map (put r) (map (λ xs. rs ∷ xs) m) ≡ map (λ xs. (r ∷ rs) ∷ xs) m
-        twice none = refl
-        twice (some xs) = refl
+        twice : (m : Option (List (List A))) → option_map (put r) (option_map (λ xs. rs ∷ xs) m) ≡ option_map (λ xs. (r ∷ rs) ∷ xs) m
+        twice None = refl
+        twice (Some xs) = refl
 
 -- ---- the greedy packing is ahead of every way
 
@@ -93,7 +94,7 @@ Ahead k u j v = (k < j) ⊎ ((k ≡ j) × (u ≤ v))
 -- what is found from piece k on, with no piece after n
 pub record Found {A : Type 0} (len : A → ℕ) (o : ℕ → ℕ) (c k u : ℕ) (rs : List A) (n : ℕ) : Type 0 where
   pub runs : List (List A)
-  pub found : pack len o c k u rs ≡ some runs
+  pub found : pack len o c k u rs ≡ Some runs
   pub some_run : 0 < length runs
   pub few : k + length runs ≤ suc n
 
@@ -108,7 +109,7 @@ module _ {A : Type 0} (len : A → ℕ) (o : ℕ → ℕ) (c : ℕ) where
       let l : length (put r f.runs) ≡ length f.runs = length_put r f.runs f.some_run in
       record {
         runs = put r f.runs;
-        found = pack_stay len o c k u r rs h ∙ ap (map (put r)) f.found;
+        found = pack_stay len o c k u r rs h ∙ ap (option_map (put r)) f.found;
         some_run = omega arith;
         few = omega arith;
       }
@@ -119,7 +120,7 @@ module _ {A : Type 0} (len : A → ℕ) (o : ℕ → ℕ) (c : ℕ) where
       let l : length (put r f.runs) ≡ length f.runs = length_put r f.runs f.some_run in
       record {
         runs = [] ∷ put r f.runs;
-        found = pack_next len o c k u r rs h g ∙ ap (map (λ xs. [] ∷ put r xs)) f.found;
+        found = pack_next len o c k u r rs h g ∙ ap (option_map (λ xs. [] ∷ put r xs)) f.found;
         some_run = omega arith;
         few = omega arith;
       }
@@ -158,12 +159,12 @@ module _ {A : Type 0} (len : A → ℕ) (o : ℕ → ℕ) (c : ℕ) (up : (i j :
 
 -- P holds of what there is
 abbrev pub Holds : {B : Type 0} → (B → Type 0) → Option B → Type 0
-Holds P none = Unit {0}
-Holds P (some b) = P b
+Holds P None = Unit {0}
+Holds P (Some b) = P b
 
-pub holds_map : {B : Type 0} (P Q : B → Type 0) (f : B → B) → ((b : B) → P b → Q (f b)) → (m : Option B) → Holds P m → Holds Q (map f m)
-holds_map P Q f g none h = tt
-holds_map P Q f g (some b) h = g b h
+pub holds_map : {B : Type 0} (P Q : B → Type 0) (f : B → B) → ((b : B) → P b → Q (f b)) → (m : Option B) → Holds P m → Holds Q (option_map f m)
+holds_map P Q f g None h = tt
+holds_map P Q f g (Some b) h = g b h
 
 -- there is a run, even where there is nothing to pack
 pub pack_more : {A : Type 0} (len : A → ℕ) (o : ℕ → ℕ) (c k u : ℕ) (rs : List A) → Holds (λ xs. 0 < length xs) (pack len o c k u rs)
@@ -177,11 +178,11 @@ pack_more {A} len o c k u (r ∷ rs) =
     more (x ∷ xs) = omega arith
 
     go : (a b : Bool) (m m' : Option (List (List A)))
-        → Holds (λ xs. 0 < length xs) (cond a (map (put r) m) (cond b (map (λ xs. [] ∷ put r xs) m') none))
-    go true b none m' = tt
-    go true b (some xs) m' = more xs
-    go false true m none = tt
-    go false true m (some xs) = omega arith
+        → Holds (λ xs. 0 < length xs) (cond a (option_map (put r) m) (cond b (option_map (λ xs. [] ∷ put r xs) m') None))
+    go true b None m' = tt
+    go true b (Some xs) m' = more xs
+    go false true m None = tt
+    go false true m (Some xs) = omega arith
     go false false m m' = tt
 
 -- the first run fits after u bytes of piece k, and the others as pieces k + 1, ..

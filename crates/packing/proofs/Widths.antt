@@ -4,7 +4,7 @@ use Prim.Native.Nat.{ℕ, zero, suc, ◌+◌, ◌≤◌, ◌<◌}
 use mathlib.Core.Path.{◌≡◌, refl, sym, ap, subst}
 use mathlib.Core.Logic.{inr}
 use mathlib.Core.Bool.{Bool, true, false}
-use mathlib.Core.Option.{Option, none, some}
+use Rattle.std.specs.Prelude.{Option, Some, None}
 use mathlib.Core.List.{List, [], ◌∷◌, append-nil}
 use native.Mathlib.Omega.{arith}
 use native.Mathlib.Nat.{le_refl}
@@ -80,34 +80,34 @@ serves_digits w n e = let p = both (eqb (digit_count n) w) _ e in (eqb-true _ _ 
 -- ---- the clauses of `tries` and `plan`
 
 -- where not even an empty piece fits, nothing is packed but no record at all
-pack_start : {A : Type 0} (len : A → ℕ) (c w : ℕ) (rs : List A) (xs : List (List A)) → c < over w 1 → pack len (over w) c 1 (over w 1) rs ≡ some xs → length xs ≡ 1
+pack_start : {A : Type 0} (len : A → ℕ) (c w : ℕ) (rs : List A) (xs : List (List A)) → c < over w 1 → pack len (over w) c 1 (over w 1) rs ≡ Some xs → length xs ≡ 1
 unfolding pack
 pack_start {A} len c w [] xs h e =
     let q : ◌≡◌ {A = List (List A)} ([] ∷ []) xs = cc in
     sym (ap length q)
 pack_start len c w (r ∷ rs) xs h e =
-    let q : pack len (over w) c 1 (over w 1) (r ∷ rs) ≡ none =
+    let q : pack len (over w) c 1 (over w 1) (r ∷ rs) ≡ None =
     pack_none len (over w) c 1 (over w 1) r rs (omega arith) (omega (arith, over_up w 1 2 (omega arith))) in
     cc
 
 module _ {A : Type 0} (len : A → ℕ) (c : ℕ) (rs : List A) where
-  tries_serve : (f w : ℕ) (xs : List (List A)) → pack len (over w) c 1 (over w 1) rs ≡ some xs → serves w (length xs) ≡ true
+  tries_serve : (f w : ℕ) (xs : List (List A)) → pack len (over w) c 1 (over w 1) rs ≡ Some xs → serves w (length xs) ≡ true
       → tries len c (suc f) w rs ≡ in_runs xs
   unfolding tries
   tries_serve f w xs e h = rw (e, h, tries)
 
-  tries_skip : (f w : ℕ) (xs : List (List A)) → pack len (over w) c 1 (over w 1) rs ≡ some xs → serves w (length xs) ≡ false
+  tries_skip : (f w : ℕ) (xs : List (List A)) → pack len (over w) c 1 (over w 1) rs ≡ Some xs → serves w (length xs) ≡ false
       → tries len c (suc f) w rs ≡ tries len c f (suc w) rs
   unfolding tries
   tries_skip f w xs e h = rw (e, h, tries)
 
-  tries_none : (f w : ℕ) → pack len (over w) c 1 (over w 1) rs ≡ none → tries len c (suc f) w rs ≡ tries len c f (suc w) rs
+  tries_none : (f w : ℕ) → pack len (over w) c 1 (over w 1) rs ≡ None → tries len c (suc f) w rs ≡ tries len c f (suc w) rs
   unfolding tries
   tries_none f w e = rw (e, tries)
 
   -- ---- one width against another
 
-  packed : (w : ℕ) (xs : List (List A)) → over w 1 ≤ c → pack len (over w) c 1 (over w 1) rs ≡ some xs → Good len (over w) c 1 (over w 1) rs xs
+  packed : (w : ℕ) (xs : List (List A)) → over w 1 ≤ c → pack len (over w) c 1 (over w 1) rs ≡ Some xs → Good len (over w) c 1 (over w 1) rs xs
   packed w xs h e = rw e at (pack_good len (over w) c rs 1 (over w 1) h)
 
   narrow : (w w' n : ℕ) → w ≤ w' → Way len (over w') c 1 (over w' 1) rs n → Found len (over w) c 1 (over w 1) rs n
@@ -124,14 +124,14 @@ module _ {A : Type 0} (len : A → ℕ) (c : ℕ) (rs : List A) where
       (subst (λ (m : ℕ). Way len (over w) c 1 (over w 1) (concat (x ∷ xs)) m) (omega arith) (way_of len (over w) c 1 x xs t))
 
   -- a wider count never needs fewer pieces
-  wider : (w w' : ℕ) (xs ys : List (List A)) → w ≤ w' → over w' 1 ≤ c → pack len (over w) c 1 (over w 1) rs ≡ some xs
-      → pack len (over w') c 1 (over w' 1) rs ≡ some ys → length xs ≤ length ys
+  wider : (w w' : ℕ) (xs ys : List (List A)) → w ≤ w' → over w' 1 ≤ c → pack len (over w) c 1 (over w 1) rs ≡ Some xs
+      → pack len (over w') c 1 (over w' 1) rs ≡ Some ys → length xs ≤ length ys
   wider w w' xs ys h l e e' =
       let f : Found len (over w) c 1 (over w 1) rs (length ys) = narrow w w' (length ys) h (way_packed w' ys (packed w' ys l e')) in
       let q : f.runs ≡ xs = same f.found in
       omega (arith, ap length q)
     where
-      same : {zs : List (List A)} → pack len (over w) c 1 (over w 1) rs ≡ some zs → zs ≡ xs
+      same : {zs : List (List A)} → pack len (over w) c 1 (over w 1) rs ≡ Some zs → zs ≡ xs
       same p = cc
 
   two_runs : (w : ℕ) (xs : List (List A)) → c < 13 + total len rs → Good len (over w) c 1 (over w 1) rs xs → 2 ≤ length xs
@@ -142,13 +142,13 @@ module _ {A : Type 0} (len : A → ℕ) (c : ℕ) (rs : List A) where
       absurd (omega arith)
   two_runs w (x ∷ y ∷ ys) h g = omega arith
 
-  two : (w : ℕ) (xs : List (List A)) → c < 13 + total len rs → over w 1 ≤ c → pack len (over w) c 1 (over w 1) rs ≡ some xs → 2 ≤ length xs
+  two : (w : ℕ) (xs : List (List A)) → c < 13 + total len rs → over w 1 ≤ c → pack len (over w) c 1 (over w 1) rs ≡ Some xs → 2 ≤ length xs
   two w xs h l e = two_runs w xs h (packed w xs l e)
 
   -- ---- no division has fewer pieces
 
   abbrev Low : ℕ → Type 0
-  Low w = (xs : List (List A)) → pack len (over w) c 1 (over w 1) rs ≡ some xs → w ≤ digit_count (length xs)
+  Low w = (xs : List (List A)) → pack len (over w) c 1 (over w 1) rs ≡ Some xs → w ≤ digit_count (length xs)
 
   fewest_step : (f w n : ℕ) → c < 13 + total len rs → over (digit_count n) 1 ≤ c → w ≤ digit_count n → Low w → (x : Found len (over w) c 1 (over w 1) rs n)
       → (b : Bool) → eqb (digit_count (length x.runs)) w ≡ b → (suc w ≤ digit_count n → Low (suc w) → AtMost n (tries len c f (suc w) rs))
@@ -216,7 +216,7 @@ module _ {A : Type 0} (len : A → ℕ) (c : ℕ) (rs : List A) where
   taken_fits w [] t = absurd t
   taken_fits w (x ∷ xs) t = t
 
-  served : (w : ℕ) (xs : List (List A)) → w ≤ 3 → pack len (over w) c 1 (over w 1) rs ≡ some xs → serves w (length xs) ≡ true → Planned (in_runs xs)
+  served : (w : ℕ) (xs : List (List A)) → w ≤ 3 → pack len (over w) c 1 (over w 1) rs ≡ Some xs → serves w (length xs) ≡ true → Planned (in_runs xs)
   served w xs h e s =
       let d : (digit_count (length xs) ≡ w) × (2 ≤ length xs) = serves_digits w (length xs) s in
       go d (leb (over w 1) c) refl
@@ -238,8 +238,8 @@ module _ {A : Type 0} (len : A → ℕ) (c : ℕ) (rs : List A) where
   tries_good (suc f) w h = go (tries_good f (suc w) (omega arith)) (pack len (over w) c 1 (over w 1) rs) refl
     where
       go : Planned (tries len c f (suc w) rs) → (m : Option (List (List A))) → pack len (over w) c 1 (over w 1) rs ≡ m → Planned (tries len c (suc f) w rs)
-      go i none e = rw (tries_none f w e) i
-      go i (some xs) e = by (serves w (length xs)) refl
+      go i None e = rw (tries_none f w e) i
+      go i (Some xs) e = by (serves w (length xs)) refl
         where
           by : (b : Bool) → serves w (length xs) ≡ b → Planned (tries len c (suc f) w rs)
           by true s = rw (tries_serve f w xs e s) (served w xs (omega arith) e s)

@@ -2,8 +2,7 @@
 -- The plan of a cutting: one piece where all fits, else the first width of the count that serves. Document 01, "Cutting and joining":
 -- "Numbers n of one, two, three digits are tried in turn until one width serves: every record finds a piece and the count of pieces has
 -- that many digits."
-use Rattle.std.specs.Prelude.{ℕ, zero, suc, ◌+◌, Bool, cond, ◌&&◌, List, leb, eqb, length}
-use Rattle.std.proofs.Math.Option.{Option, none, some}
+use Rattle.std.specs.Prelude.{ℕ, zero, suc, ◌+◌, Bool, cond, ◌&&◌, List, Option, Some, None, leb, eqb, length}
 use Rattle.digits.specs.Digits.{digit_count}
 use Rattle.packing.specs.Packing.{total, pack}
 
@@ -23,8 +22,8 @@ serves w n = eqb (digit_count n) w && leb 2 n
 
 -- a packing that serves is the plan; else another is sought
 abbrev pub or_next : {A : Type 0} → ℕ → Plan A → Option (List (List A)) → Plan A
-or_next w next none = next
-or_next w next (some xs) = cond (serves w (length xs)) (in_runs xs) next
+or_next w next None = next
+or_next w next (Some xs) = cond (serves w (length xs)) (in_runs xs) next
 
 -- f widths from w on, tried in turn
 unfoldable pub tries : {A : Type 0} → (A → ℕ) → ℕ → ℕ → ℕ → List A → Plan A

@@ -3,7 +3,7 @@ use Prim.Native.Nat.{ℕ, ◌+◌, ◌*◌, ◌≤◌}
 use native.Mathlib.Omega.{arith}
 use mathlib.Core.Path.{◌≡◌, refl, ap, ap₂, ◌∙◌}
 use mathlib.Core.Bool.{Bool, true, false}
-use mathlib.Core.Option.{some}
+use Rattle.std.specs.Prelude.{Some}
 use mathlib.Core.List.{List, [], ◌∷◌, ◌++◌, map}
 use lib.Dec.{leb}
 use lib.ListN.{length, length-append}
@@ -42,7 +42,7 @@ record Line (o : Bool) (f : Facts) : Type 0 where
   facts : facts_of rec' ≡ f
   short : length line ≤ 40
 
-one : number (49 ∷ []) ≡ some 1
+one : number (49 ∷ []) ≡ Some 1
 unfolding spell
 one = number_spell 1 (omega arith)
 
@@ -72,7 +72,7 @@ items201 = bytes "A" ∷ bytes "1" ∷ bytes "A" ∷ bytes "1" ∷ [] ∷ bytes 
 abbrev items301 : List (List ℕ)
 items301 = bytes "A" ∷ bytes "1" ∷ 日分 ∷ bytes "1" ∷ bytes "1" ∷ [] ∷ bytes "1" ∷ []
 
-module _ (v : ℕ) (s : List ℕ) (filled : empty s ≡ false) (is : number s ≡ some v) (lo : leb 1 v ≡ true) where
+module _ (v : ℕ) (s : List ℕ) (filled : empty s ≡ false) (is : number s ≡ Some v) (lo : leb 1 v ≡ true) where
   fault_rp : (o : Bool) → (fault_from o (bytes "201" ∷ s ∷ items201) ≡ 0) × (fault_from o (bytes "301" ∷ s ∷ items301) ≡ 0)
   unfolding bytes spell table edge one_width one_script prefecture is_decimal sized fault value_of item_fault item_value items_fault items_value row_in table_row code_pair form_pair pairs t911 record_from fault_from facts_of
   fault_rp o = (rw (filled, is, lo), rw (filled, is, lo, one))

@@ -4,7 +4,7 @@ use Prim.Native.Nat.{ℕ, ◌≤◌}
 use mathlib.Core.Path.{◌≡◌, refl, sym, ap, ◌∙◌, subst}
 use mathlib.Core.Bool.{true}
 use mathlib.Core.Logic.{◌⊎◌, inl, inr}
-use mathlib.Core.Option.{Option, none, some}
+use Rattle.std.specs.Prelude.{Option, Some, None}
 use mathlib.Core.List.{List, [], ◌∷◌}
 use native.Mathlib.Omega.{arith}
 use borrow.Author.Tests.{leb-true, eqb-true}
@@ -14,8 +14,7 @@ use Rattle.lists.specs.Lists.{all}
 use Rattle.lists.proofs.Tests.{cond_case, both, or_first, or_second, unless_zero, zero_unless}
 use Rattle.digits.specs.Digits.{is_digit, number, spell, digit_count}
 use Rattle.digits.proofs.Numbers.{number_spell, length_spell, digits_spell, some_digit, number_length}
-use Rattle.calendar.specs.declared.DateRead.{DateRead}
-use Rattle.calendar.specs.declared.DateRead.TheVariants.{Date, NotADate}
+use Rattle.calendar.specs.declared.Day.{Day}
 use Rattle.calendar.specs.Era.{read_day}
 use Rattle.eras.specs.Era.{write_day}
 use Rattle.calendar.proofs.Laws.{Plain, read_write, read_is_day, write_shortest, write_plain, write_length}
@@ -73,8 +72,8 @@ postal_good s h =
 
 number_good : (s : List ℕ) (o : Option ℕ) → number s ≡ o → number_fault o ≡ 0 → Good R s (number_value o)
 unfolding fault value_of
-number_good s none e h = absurd (omega arith)
-number_good s (some n) e h =
+number_good s None e h = absurd (omega arith)
+number_good s (Some n) e h =
     let b : (digit_count n ≤ length s) × (n ≤ 999) = number_length s n e in
     let l : length (spell n) ≡ digit_count n = length_spell n b.1 in
     record {
@@ -87,11 +86,11 @@ number_good s (some n) e h =
 
 -- ---- D
 
-day_good : (s : List ℕ) (o : DateRead) → read_day s ≡ o → day_fault o ≡ 0 → Good D s (day_value o)
+day_good : (s : List ℕ) (o : Option Day) → read_day s ≡ o → day_fault o ≡ 0 → Good D s (day_value o)
 unfolding fault value_of
-day_good s NotADate e h = absurd (omega arith)
-day_good s (Date t) e h =
-    let r : read_day (write_day t.ymd) ≡ Date t = read_write t.ymd (read_is_day s t.ymd e) in
+day_good s None e h = absurd (omega arith)
+day_good s (Some t) e h =
+    let r : read_day (write_day t.ymd) ≡ Some t = read_write t.ymd (read_is_day s t.ymd e) in
     record {
       again = ap day_fault r;
       same = ap day_value r;

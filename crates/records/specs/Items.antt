@@ -1,12 +1,10 @@
 -- Definitions, to be believed.
 -- What an item of each kind may be, and what it is read to. Document 01, "Items"; refusals 8 to 11; 15-106 3.2.2, 3.2.5, 3.2.9.
 -- A fault is a number of document 01's table, 0 for none; a value is told of every item and means something where the fault is 0.
-use Rattle.std.specs.Prelude.{ℕ, ◌-◌, Bool, true, false, cond, not, ◌&&◌, ◌||◌, List, [], ◌∷◌, ◌++◌, leb, eqb, length, get_or, take, drop}
-use Rattle.std.proofs.Math.Option.{Option, none, some}
+use Rattle.std.specs.Prelude.{ℕ, ◌-◌, Bool, true, false, cond, not, ◌&&◌, ◌||◌, List, [], ◌∷◌, ◌++◌, Option, Some, None, leb, eqb, length, get_or, take, drop}
 use Rattle.lists.specs.Lists.{within, all, same, last, up_to, ◌or_else◌, unless}
 use Rattle.digits.specs.Digits.{is_digit, value as digits_value, number, spell}
-use Rattle.calendar.specs.declared.DateRead.{DateRead}
-use Rattle.calendar.specs.declared.DateRead.TheVariants.{Date, NotADate}
+use Rattle.calendar.specs.declared.Day.{Day}
 use Rattle.calendar.specs.Era.{read_day}
 use Rattle.eras.specs.Era.{write_day}
 use Rattle.characters.specs.Cells.{is_one_byte, is_two_byte, is_hiragana, is_katakana}
@@ -101,20 +99,20 @@ is_decimal w f s = whole_part w (up_to is_period s) && fraction f (drop (length 
 
 -- R: "one to three digits with value 1–999; leading zeros are read (here)"
 abbrev pub number_fault : Option ℕ → ℕ
-number_fault none = 11
-number_fault (some n) = unless (leb 1 n) 11
+number_fault None = 11
+number_fault (Some n) = unless (leb 1 n) 11
 
 abbrev pub number_value : Option ℕ → Value
-number_value none = raw []
-number_value (some n) = num n
+number_value None = raw []
+number_value (Some n) = num n
 
-abbrev pub day_fault : DateRead → ℕ
-day_fault (Date d) = 0
-day_fault NotADate = 11
+abbrev pub day_fault : Option Day → ℕ
+day_fault (Some d) = 0
+day_fault None = 11
 
-abbrev pub day_value : DateRead → Value
-day_value (Date d) = day d.ymd
-day_value NotADate = raw []
+abbrev pub day_value : Option Day → Value
+day_value (Some d) = day d.ymd
+day_value None = raw []
 
 -- ---- an item that is not empty: its fault, and its value where there is none
 

@@ -4,7 +4,7 @@ use Prim.Native.Nat.{ℕ, zero, suc, ◌+◌, ◌≤◌, ◌<◌}
 use native.Mathlib.Omega.{arith}
 use mathlib.Core.Path.{◌≡◌, refl, sym, ap, ◌∙◌, subst}
 use mathlib.Core.Bool.{Bool, true, false, cond, not}
-use mathlib.Core.Option.{Option, none, some}
+use Rattle.std.specs.Prelude.{Option, Some, None}
 use mathlib.Core.List.{List, [], ◌∷◌, ◌++◌, map, append_assoc, append-nil, head-eq_of_cons-eq, tail-eq_of_cons-eq, nil≢cons}
 use borrow.Author.Tests.{eqb-true, eqb-false, ne_eqb, leb-true, le-leb, lt-leb}
 use lib.Dec.{eqb, leb}
@@ -158,25 +158,25 @@ unmarked_kept (r ∷ rs) (b, t) e =
     let a = both (not (is_mark (text r))) (unmarked rs) e in ((b, not_true' (is_mark (text r)) a.0), unmarked_kept rs t a.1)
 
 -- the rows of a part are those of its piece before the record 911
-part_kept : (d : Bool) (rs : List (List ℕ)) (p : Part) → part_of d rs ≡ some p → All Body rs → KeptPart p × (length p.rows < length rs)
+part_kept : (d : Bool) (rs : List (List ℕ)) (p : Part) → part_of d rs ≡ Some p → All Body rs → KeptPart p × (length p.rows < length rs)
 unfolding part_of
 part_kept d [] p e h = absurd (no_none e)
 part_kept d (r ∷ rs) p e (b, t) = go (is_mark (text r)) refl (λ q f. part_kept d rs q f t) e
   where
-    ends : (us : List (List ℕ)) (m : Option Mark) → last_mark d us m ≡ some p → KeptPart p × (length p.rows < suc (length us))
-    ends [] none f = absurd (no_none f)
-    ends [] (some m) f = subst (λ (q : Part). KeptPart q × (length q.rows < 1)) (some_inj f) (tt, omega arith)
+    ends : (us : List (List ℕ)) (m : Option Mark) → last_mark d us m ≡ Some p → KeptPart p × (length p.rows < suc (length us))
+    ends [] None f = absurd (no_none f)
+    ends [] (Some m) f = subst (λ (q : Part). KeptPart q × (length q.rows < 1)) (some_inj f) (tt, omega arith)
     ends (u ∷ us) m f = absurd (no_none f)
 
-    later : (m : Option Part) → is_mark (text r) ≡ false → ((q : Part) → m ≡ some q → KeptPart q × (length q.rows < length rs)) → row_before r m ≡ some p
+    later : (m : Option Part) → is_mark (text r) ≡ false → ((q : Part) → m ≡ Some q → KeptPart q × (length q.rows < length rs)) → row_before r m ≡ Some p
         → KeptPart p × (length p.rows < suc (length rs))
-    later none n ih f = absurd (no_none f)
-    later (some q) n ih f =
+    later None n ih f = absurd (no_none f)
+    later (Some q) n ih f =
         let i = ih q refl in
         subst (λ (z : Part). KeptPart z × (length z.rows < suc (length rs))) (some_inj f) (((b, n), i.0), omega (arith, i.1))
 
-    go : (x : Bool) → is_mark (text r) ≡ x → ((q : Part) → part_of d rs ≡ some q → KeptPart q × (length q.rows < length rs))
-        → cond x (last_mark d rs (read_mark (text r))) (row_before r (part_of d rs)) ≡ some p → KeptPart p × (length p.rows < suc (length rs))
+    go : (x : Bool) → is_mark (text r) ≡ x → ((q : Part) → part_of d rs ≡ Some q → KeptPart q × (length q.rows < length rs))
+        → cond x (last_mark d rs (read_mark (text r))) (row_before r (part_of d rs)) ≡ Some p → KeptPart p × (length p.rows < suc (length rs))
     go true q ih f = ends rs (read_mark (text r)) f
     go false q ih f = later (part_of d rs) q ih f
 
@@ -185,7 +185,7 @@ rows_from : ℕ → List Part → ℕ
 rows_from k [] = 0
 rows_from k (p ∷ ps) = cond (leb k p.mark.place) (length p.rows) 0 + rows_from k ps
 
-parts_kept : (xs : List Piece) (ps : List Part) (k : ℕ) → all_parts xs ≡ some ps → All (λ x. All Body x.rows) xs
+parts_kept : (xs : List Piece) (ps : List Part) (k : ℕ) → all_parts xs ≡ Some ps → All (λ x. All Body x.rows) xs
     → All KeptPart ps × (length ps + rows_from k ps ≤ lines_of xs)
 unfolding all_parts lines_of rows_from
 parts_kept [] ps k e h = subst (λ (z : List Part). All KeptPart z × (length z + rows_from k z ≤ 0)) (some_inj e) (tt, omega arith)
@@ -196,11 +196,11 @@ parts_kept (x ∷ xs) ps k e (h, t) = go (part_of x.provider x.rows) refl (all_p
     some_of false n = omega arith
 
     go : (m : Option Part) → part_of x.provider x.rows ≡ m → (us : Option (List Part))
-        → ((vs : List Part) → us ≡ some vs → All KeptPart vs × (length vs + rows_from k vs ≤ lines_of xs)) → part_with m us ≡ some ps
+        → ((vs : List Part) → us ≡ Some vs → All KeptPart vs × (length vs + rows_from k vs ≤ lines_of xs)) → part_with m us ≡ Some ps
         → All KeptPart ps × (length ps + rows_from k ps ≤ suc (length x.rows) + lines_of xs)
-    go none q us ih f = absurd (no_none f)
-    go (some p) q none ih f = absurd (no_none f)
-    go (some p) q (some vs) ih f =
+    go None q us ih f = absurd (no_none f)
+    go (Some p) q None ih f = absurd (no_none f)
+    go (Some p) q (Some vs) ih f =
         let i = ih vs refl in
         let y = part_kept x.provider x.rows p q h in
         subst (λ (z : List Part). All KeptPart z × (length z + rows_from k z ≤ suc (length x.rows) + lines_of xs)) (some_inj f)
@@ -216,30 +216,30 @@ fewer k (p ∷ ps) = omega (arith, go (leb (suc k) p.mark.place) refl, fewer k p
     go true e = rw (le-leb k p.mark.place (omega (arith, leb-true (suc k) p.mark.place e))) (omega arith)
     go false e = omega arith
 
-find_rows : (k : ℕ) (ps : List Part) (p : Part) → find_part k ps ≡ some p → All KeptPart ps → KeptPart p × (length p.rows + rows_from (suc k) ps ≤ rows_from k ps)
+find_rows : (k : ℕ) (ps : List Part) (p : Part) → find_part k ps ≡ Some p → All KeptPart ps → KeptPart p × (length p.rows + rows_from (suc k) ps ≤ rows_from k ps)
 unfolding find_part rows_from
 find_rows k [] p e h = absurd (no_none e)
 find_rows k (q ∷ qs) p e (h, t) = go (eqb q.mark.place k) refl (λ f. find_rows k qs p f t) e
   where
-    go : (b : Bool) → eqb q.mark.place k ≡ b → (find_part k qs ≡ some p → KeptPart p × (length p.rows + rows_from (suc k) qs ≤ rows_from k qs))
-        → cond b (some q) (find_part k qs) ≡ some p → KeptPart p × (length p.rows + rows_from (suc k) (q ∷ qs) ≤ rows_from k (q ∷ qs))
+    go : (b : Bool) → eqb q.mark.place k ≡ b → (find_part k qs ≡ Some p → KeptPart p × (length p.rows + rows_from (suc k) qs ≤ rows_from k qs))
+        → cond b (Some q) (find_part k qs) ≡ Some p → KeptPart p × (length p.rows + rows_from (suc k) (q ∷ qs) ≤ rows_from k (q ∷ qs))
     go true r ih f =
         let z : q.mark.place ≡ k = eqb-true _ _ r in
         subst (λ (x : Part). KeptPart x × (length x.rows + rows_from (suc k) (q ∷ qs) ≤ rows_from k (q ∷ qs))) (some_inj f)
         (h, rw (lt-leb (suc k) q.mark.place (omega arith), le-leb k q.mark.place (omega arith)) (omega (arith, fewer k qs)))
     go false r ih f = let i = ih f in (i.0, omega (arith, i.1, fewer k (q ∷ []), fewer k qs))
 
-gather_rows : (ps : List Part) → All KeptPart ps → (n k : ℕ) (ls : List (List ℕ)) → gather ps n k ≡ some ls → All Kept ls × (length ls ≤ rows_from k ps)
+gather_rows : (ps : List Part) → All KeptPart ps → (n k : ℕ) (ls : List (List ℕ)) → gather ps n k ≡ Some ls → All Kept ls × (length ls ≤ rows_from k ps)
 unfolding gather
 gather_rows ps h zero k ls e = subst (λ (z : List (List ℕ)). All Kept z × (length z ≤ rows_from k ps)) (some_inj e) (tt, omega arith)
 gather_rows ps h (suc n) k ls e = go (find_part k ps) refl (gather ps n (suc k)) (gather_rows ps h n (suc k)) e
   where
     go : (m : Option Part) → find_part k ps ≡ m → (g : Option (List (List ℕ)))
-        → ((us : List (List ℕ)) → g ≡ some us → All Kept us × (length us ≤ rows_from (suc k) ps)) → rows_of_part m g ≡ some ls
+        → ((us : List (List ℕ)) → g ≡ Some us → All Kept us × (length us ≤ rows_from (suc k) ps)) → rows_of_part m g ≡ Some ls
         → All Kept ls × (length ls ≤ rows_from k ps)
-    go none q g ih f = absurd (no_none f)
-    go (some p) q none ih f = absurd (no_none f)
-    go (some p) q (some us) ih f =
+    go None q g ih f = absurd (no_none f)
+    go (Some p) q None ih f = absurd (no_none f)
+    go (Some p) q (Some us) ih f =
         let i = ih us refl in
         let y = find_rows k ps p q h in
         subst (λ (z : List (List ℕ)). All Kept z × (length z ≤ rows_from k ps)) (some_inj f)
@@ -252,23 +252,23 @@ record Set (xs : List Piece) (w : Piece) : Type 0 where
 abbrev Bodies : Piece → Type 0
 Bodies x = All Body x.rows
 
-parts_set : (xs : List Piece) (w : Piece) → All Bodies xs → join_parts (all_parts xs) ≡ some w → Set xs w
+parts_set : (xs : List Piece) (w : Piece) → All Bodies xs → join_parts (all_parts xs) ≡ Some w → Set xs w
 parts_set xs w h e = go (all_parts xs) refl e
   where
-    go : (m : Option (List Part)) → all_parts xs ≡ m → join_parts m ≡ some w → Set xs w
-    go none q e = absurd (no_none e)
-    go (some ps) q e =
+    go : (m : Option (List Part)) → all_parts xs ≡ m → join_parts m ≡ Some w → Set xs w
+    go None q e = absurd (no_none e)
+    go (Some ps) q e =
         let j : Joined ps w = parts_joined ps w e in
         let p = parts_kept xs ps 1 q h in
         let g = gather_rows ps p.0 j.count 1 w.rows j.gathered in
         record { kept = g.0; few = omega (arith, j.two, j.many, p.1, g.1) }
 
-joined_set : (xs : List Piece) (w : Piece) → All Bodies xs → join_pieces xs ≡ some w → Set xs w
+joined_set : (xs : List Piece) (w : Piece) → All Bodies xs → join_pieces xs ≡ Some w → Set xs w
 unfolding join_pieces lines_of
 joined_set [] w h e = absurd (no_none e)
 joined_set (x ∷ []) w h e = go (unmarked x.rows) refl e
   where
-    go : (b : Bool) → unmarked x.rows ≡ b → cond b (some x) (join_parts (all_parts (x ∷ []))) ≡ some w → Set (x ∷ []) w
+    go : (b : Bool) → unmarked x.rows ≡ b → cond b (Some x) (join_parts (all_parts (x ∷ []))) ≡ Some w → Set (x ∷ []) w
     go true q f = subst (Set (x ∷ [])) (some_inj f) (record { kept = unmarked_kept x.rows h.0 q; few = omega arith })
     go false q f = parts_set (x ∷ []) w h f
 joined_set (x ∷ y ∷ xs) w h e = parts_set (x ∷ y ∷ xs) w h e
@@ -331,8 +331,8 @@ module _ (ns : List ℕ) (c : Covers never ns) (s : List ℕ) where
       ends = ap line_ends k.bytes ∙ chunk_ends (k.first ∷ k.others) k.good ∙ ap lines_of (sym k.pieces)
 
       go : (o : Option Piece) → join_pieces ps ≡ o → Refuses (Given ns s) (then_checked (or_set o))
-      go none q = without_line 19 (omega arith) m refl
-      go (some w) q =
+      go None q = without_line 19 (omega arith) m refl
+      go (Some w) q =
           let j : Set ps w = joined_set ps w bodies q in
           checked (file_of w) (read_file (file_of w)) (file_refuses w j.kept (omega (arith, j.few, ends)))
 

@@ -4,7 +4,7 @@ use Prim.Native.Nat.{ℕ, ◌<◌}
 use native.Mathlib.Omega.{arith}
 use mathlib.Core.Path.{◌≡◌, refl, sym, ap}
 use mathlib.Core.Bool.{Bool, true, false, cond}
-use mathlib.Core.Option.{Option, none, some}
+use Rattle.std.specs.Prelude.{Option, Some, None}
 use mathlib.Core.List.{List, []}
 use borrow.Author.Tests.{lt-leb}
 use lib.Dec.{leb}
@@ -67,8 +67,8 @@ cut_refuses s c id used =
     (λ b. valid (valid_id id) (unused id used) (cutting id c (arrange b)))
   where
     list : (ps : Option (List (List ℕ))) → Refuses (Given cut_numbers s) (listed ps)
-    list none = without_line 18 (omega arith) refl refl
-    list (some ps) = tt
+    list None = without_line 18 (omega arith) refl refl
+    list (Some ps) = tt
 
     valid : (v u : Bool) (ps : Option (List (List ℕ))) → Refuses (Given cut_numbers s) (for_id v u (listed ps))
     valid true true ps = list ps

@@ -1,8 +1,7 @@
 -- Promises, to be believed.
 -- DOCUMENT 02 (iv), JOINING THAT STOPS LOOKING, as statements about the search (Places.antt, which the contract of `find_piece` names) and about the
 -- definition of joining, which is as before (division, specs/Join.antt). proofs/Promises.antt proves each.
-use Rattle.std.specs.Prelude.{ℕ, zero, suc, ◌+◌, ◌-◌, ◌*◌, ◌<◌, ◌≡◌, ◌↔◌, List, [], ◌∷◌}
-use Rattle.std.proofs.Math.Option.{Option, none, some}
+use Rattle.std.specs.Prelude.{ℕ, zero, suc, ◌+◌, ◌-◌, ◌*◌, ◌<◌, ◌≡◌, ◌↔◌, List, [], ◌∷◌, Option, Some, None}
 use Rattle.division.specs.Join.{Part, find_part}
 use Rattle.division.specs.Orders.{Perm}
 use Rattle.search.specs.Places.{LiesAt, CountIs}
@@ -28,14 +27,14 @@ ks_of (p ∷ ps) = p.mark.place ∷ ks_of ps
 
 -- the piece after i others
 abbrev pub piece_after : ℕ → List Part → Option Part
-piece_after i [] = none
-piece_after zero (p ∷ ps) = some p
+piece_after i [] = None
+piece_after zero (p ∷ ps) = Some p
 piece_after (suc i) (p ∷ ps) = piece_after i ps
 
 abbrev pub FindsThePiece : Type 0
 FindsThePiece =
     (k : ℕ) (ps : List Part) (count : ℕ) → CountIs k (ks_of ps) count
-    → (LiesAt k (ks_of ps) count → find_part k ps ≡ piece_after (count - 1) ps) × ((LiesAt k (ks_of ps) count → ⊥) → find_part k ps ≡ none)
+    → (LiesAt k (ks_of ps) count → find_part k ps ≡ piece_after (count - 1) ps) × ((LiesAt k (ks_of ps) count → ⊥) → find_part k ps ≡ None)
 
 -- ---- over a whole set
 

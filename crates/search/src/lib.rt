@@ -6,16 +6,14 @@
 ghost use Rattle.search.specs.Places.{CountIs};
 
 // How many pieces are looked at for piece k: up to the first that is k, or all.
+#[tactic(auto, using(crate::proofs::Looks::looking_laws))]
 pub fn find_piece(ks: &[u16], k: u16) -> usize
     ensures { CountIs k ks.now result }
 {
-    let mut count: usize = 0;
-    while count < ks.len() {
-        let here = ks[count];
-        count += 1;
-        if here == k {
-            return count;
+    for (before, here) in ks.iter().enumerate() {
+        if *here == k {
+            return before + 1;
         }
     }
-    count // none is k
+    ks.len() // none is k
 }

@@ -1,2 +1,1 @@
-pub mod EightLaws
-pub mod RunLaws
+pub mod IdLaws

@@ -4,7 +4,7 @@ use Prim.Native.Nat.{ℕ, suc, ◌≤◌}
 use native.Mathlib.Omega.{arith}
 use mathlib.Core.Path.{◌≡◌, refl, ap, sym, ◌∙◌}
 use mathlib.Core.Bool.{Bool, true, false, not, ◌&&◌, ◌||◌, or-true, or-false, and-true}
-use mathlib.Core.Option.{Option, none, some}
+use Rattle.std.specs.Prelude.{Option, Some, None}
 use mathlib.Core.List.{List, [], ◌∷◌}
 use lib.Dec.{leb, ltb, eqb}
 use borrow.Author.Tests.{le-leb, lt-leb, leb-true, leb-false}
@@ -138,10 +138,10 @@ module _ (o : Bool) (d : ℕ) (K : Bool) (g : Group) (rs : List Facts) (h : Clos
 
   read_51 : (x : Prescriptions) → values_from 1 (rps x) ≡ true → (r51 : Option Details) (p : ℕ) → In p (15 ∷ 11 ∷ 5 ∷ []) → (e : Bool) (k : ℕ)
       → runs (st o p d e k false false 0 false false) (opt 51 r51 (prescriptions_records x (rest_records g rs))) ≡ whole e k r51 x
-  read_51 x w none p m e k =
+  read_51 x w None p m e k =
       prescriptions_read x w p (there m) e k false
       ∙ ap (λ a. (all_named o k (rps x) && (o ⇒ asks e k false a true x)) && K) (at_each 0 (λ p. eqb p 51) (λ p. false) refl m)
-  read_51 x w (some b) p m e k =
+  read_51 x w (Some b) p m e k =
       step (st o p d e k false false 0 false false) (rec 51 b) _ (at_51 o d e k false false 0 false false b m)
       ∙ ap (λ z. (o ⇒ not (treats k)) && z) (prescriptions_read x w 51 here e k true)
       ∙ taut 10 (λ o t n e s y q r z K. (o ⇒ not t) && ((n && (o ⇒ e && (s && ((t ⇒ y) && ((q ⇒ true) && (r && z)))))) && K))
@@ -151,15 +151,15 @@ module _ (o : Bool) (d : ℕ) (K : Bool) (g : Group) (rs : List Facts) (h : Clos
 
   read_15 : (x : Prescriptions) → values_from 1 (rps x) ≡ true → (r51 r15 : Option Details) (p : ℕ) → In p (11 ∷ 5 ∷ []) → (e : Bool) (k : ℕ)
       → runs (st o p d e k false false 0 false false) (opt 15 r15 (opt 51 r51 (prescriptions_records x (rest_records g rs)))) ≡ whole e k r51 x
-  read_15 x w r51 none p m e k = read_51 x w r51 p (there m) e k
-  read_15 x w r51 (some b) p m e k =
+  read_15 x w r51 None p m e k = read_51 x w r51 p (there m) e k
+  read_15 x w r51 (Some b) p m e k =
       step (st o p d e k false false 0 false false) (rec 15 b) _ (at_15 o d e k false false 0 false false b m) ∙ read_51 x w r51 15 here e k
 
   read_11 : (x : Prescriptions) → values_from 1 (rps x) ≡ true → (r51 r15 r11 : Option Details)
       → runs (st o 5 d false 0 false false 0 false false) (opt 11 r11 (opt 15 r15 (opt 51 r51 (prescriptions_records x (rest_records g rs)))))
       ≡ whole (stands r11) (schedule_of r11) r51 x
-  read_11 x w r51 r15 none = read_15 x w r51 r15 5 (there here) false 0
-  read_11 x w r51 r15 (some b) =
+  read_11 x w r51 r15 None = read_15 x w r51 r15 5 (there here) false 0
+  read_11 x w r51 r15 (Some b) =
       step (st o 5 d false 0 false false 0 false false) (rec 11 b) _ (at_11 o d false 0 false false 0 false false b here)
       ∙ read_15 x w r51 r15 11 here true b.schedule
 
@@ -275,8 +275,8 @@ tree_read o t w = by t.r1
 
     by : (r1 : Option Details)
         → runs (hd o 0) (opt 1 r1 (any_of 2 t.r2s (any_of 3 t.r3s (any_of 4 t.r4s (behind_head t))))) ≡ ((o || stands r1) && head_good o t.groups)
-    by none = from_2 0 (there (there here))
-    by (some b) = step (hd o 0) (rec 1 b) _ (head_1 o b here) ∙ from_2 1 (there here)
+    by None = from_2 0 (there (there here))
+    by (Some b) = step (hd o 0) (rec 1 b) _ (head_1 o b here) ∙ from_2 1 (there here)
 
 -- ---- in the words of the grammar
 

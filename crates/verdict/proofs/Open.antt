@@ -4,7 +4,7 @@
 use Prim.Native.Nat.{ℕ, ◌+◌}
 use mathlib.Core.Path.{◌≡◌, refl, ap, sym, ◌∙◌}
 use mathlib.Core.Bool.{Bool, true, false, not, ◌&&◌, false≢true}
-use mathlib.Core.Option.{Option, none, some}
+use Rattle.std.specs.Prelude.{Option, Some, None}
 use mathlib.Core.List.{List, [], ◌∷◌}
 use Rattle.lists.proofs.Tests.{both}
 use Rattle.order.specs.declared.Facts.{Facts}
@@ -45,10 +45,10 @@ put {n} {g} {X} {rs} b h a = record {
 }
 
 pub pass : {n : ℕ} {X : List Facts → Type 0} {rs : List Facts} → X rs → Opt n X rs
-pass {n} {X} {rs} x = record { item = none; left = rs; written = refl; after = x }
+pass {n} {X} {rs} x = record { item = None; left = rs; written = refl; after = x }
 
 pub one_of : {n : ℕ} {X : List Facts → Type 0} {rs : List Facts} (b : Details) → X rs → Opt n X (rec n b ∷ rs)
-one_of {n} {X} {rs} b x = record { item = some b; left = rs; written = refl; after = x }
+one_of {n} {X} {rs} b x = record { item = Some b; left = rs; written = refl; after = x }
 
 -- the end
 abbrev pub Over : List Facts → Type 0
@@ -166,7 +166,7 @@ add_drug {v} {c} {rs} b h a =
 
 pub add_usage : {v : ℕ} {c : Bool} {rs : List Facts} (b : Details) → valued v b ≡ true → From311 v c rs → FromUsage v c (rec 301 b ∷ rs)
 add_usage {v} {c} {rs} b h a = record {
-  part = some (record { r301 = b; r311s = a.items });
+  part = Some (record { r301 = b; r311s = a.items });
   left = a.left;
   written = ap (λ l. rec 301 b ∷ l) a.written;
   valued_so = rw h a.fits;
@@ -174,7 +174,7 @@ add_usage {v} {c} {rs} b h a = record {
 }
 
 pub no_usage : {v : ℕ} {c : Bool} {rs : List Facts} → From391 v c rs → FromUsage v c rs
-no_usage {v} {c} {rs} a = record { part = none; left = rs; written = refl; valued_so = refl; after = a }
+no_usage {v} {c} {rs} a = record { part = None; left = rs; written = refl; valued_so = refl; after = a }
 
 pub no_drug : {v : ℕ} {c : Bool} {rs : List Facts} → FromUsage v c rs → FromDrugs v c rs
 no_drug {v} {c} {rs} a = record { ds = []; left = rs; written = refl; valued_so = refl; after = a }
@@ -206,7 +206,7 @@ pub add_rp : {v : ℕ} {c : Bool} {rs : List Facts} → FromRp (v + 1) c rs → 
 add_rp {v} {c} {rs} a =
     let m = a.after in
     record {
-      ls = record { r55 = none; prescription = a.rp } ∷ m.ls;
+      ls = record { r55 = None; prescription = a.rp } ∷ m.ls;
       left = m.left;
       written = ap (rp_records a.rp) m.written ∙ a.written;
       valued_so = rw a.valued_so m.valued_so;
@@ -218,7 +218,7 @@ pub add_55 : {v : ℕ} {rs : List Facts} (b : Details) → FromRp (v + 1) true r
 add_55 {v} {rs} b a =
     let m = a.after in
     record {
-      ls = record { r55 = some b; prescription = a.rp } ∷ m.ls;
+      ls = record { r55 = Some b; prescription = a.rp } ∷ m.ls;
       left = m.left;
       written = ap (λ l. rec 55 b ∷ l) (ap (rp_records a.rp) m.written ∙ a.written);
       valued_so = rw a.valued_so m.valued_so;
@@ -229,8 +229,8 @@ add_55 {v} {rs} b a =
 -- ---- the prescriptions of a group
 
 plain_opt : (o : Option Details) (rs : List Facts) → not (stands o) ≡ true → opt 55 o rs ≡ rs
-plain_opt none rs h = refl
-plain_opt (some b) rs h = absurd (false≢true h)
+plain_opt None rs h = refl
+plain_opt (Some b) rs h = absurd (false≢true h)
 
 plain_later : (ls : List Later) (rs : List Facts) → no_later55 ls ≡ true → later_records ls rs ≡ plain_records (later_ones ls) rs
 plain_later [] rs h = refl

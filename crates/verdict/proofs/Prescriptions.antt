@@ -4,7 +4,7 @@ use Prim.Native.Nat.{ℕ, ◌+◌}
 use native.Mathlib.Omega.{arith}
 use mathlib.Core.Path.{◌≡◌, refl, ap, ◌∙◌}
 use mathlib.Core.Bool.{Bool, true, false, not, ◌&&◌, ◌||◌, false≢true}
-use mathlib.Core.Option.{Option, none, some}
+use Rattle.std.specs.Prelude.{Option, Some, None}
 use mathlib.Core.List.{List, [], ◌∷◌}
 use lib.Dec.{eqb}
 use borrow.Author.Tests.{ne_eqb, eqb-true}
@@ -54,8 +54,8 @@ module _ (o : Bool) (d : ℕ) (e : Bool) (k : ℕ) (f i : Bool) where
   usage_read : (v : ℕ) (c W : Bool) (rs : List Facts) → Behind v c W rs → (y : Option Usage) → usage_valued v y ≡ true
       → (bs : List Details) → all_of (valued v) bs ≡ true → (p : ℕ) → In p drug_places
       → runs (st o p d e k f i v false c) (usage_records y (any_of 391 bs rs)) ≡ (usage_named o k y && ((o ⇒ stands y) && W))
-  usage_read v c W rs h none w bs g p m = notes v false c W rs h bs g p (among rp_places refl m)
-  usage_read v c W rs h (some y) w bs g p m =
+  usage_read v c W rs h None w bs g p m = notes v false c W rs h bs g p (among rp_places refl m)
+  usage_read v c W rs h (Some y) w bs g p m =
       let w2 = both (valued v y.r301) (all_of (valued v) y.r311s) w in
       let named : Bool = name_asked o k y.r301.form ⇒ y.r301.named in
       step (st o p d e k f i v false c) (rec 301 y.r301) _ (at_301 o d e k f i v false c y.r301 m ∙ ap (λ x. named && x) w2.0 ∙ and_same named)
@@ -141,8 +141,8 @@ module _ (o : Bool) (d : ℕ) (e : Bool) (k : ℕ) (f i : Bool) where
   under_55 : (x : Prescription) (ps : List Prescription) (v : ℕ) (u W : Bool) (rs : List Facts) → (o ⇒ not (treats k)) ≡ true → one_value (v + 1) x ≡ true
       → Behind (v + 1) true (usages ps && W) rs → (r : Option Details) (p : ℕ) → In p rp_places
       → runs (st o p d e k f i v u true) (opt 55 r (rp_records x rs)) ≡ ((o ⇒ u) && (usages (x ∷ ps) && W))
-  under_55 x ps v u W rs t g h none p m = joined x ps v u true W rs g h p m
-  under_55 x ps v u W rs t g h (some b) p m =
+  under_55 x ps v u W rs t g h None p m = joined x ps v u true W rs g h p m
+  under_55 x ps v u W rs t g h (Some b) p m =
       step (st o p d e k f i v u true) (rec 55 b) _ (at_55 o d e k f i v u true b (among to401 refl m))
       ∙ ap (λ y. ((in_rp p ⇒ true) && (o ⇒ not (treats k) && not (in_rp p && not u))) && y) (rp_read v u true (usages ps && W) rs x g h 55 here)
       ∙ rw (in_rp_lem m) (so o u (treats k) (usage_named o k x.usage) (stands x.usage) (all_named o k ps) (each301 ps) t)

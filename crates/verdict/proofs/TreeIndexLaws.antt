@@ -5,7 +5,7 @@ use native.Mathlib.Omega.{arith}
 use mathlib.Core.Path.{◌≡◌, refl, ap, ap₂, sym, ◌∙◌, subst}
 use mathlib.Core.Logic.{◌⊎◌, inl, inr}
 use mathlib.Core.Bool.{Bool, true, false, cond, ◌||◌, false≢true}
-use mathlib.Core.Option.{Option, none, some}
+use Rattle.std.specs.Prelude.{Option, Some, None}
 use mathlib.Core.List.{List, [], ◌∷◌, ◌++◌, map}
 use lib.Dec.{eqb}
 use borrow.Author.Tests.{ne_eqb}
@@ -89,8 +89,8 @@ any_rows_lem n w g c a s rs k h (b ∷ bs) l = s l b (any_of n bs rs) ∙ ap (λ
 
 opt_rows_lem : (n : ℕ) (w : TreeRow) (g : Visit) (c a : ℕ) → ((l : ℕ) (b : Details) (rs : List Facts) → hand l g c a (rec n b ∷ rs) ≡ w ∷ hand (l + 1) g c a rs)
     → (rs : List Facts) (k : ℕ → List TreeRow) → ((l : ℕ) → hand l g c a rs ≡ k l) → (o : Option Details) (l : ℕ) → hand l g c a (opt n o rs) ≡ opt_rows w l o k
-opt_rows_lem n w g c a s rs k h none l = h l
-opt_rows_lem n w g c a s rs k h (some b) l = s l b rs ∙ ap (λ x. w ∷ x) (h (l + 1))
+opt_rows_lem n w g c a s rs k h None l = h l
+opt_rows_lem n w g c a s rs k h (Some b) l = s l b rs ∙ ap (λ x. w ∷ x) (h (l + 1))
 
 module _ (g : Visit) (c : ℕ) where
   drug_rows_lem : (d : Drug) (rs : List Facts) (k : ℕ → List TreeRow) → Then g c rs k → Then g c (drug_records d rs) (λ l. drug_rows g c l d k)
@@ -106,8 +106,8 @@ module _ (g : Visit) (c : ℕ) where
 
   usage_rows_lem : (y : Option Usage) (rs : List Facts) (k : ℕ → List TreeRow) → Then g c rs k → Then g c (usage_records y rs) (λ l. usage_rows g c l y k)
   unfolding hand after shown clinic_after clinic_of in_group
-  usage_rows_lem none rs k h l a = h l a
-  usage_rows_lem (some y) rs k h l a = ap (λ x. tree_row 301 g c 0 ∷ x) (any_rows_lem 311 (tree_row 311 g c 0) g c a (λ l b rs. refl) rs k (λ m. h m a) y.r311s (l + 1))
+  usage_rows_lem None rs k h l a = h l a
+  usage_rows_lem (Some y) rs k h l a = ap (λ x. tree_row 301 g c 0 ∷ x) (any_rows_lem 311 (tree_row 311 g c 0) g c a (λ l b rs. refl) rs k (λ m. h m a) y.r311s (l + 1))
 
   rp_rows_lem : (p : Prescription) (rs : List Facts) (k : ℕ → List TreeRow) → Then g c rs k → Then g c (rp_records p rs) (λ l. rp_rows g c l p k)
   unfolding hand after shown clinic_after clinic_of in_group
@@ -127,8 +127,8 @@ module _ (g : Visit) (rs : List Facts) (k : ℕ → List TreeRow) (h : ThenAll g
     where
       by : (o : Option Details) → ((c : ℕ) → Then g c (later_records ys rs) (λ l. later_rows g c l ys k))
           → hand l g c a (opt 55 o (rp_records y.prescription (later_records ys rs))) ≡ under_rows g c l o y.prescription (λ c' m. later_rows g c' m ys k)
-      by none ih = rp_rows_lem g c y.prescription (later_records ys rs) (λ m. later_rows g c m ys k) (ih c) l a
-      by (some b) ih =
+      by None ih = rp_rows_lem g c y.prescription (later_records ys rs) (λ m. later_rows g c m ys k) (ih c) l a
+      by (Some b) ih =
           ap (λ x. tree_row 55 g 0 0 ∷ x) (rp_rows_lem g (l + 1) y.prescription (later_records ys rs) (λ m. later_rows g (l + 1) m ys k) (ih (l + 1)) (l + 1) a)
 
   prescriptions_rows_lem : (x : Prescriptions) → Then g 0 (prescriptions_records x rs) (λ l. prescriptions_rows g l x k)
@@ -149,8 +149,8 @@ rest_rows_lem g x rs k h l c a =
 clinic_rows_lem : (g : ℕ) (o : Option Details) (rs : List Facts) (k : Visit → ℕ → List TreeRow) → ((v : Visit) → v.group ≡ g → Then v 0 rs (k v)) → (l a : ℕ)
     → hand l (visit g 0) 0 a (opt 51 o rs) ≡ clinic_rows g l o k
 unfolding hand after shown clinic_after clinic_of in_group
-clinic_rows_lem g none rs k h l a = h (visit g 0) refl l a
-clinic_rows_lem g (some b) rs k h l a = ap (λ y. bare (visit g (l + 1)) 51 ∷ y) (h (visit g (l + 1)) refl (l + 1) a)
+clinic_rows_lem g None rs k h l a = h (visit g 0) refl l a
+clinic_rows_lem g (Some b) rs k h l a = ap (λ y. bare (visit g (l + 1)) 51 ∷ y) (h (visit g (l + 1)) refl (l + 1) a)
 
 group_rows_lem : (g : ℕ) (x : Group) (rs : List Facts) (k : ℕ → List TreeRow) → ThenNext (g + 1) rs k → (l clinic c a : ℕ)
     → hand l (visit g clinic) c a (group_records x rs) ≡ group_rows (g + 1) l x k

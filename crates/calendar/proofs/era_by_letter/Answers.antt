@@ -1,8 +1,8 @@
-use Rattle.std.proofs.Common.{rules}
-use Rattle.std.proofs.Common.{refl, arith}
-use Rattle.eras.specs.Era.{era_of}
+use Rattle.std.proofs.Common.{rules, tests, ◌∙◌}
+use Rattle.std.proofs.lemmas.Iterator.{YieldsList-from_slice}
+use Rattle.std.proofs.lemmas.Iterator.Search.{find_from_yields_List}
+use Rattle.eras.specs.Era.{eras, has_letter}
 use Rattle.calendar.proofs.era_by_letter.Goals as goal
 
-pub loop-i-init : goal.loop-i-init
-unfolding era_of
-loop-i-init c = (omega arith, refl)
+pub returns : goal.returns
+returns c = c.copied.ensures ∙ find_from_yields_List (has_letter c.args.letter) _ _ _ c.find.ensures.ran (YieldsList-from_slice eras c.iter.ensures.rest) (λ x b q k. search (rules, tests))

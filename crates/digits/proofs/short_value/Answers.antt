@@ -1,36 +1,17 @@
-use Rattle.std.proofs.Common.{rules}
-use Rattle.digits.proofs.Loops.{num_laws}
+use Rattle.std.proofs.Common.{rules, arith}
+use Rattle.digits.proofs.Reading.{short_third, short_two, short_three}
 use Rattle.digits.proofs.short_value.Goals as goal
 
-pub returns-then-len-eq0 : goal.returns-then-len-eq0
-returns-then-len-eq0 c = search (rules, num_laws)
+pub returns-in_err-digit-in-len3-3 : goal.returns-in_err-digit-in-len3-3
+returns-in_err-digit-in-len3-3 c =
+    short_third _ (omega arith) c.digit-in-len3.ensures (omega arith) (omega arith) {x = c.in_ok-digit-in-len3.field-0} (search rules) c.digit-in-len3-2.ensures (omega arith) {y = c.in_ok-digit-in-len3-2.field-0} (search rules)
+    c.digit-in-len3-3.ensures (search rules) (search rules)
 
-pub returns-then-len-gt3 : goal.returns-then-len-gt3
-returns-then-len-gt3 c = search (rules, num_laws)
+pub returns-in_ok-digit-in-len2-2 : goal.returns-in_ok-digit-in-len2-2
+returns-in_ok-digit-in-len2-2 c =
+    short_two _ (omega arith) c.digit-in-len2.ensures (omega arith) (omega arith) (search rules) c.digit-in-len2-2.ensures (omega arith) (search rules)
 
-pub returns-then-a-lt48 : goal.returns-then-a-lt48
-returns-then-a-lt48 c = search (rules, num_laws)
-
-pub returns-then-a-gt57 : goal.returns-then-a-gt57
-returns-then-a-gt57 c = search (rules, num_laws)
-
-pub returns-then-len-eq1 : goal.returns-then-len-eq1
-returns-then-len-eq1 c = search (rules, num_laws)
-
-pub returns-then-b-lt48 : goal.returns-then-b-lt48
-returns-then-b-lt48 c = search (rules, num_laws)
-
-pub returns-then-b-gt57 : goal.returns-then-b-gt57
-returns-then-b-gt57 c = search (rules, num_laws)
-
-pub returns-then-len-eq2 : goal.returns-then-len-eq2
-returns-then-len-eq2 c = search (rules, num_laws)
-
-pub returns-then-c-lt48 : goal.returns-then-c-lt48
-returns-then-c-lt48 c = search (rules, num_laws)
-
-pub returns-then-c-gt57 : goal.returns-then-c-gt57
-returns-then-c-gt57 c = search (rules, num_laws)
-
-pub returns : goal.returns
-returns c = search (rules, num_laws)
+pub returns-in_ok-digit-in-len3-3 : goal.returns-in_ok-digit-in-len3-3
+returns-in_ok-digit-in-len3-3 c =
+    short_three _ (omega arith) c.digit-in-len3.ensures (omega arith) (omega arith) {x = c.in_ok-digit-in-len3.field-0} (search rules) c.digit-in-len3-2.ensures (omega arith) (search rules)
+    c.digit-in-len3-3.ensures (search rules)

@@ -1,18 +1,14 @@
-use Rattle.std.proofs.Common.{rules}
-use Rattle.used.proofs.RunLaws.{run_laws}
+use Rattle.std.proofs.Common.{rules, tests}
+use Rattle.std.proofs.lemmas.Iterator.Search.{any_from_yields_List}
+use Rattle.lists.specs.Lists.{same}
+use Rattle.used.proofs.IdLaws.{parts_are_ids, other_length, none_is}
 use Rattle.used.proofs.is_unused.Goals as goal
 
-pub returns-then-used-ne0 : goal.returns-then-used-ne0
-returns-then-used-ne0 c = search (rules, run_laws)
+pub returns-then-used-eq0 : goal.returns-then-used-eq0
+returns-then-used-eq0 c =
+    none_is c.args.id.now c.args.used.now c.if-used-eq0.true
+    (any_from_yields_List (λ i. same i c.args.id.now) _ _ _ c.any.ensures.ran
+    (parts_are_ids c.args.used.now c.chunks_exact.ensures.rest c.chunks_exact.ensures.size) (λ x b q k. search (rules, tests)))
 
-pub loop-i-init : goal.loop-i-init
-loop-i-init c = search (rules, run_laws)
-
-pub returns-then-stands_at : goal.returns-then-stands_at
-returns-then-stands_at c = search (rules, run_laws)
-
-pub loop-i-preserved : goal.loop-i-preserved
-loop-i-preserved c = search (rules, run_laws)
-
-pub returns : goal.returns
-returns c = search (rules, run_laws)
+pub returns-else-used-eq0 : goal.returns-else-used-eq0
+returns-else-used-eq0 c = other_length c.args.id.now c.args.used.now c.if-used-eq0.false

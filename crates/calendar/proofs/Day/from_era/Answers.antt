@@ -1,26 +1,18 @@
-use Rattle.std.proofs.Common.{rules}
-use Rattle.std.proofs.Common.{arith, sym, ap}
+use Rattle.std.proofs.Common.{◌≡◌, arith}
+use Rattle.std.proofs.lemmas.Grind.{common_steps}
+use Rattle.eras.specs.Era.{era_of}
 use Rattle.calendar.specs.Era.{from_era, in_era}
-use Rattle.eras.proofs.Eras.{letter_small}
-use Rattle.eras.specs.declared.Era.{Era}
-use borrow.Author.Tests.{le-leb, lt-leb}
+use Rattle.calendar.proofs.Steps.{era_of_first}
 use Rattle.calendar.proofs.Day.from_era.Goals as goal
 
-pub returns-then-n-gt999999 : goal.returns-then-n-gt999999
-unfolding from_era
-returns-then-n-gt999999 c = simp (lt-leb _ _ c.if-n-gt999999.true)
-
-pub overflow_add-ymd : goal.overflow_add-ymd
-overflow_add-ymd c = omega (arith, letter_small c.args.letter, ap (λ (e : Era). e.before) c.era_by_letter-e.ensures)
-
-pub returns-then-ymd-e : goal.returns-then-ymd-e
+pub returns-then-contains : goal.returns-then-contains
 unfolding from_era in_era
-returns-then-ymd-e c = simp (le-leb _ _ c.if-n-gt999999.false, sym c.era_by_letter-e.ensures, lt-leb _ _ c.if-ymd-e.true)
+returns-then-contains c =
+    let e : era_of c.args.letter ≡ c.in_ok-e.e = grind (arith, common_steps, era_of_first c.args.letter) in
+    rw e (grind (arith, common_steps))
 
-pub returns-then-e-ymd : goal.returns-then-e-ymd
+pub returns-else-contains : goal.returns-else-contains
 unfolding from_era in_era
-returns-then-e-ymd c = simp (le-leb _ _ c.if-n-gt999999.false, sym c.era_by_letter-e.ensures, le-leb _ _ c.if-ymd-e.false, lt-leb _ _ c.if-e-ymd.true)
-
-pub returns : goal.returns
-unfolding from_era in_era
-returns c = simp (le-leb _ _ c.if-n-gt999999.false, sym c.era_by_letter-e.ensures, le-leb _ _ c.if-ymd-e.false, le-leb _ _ c.if-e-ymd.false) c.from_gregorian.ensures
+returns-else-contains c =
+    let e : era_of c.args.letter ≡ c.in_ok-e.e = grind (arith, common_steps, era_of_first c.args.letter) in
+    rw e (grind (arith, common_steps))

@@ -1,19 +1,17 @@
-use Rattle.std.proofs.Common.{rules}
-use Rattle.std.proofs.Common.{arith}
-use Rattle.calendar.proofs.EraForm.{small_of, form_laws}
+use Rattle.std.proofs.Common.{refl}
+use Rattle.calendar.proofs.EraForm.{form_always, form_long, form_on, form_none}
 use Rattle.calendar.proofs.Day.is_written_form.Goals as goal
 
-pub returns-then-at_last-letter : goal.returns-then-at_last-letter
-returns-then-at_last-letter c = search (rules, form_laws)
+pub returns-then-is_under : goal.returns-then-is_under
+returns-then-is_under c = form_always _ c.requires refl c.era_by_letter.ensures c.in-Some.is c.is_under.ensures c.if-is_under.true
 
-pub returns-then-k-gt999999 : goal.returns-then-k-gt999999
-returns-then-k-gt999999 c = search (rules, form_laws)
+pub returns-then-k-le999999 : goal.returns-then-k-le999999
+returns-then-k-le999999 c =
+    form_on _ c.requires refl c.era_by_letter.ensures c.in-Some.is c.digits_value.ensures c.in-Some-digits_value.is c.is_under-then-k-le999999.ensures
 
-pub overflow_add-e : goal.overflow_add-e
-overflow_add-e c = omega (arith, small_of _ c.era_by_letter-e.ensures, c.if-k-gt999999.false)
+pub returns-else-k-le999999 : goal.returns-else-k-le999999
+returns-else-k-le999999 c =
+    form_long _ c.requires refl c.era_by_letter.ensures c.in-Some.is c.digits_value.ensures c.in-Some-digits_value.is c.if-k-le999999.false
 
-pub returns-else-k-gt999999 : goal.returns-else-k-gt999999
-returns-else-k-gt999999 c = search (rules, form_laws)
-
-pub returns-in-NoNumber : goal.returns-in-NoNumber
-returns-in-NoNumber c = search (rules, form_laws)
+pub returns-in-None : goal.returns-in-None
+returns-in-None c = form_none _ c.requires refl c.era_by_letter.ensures c.in-Some.is c.digits_value.ensures c.in-None.is
