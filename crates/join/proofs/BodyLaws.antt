@@ -1,14 +1,11 @@
 -- The rows of a piece as a run of bytes, with or without a record 911 at its end. Assumes nothing.
 use Prim.Native.Nat.{ℕ, ◌+◌, ◌-◌, ◌≤◌}
 use mathlib.Core.Path.{◌≡◌, refl, sym, ap, ap₂, ◌∙◌, subst}
-use mathlib.Core.Bool.{Bool, true, false, cond, not, ◌&&◌, beq, false≢true, and-false}
-use mathlib.Core.Option.{Option, none, some}
+use mathlib.Core.Bool.{Bool, true, false, cond, not, ◌&&◌, false≢true}
+use Rattle.std.specs.Prelude.{Option}
 use mathlib.Core.List.{List, [], ◌∷◌, ◌++◌, append_assoc, append-nil}
 use native.Mathlib.Omega.{arith}
-use borrow.Author.Tests.{eq-eqb, ne_eqb, eqb-true, eqb-false, not-true, not-false}
-use mir.Val.{Fits}
-use mir.Syntax.{w64}
-use lib.Dec.{eqb}
+use borrow.Author.Tests.{not-true}
 use lib.ListN.{length, take, drop, length-append}
 use lib.Seq.{take-take}
 use Rattle.lists.specs.Lists.{same}
@@ -22,17 +19,15 @@ use Rattle.notebook.specs.Canonical.{head_row}
 use Rattle.lists.proofs.Parts.{part_length, part_none, part_join, part_part}
 use Rattle.pieces.specs.declared.Row.{Row}
 use Rattle.pieces.specs.declared.Row.TheVariants.{Head, EndHead, Body, End, Broken}
-use Rattle.pieces.specs.declared.Numbers.{Numbers}
-use Rattle.pieces.specs.declared.Numbers.TheVariants.{Read, Unread}
 use Rattle.division.specs.Marks.{Mark, read_mark}
 use Rattle.division.specs.Pieces.{RowKind, head, end_head, body, end, broken, kind_of, body_step, body_of, opened, pieces_in}
 use Rattle.pieces.specs.Answers.{RowAt, as_kind, KindIs, as_mark, Most, Reaches, MarkIs}
-use Rattle.std.specs.Prelude.{Some, None, Result, Ok, Err}
+use Rattle.std.specs.Prelude.{Some, None, Ok, Err}
 use Rattle.replies.specs.declared.refusal.Refusal.{Refusal}
 use Rattle.replies.specs.declared.refusal.Refusal.TheVariants.{Set}
-use Rattle.join.specs.declared.body.Mark.{Mark as NandK}
-use Rattle.division.specs.Join.{unmarked, Part, row_before, last_mark, part_of, part_with, agree}
-use Rattle.join.specs.Spans.{is_whole, unbroken, is_body, goes_on, LineAt, part_by, ident_at, MarkedLines, LastMeans, LastIs, LinesMean, LinesAre}
+use Rattle.pieces.specs.declared.Mark.{Mark as NandK}
+use Rattle.division.specs.Join.{unmarked, Part, row_before, last_mark, part_of}
+use Rattle.join.specs.Spans.{is_whole, unbroken, is_body, goes_on, LineAt, part_by, ident_at, LastIs, LinesAre}
 use Rattle.join.proofs.WalkLaws.{row_bounds, goes_over, goes_head, goes_end_head, goes_end, goes_broken, unbroken_step}
 
 -- ---- a row of kind body is a line; its text is all but two bytes
@@ -82,16 +77,16 @@ module _ {s : List ℕ} {at e : ℕ} (x : LineAt s at e) where
 
 -- ---- the last record 911
 
-last_none : (d : Bool) (rs : List (List ℕ)) → last_mark d rs none ≡ none
+last_none : (d : Bool) (rs : List (List ℕ)) → last_mark d rs None ≡ None
 last_none d [] = refl
 last_none d (r ∷ rs) = refl
 
-body_on : (rs : List (List ℕ)) (d : Bool) (m : Option Mark) → goes_on rs ≡ true → last_mark d (body_of rs) m ≡ none
+body_on : (rs : List (List ℕ)) (d : Bool) (m : Option Mark) → goes_on rs ≡ true → last_mark d (body_of rs) m ≡ None
 unfolding body_of
 body_on [] d m e = absurd (false≢true e)
 body_on (r ∷ rs) d m e = go (kind_of r) e
   where
-    go : (k : RowKind) → is_body k ≡ true → last_mark d (body_step r (body_of rs) k) m ≡ none
+    go : (k : RowKind) → is_body k ≡ true → last_mark d (body_step r (body_of rs) k) m ≡ None
     go (head x) e = absurd (false≢true e)
     go (end_head x) e = absurd (false≢true e)
     go body e = refl
@@ -110,23 +105,23 @@ body_over (r ∷ rs) e = go (kind_of r) e
     go end e = refl
     go broken e = refl
 
-module _ {s : List ℕ} {at e : ℕ} (x : LineAt s at e) {m : Numbers} (p : MarkIs (take (e - 2 - at) (drop at s)) m) where
-  read : {j : Numbers} → m ≡ j → read_mark (text (part s at e)) ≡ as_mark (part (part s at (e - 2)) 4 18) j
+module _ {s : List ℕ} {at e : ℕ} (x : LineAt s at e) {o : Option NandK} (p : MarkIs (take (e - 2 - at) (drop at s)) o) where
+  read : {j : Option NandK} → o ≡ j → read_mark (text (part s at e)) ≡ as_mark (part (part s at (e - 2)) 4 18) j
   read q = ap read_mark (line_text x) ∙ (p.is ∙ ap (as_mark (part (part s at (e - 2)) 4 18)) q)
 
-  wrong : ((d : Bool) → last_mark d (body_of (rows (drop e s))) (read_mark (text (part s at e))) ≡ none) → LastIs s at e (Err Set)
+  wrong : ((d : Bool) → last_mark d (body_of (rows (drop e s))) (read_mark (text (part s at e))) ≡ None) → LastIs s at e (Err Set)
   wrong f = record { means = record { number = refl; none = f } }
 
-  pub last_unread : m ≡ Unread → LastIs s at e (Err Set)
+  pub last_unread : o ≡ None → LastIs s at e (Err Set)
   last_unread q = wrong (λ d. ap (last_mark d (body_of (rows (drop e s)))) (read q) ∙ last_none d (body_of (rows (drop e s))))
 
-  module _ {n k : ℕ} (q : m ≡ Read n k) {y : Bool} (g : y ≡ goes_on (rows (drop e s))) where
+  module _ {m : NandK} (q : o ≡ Some m) {y : Bool} (g : y ≡ goes_on (rows (drop e s))) where
     pub last_on : y ≡ true → LastIs s at e (Err Set)
     last_on t = wrong (λ d. body_on (rows (drop e s)) d (read_mark (text (part s at e))) (sym g ∙ t))
 
-    pub last_read : y ≡ false → LastIs s at e (Ok (record { n = n; k = k }))
+    pub last_read : y ≡ false → LastIs s at e (Ok m)
     last_read t =
-        let c : (n ≤ 999) × (k ≤ 999) = subst Most q p.most in
+        let c : (m.count ≤ 999) × (m.place ≤ 999) = subst Most q p.most in
         let h : 18 ≤ length (part s at (e - 2)) = subst (Reaches (part s at (e - 2))) q p.reaches in
         let l : length (part s at (e - 2)) ≡ e - 2 - at = part_length s at (e - 2) (line_before x) (line_high x) in
         let w : part (part s at (e - 2)) 4 18 ≡ ident_at s at = part_part s at (e - 2) 4 18 (omega arith) (omega (arith, line_room x)) in
@@ -135,7 +130,7 @@ module _ {s : List ℕ} {at e : ℕ} (x : LineAt s at e) {m : Numbers} (p : Mark
             ident = omega (arith, line_room x);
             count = c.0;
             place = c.1;
-            read = read q ∙ ap (λ (i : List ℕ). as_mark i (Read n k)) w;
+            read = read q ∙ ap (λ (i : List ℕ). as_mark i (Some m)) w;
             last = sym g ∙ t;
           };
         }
@@ -220,13 +215,13 @@ part_front d (r ∷ rs) xs e =
     let p : (not (is_mark (text r)) ≡ true) × (unmarked rs ≡ true) = both (not (is_mark (text r))) (unmarked rs) e in
     rw (not-true (is_mark (text r)) p.0) (ap (row_before r) (part_front d rs xs p.1))
 
-front_none : (rs : List (List ℕ)) → infront rs none ≡ none
+front_none : (rs : List (List ℕ)) → infront rs None ≡ None
 unfolding infront
 front_none [] = refl
 front_none (r ∷ rs) = ap (row_before r) (front_none rs)
 
 front_some : (rs xs : List (List ℕ)) (d : Bool) (m : Mark)
-    → infront rs (some (record { provider = d; mark = m; rows = xs })) ≡ some (record { provider = d; mark = m; rows = rs ++ xs })
+    → infront rs (Some (record { provider = d; mark = m; rows = xs })) ≡ Some (record { provider = d; mark = m; rows = rs ++ xs })
 unfolding infront
 front_some [] xs d m = refl
 front_some (r ∷ rs) xs d m = ap (row_before r) (front_some rs xs d m)
@@ -359,8 +354,8 @@ module _ {s : List ℕ} {from at : ℕ} (v : Before s from at) where
               lines = v.front;
               is =
                   λ d. by_last d ∙ (ap₂ (λ (w : List (List ℕ)) (o : Option Mark). infront v.front (last_mark d w o)) (body_over (rows (drop e s)) l.means.last) l.means.read
-                  ∙ (front_some v.front [] d (record { ident = ident_at s at; count = m.n; place = m.k })
-                  ∙ ap (λ (w : List (List ℕ)). some (part_by d (ident_at s at) m.n m.k w)) (append-nil v.front)));
+                  ∙ (front_some v.front [] d (record { ident = ident_at s at; count = m.count; place = m.place })
+                  ∙ ap (λ (w : List (List ℕ)). Some (part_by d (ident_at s at) m.count m.place w)) (append-nil v.front)));
               bytes = v.bytes;
               next = next-pieces;
               over = l.means.last;

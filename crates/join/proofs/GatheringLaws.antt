@@ -1,15 +1,14 @@
 -- The rows of a set's pieces in a buffer, by k. Assumes nothing.
 use Prim.Native.Nat.{ℕ, suc, ◌+◌, ◌-◌, ◌*◌, ◌≤◌, ◌<◌}
 use mathlib.Core.Path.{◌≡◌, refl, sym, ap, ◌∙◌, subst}
-use mathlib.Core.Logic.{◌⊎◌, inl, inr}
-use mathlib.Core.Option.{Option, none, some}
-use mathlib.Core.List.{List, [], ◌∷◌, ◌++◌, append_assoc, append-nil}
+use mathlib.Core.Logic.{inl, inr}
+use Rattle.std.specs.Prelude.{Option}
+use mathlib.Core.List.{List, [], ◌++◌, append_assoc, append-nil}
 use native.Mathlib.Omega.{arith}
 use native.Mathlib.Numerals.{add-one}
 use lib.ListN.{length, take, drop, length-append}
 use Rattle.std.specs.Prelude.{Some, None, Ok, Err}
-use Rattle.std.specs.Prelude.{Option as Maybe}
-use Rattle.lists.specs.Searching.{part}
+use Rattle.std.specs.Prelude.{Option}
 use Rattle.lists.proofs.Parts.{part_length}
 use Rattle.characters.specs.Rows.{flat}
 use Rattle.buffers.specs.Buffers.{Wrote}
@@ -19,14 +18,14 @@ use Rattle.division.specs.Join.{Part, find_part, rows_of_part, gather}
 use Rattle.search.specs.Search.{piece_after}
 use Rattle.join.specs.declared.member.Span.{Span}
 use Rattle.join.specs.declared.set.Members.{Members}
-use Rattle.join.specs.Spans.{bytes_of, rows_at, Bounds, Listed, SpotAt, SpotMeans, SpotIs, PutIs, FillIs, FillRoom}
+use Rattle.join.specs.Spans.{bytes_of, Listed, SpotAt, SpotMeans, SpotIs, PutIs, FillIs, FillRoom}
 use Rattle.join.proofs.BodyLaws.{flat_append}
 
 -- ---- the rows by k
 
 abbrev rows_before : List (List ℕ) → Option (List (List ℕ)) → Option (List (List ℕ))
-rows_before done none = none
-rows_before done (some rs) = some (done ++ rs)
+rows_before done None = None
+rows_before done (Some rs) = Some (done ++ rs)
 
 -- the rows found so far, and those that are left
 pub record Going (d₀ d : List ℕ) (at : ℕ) (ps : List Part) (n o k : ℕ) : Type 0 where
@@ -44,12 +43,12 @@ pub record Gathering {N : ℕ} (d₀ d : List ℕ) (at : ℕ) (s : List ℕ) (t 
   pub going : (ps : List Part) → Listed s t ps → Going d₀ d at ps t.count o k
 
 no_rows : (o : Option (List (List ℕ))) → o ≡ rows_before [] o
-no_rows none = refl
-no_rows (some rs) = refl
+no_rows None = refl
+no_rows (Some rs) = refl
 
-rows_more : (done : List (List ℕ)) (p : Part) (o : Option (List (List ℕ))) → rows_before done (rows_of_part (some p) o) ≡ rows_before (done ++ p.rows) o
-rows_more done p none = refl
-rows_more done p (some rs) = ap some (sym (append_assoc done p.rows rs))
+rows_more : (done : List (List ℕ)) (p : Part) (o : Option (List (List ℕ))) → rows_before done (rows_of_part (Some p) o) ≡ rows_before (done ++ p.rows) o
+rows_more done p None = refl
+rows_more done p (Some rs) = ap Some (sym (append_assoc done p.rows rs))
 
 -- nothing written
 wrote_none : (d : List ℕ) (at : ℕ) → at ≤ length d → Wrote d d at at []
@@ -86,8 +85,8 @@ module _ {N : ℕ} {d₀ d : List ℕ} {at : ℕ} {s : List ℕ} {t : Members N}
         let z : t.count + 1 - k ≡ suc (t.count + 1 - (k + 1)) = omega arith in
         ap (λ (f : ℕ). gather ps f k) z ∙ ap (λ (j : ℕ). rows_of_part (find_part k ps) (gather ps (t.count + 1 - (k + 1)) j)) (sym (add-one k))
 
-    module _ {y : Maybe Span} (x : SpotIs t k y) where
-      spotted : {r : Maybe Span} → y ≡ r → SpotMeans t k r
+    module _ {y : Option Span} (x : SpotIs t k y) where
+      spotted : {r : Option Span} → y ≡ r → SpotMeans t k r
       spotted q = subst (SpotMeans t k) q x.means
 
       pub gathering_missing : y ≡ None → FillIs d₀ d at s t (Err Set)
@@ -126,7 +125,7 @@ module _ {N : ℕ} {d₀ d : List ℕ} {at : ℕ} {s : List ℕ} {t : Members N}
           going = λ ps l. go ps l (v.going ps l) (spot.found ps l.count l.numbers);
         }
           where
-            go : (ps : List Part) → Listed s t ps → Going d₀ d at ps t.count o k → (p : Part) × (find_part k ps ≡ some p) × (piece_after spot.index ps ≡ some p)
+            go : (ps : List Part) → Listed s t ps → Going d₀ d at ps t.count o k → (p : Part) × (find_part k ps ≡ Some p) × (piece_after spot.index ps ≡ Some p)
                 → Going d₀ d₁ at ps t.count o₁ (k + 1)
             go ps l g (p, f, i) =
                 let b : flat (g.done ++ p.rows) ≡ flat g.done ++ bytes_of s w =
@@ -141,12 +140,12 @@ module _ {N : ℕ} {d₀ d : List ℕ} {at : ℕ} {s : List ℕ} {t : Members N}
                 }
 
 module _ {N : ℕ} {d₀ d : List ℕ} {at : ℕ} {s : List ℕ} {t : Members N} {o : ℕ} (v : Gathering d₀ d at s t o (t.count + 1)) where
-  all_found : (ps : List Part) (l : Listed s t ps) → gather ps t.count 1 ≡ some (v.going ps l).done
+  all_found : (ps : List Part) (l : Listed s t ps) → gather ps t.count 1 ≡ Some (v.going ps l).done
   unfolding gather
   all_found ps l =
       let g = v.going ps l in
       let z : t.count + 1 - (t.count + 1) ≡ 0 = omega arith in
-      g.left ∙ (ap (λ (f : ℕ). rows_before g.done (gather ps f (t.count + 1))) z ∙ ap some (append-nil g.done))
+      g.left ∙ (ap (λ (f : ℕ). rows_before g.done (gather ps f (t.count + 1))) z ∙ ap Some (append-nil g.done))
 
   pub gathering_full : o ≤ length d → FillIs d₀ d at s t (Ok o)
   gathering_full q = record { means = λ ps l. ((v.going ps l).done, all_found ps l, (v.going ps l).wrote q); size = v.size }

@@ -1,17 +1,17 @@
 -- The ways through the joined file: line 1 and the rows in the buffer, one piece or a set, the input's refusals. Assumes nothing.
 use Prim.Native.Nat.{ℕ, suc, ◌+◌, ◌-◌, ◌≤◌, ◌<◌}
 use mathlib.Core.Path.{◌≡◌, refl, sym, ap, ◌∙◌, subst}
-use mathlib.Core.Bool.{Bool, true, false, cond, ◌&&◌, beq, false≢true}
-use mathlib.Core.Logic.{◌⊎◌, inl, inr}
-use mathlib.Core.Option.{Option, none, some}
+use mathlib.Core.Bool.{Bool, true, false, cond, ◌&&◌, beq}
+use mathlib.Core.Logic.{inl, inr}
+use Rattle.std.specs.Prelude.{Option}
 use mathlib.Core.List.{List, [], ◌∷◌, ◌++◌}
 use native.Mathlib.Omega.{arith}
-use borrow.Author.Tests.{eq-eqb, ne_eqb, le-leb, lt-leb}
+use borrow.Author.Tests.{eq-eqb, le-leb, lt-leb}
 use lib.Dec.{leb, eqb}
 use lib.ListN.{length, take, drop, length-append}
 use Rattle.std.specs.Prelude.{Some, None, Result, Ok, Err, ⊤}
-use Rattle.std.specs.Prelude.{Option as Maybe}
-use Rattle.lists.specs.Lists.{same, Res, ok, refused}
+use Rattle.std.specs.Prelude.{Option}
+use Rattle.lists.specs.Lists.{same, Res, ok}
 use Rattle.lists.specs.Searching.{part}
 use Rattle.lists.proofs.Parts.{part_length}
 use Rattle.characters.specs.Rows.{rows, flat}
@@ -24,12 +24,12 @@ use Rattle.replies.specs.declared.refusal.Refusal.TheVariants.{Large, Set}
 use Rattle.division.specs.Pieces.{Piece, body_of, pieces_in, file_of}
 use Rattle.division.specs.Join.{unmarked, Part, part_of, part_with, all_parts, agree, gather, one_piece, join_parts, join_pieces, or_set}
 use Rattle.join.specs.declared.rows.Opening.{Opening}
-use Rattle.join.specs.declared.body.Mark.{Mark}
+use Rattle.pieces.specs.declared.Mark.{Mark}
 use Rattle.join.specs.declared.body.Lines.{Lines}
 use Rattle.join.specs.declared.member.Span.{Span}
 use Rattle.join.specs.declared.member.Member.{Member}
 use Rattle.join.specs.declared.set.Members.{Members}
-use Rattle.join.specs.Spans.{unbroken, sound, Opened, Ended, NextMeans, NextIs, OpenedFirst, FirstIs, PlainLines, part_by, ident_at, MarkedLines, WrongLines, MarkMeans, LinesAre, like, is_set, bytes_of, part_at, Listed, First, Collected, CollectIs, FillMeans, FillIs, FillRoom, NotMade, MadeMeans, MadeIs, with_head, SetIs, Given, GivenSet, FirstIn, Input}
+use Rattle.join.specs.Spans.{sound, Opened, Ended, NextMeans, NextIs, FirstIs, PlainLines, part_by, ident_at, MarkedLines, WrongLines, MarkMeans, LinesAre, like, is_set, bytes_of, part_at, First, Collected, CollectIs, FillMeans, FillIs, FillRoom, MadeIs, with_head, SetIs, Given, GivenSet, FirstIn}
 use Rattle.join.proofs.SetLaws.{agree_self}
 
 -- ---- a file in the buffer
@@ -53,7 +53,7 @@ module _ {D D₁ s : List ℕ} {o : ℕ} {x : Span} (d : Bool) (g : Given D s x)
 pub ruleset one_laws = (one_large, one_done)
 
 -- the file that the gathered rows make
-joined : (d : Bool) (rs : List (List ℕ)) {w : Option (List (List ℕ))} → w ≡ some rs → with_head d w ≡ ok (head_row d ++ flat rs)
+joined : (d : Bool) (rs : List (List ℕ)) {w : Option (List (List ℕ))} → w ≡ Some rs → with_head d w ≡ ok (head_row d ++ flat rs)
 unfolding file_of
 joined d rs e = ap (with_head d) e
 
@@ -102,11 +102,11 @@ module _ (D : List ℕ) {s : List ℕ} {x : Member} (g : First s x) where
   abbrev test : List Part → Bool
   test ps = agrees ps && (leb 2 x.n && eqb (suc (length ps)) x.n)
 
-  by_test : (o : Option (List Part)) (ps : List Part) → o ≡ some ps → join_parts (part_with (some first_of) o)
-      ≡ cond (test ps) (one_piece x.provider (gather (first_of ∷ ps) x.n 1)) none
+  by_test : (o : Option (List Part)) (ps : List Part) → o ≡ Some ps → join_parts (part_with (Some first_of) o)
+      ≡ cond (test ps) (one_piece x.provider (gather (first_of ∷ ps) x.n 1)) None
   by_test o ps e =
-      ap (λ (y : Option (List Part)). join_parts (part_with (some first_of) y)) e
-      ∙ ap (λ (t : Bool). cond (t && (leb 2 x.n && eqb (suc (length ps)) x.n)) (one_piece x.provider (gather (first_of ∷ ps) x.n 1)) none)
+      ap (λ (y : Option (List Part)). join_parts (part_with (Some first_of) y)) e
+      ∙ ap (λ (t : Bool). cond (t && (leb 2 x.n && eqb (suc (length ps)) x.n)) (one_piece x.provider (gather (first_of ∷ ps) x.n 1)) None)
       (like_same first_of ps)
 
   abbrev Set-made : List ℕ → Result ℕ Refusal → Type 0
@@ -115,11 +115,11 @@ module _ (D : List ℕ) {s : List ℕ} {x : Member} (g : First s x) where
   pub set_few : x.n ≤ 1 → Set-made D (Err Set)
   set_few h = record { means = inl (refl, λ _. ap or_set (ap join_parts g.is ∙ go others refl)); size = refl }
     where
-      go : (o : Option (List Part)) → others ≡ o → join_parts (part_with (some first_of) o) ≡ none
-      go none q = refl
-      go (some ps) q = by_test (some ps) ps refl ∙ no (agrees ps)
+      go : (o : Option (List Part)) → others ≡ o → join_parts (part_with (Some first_of) o) ≡ None
+      go None q = refl
+      go (Some ps) q = by_test (Some ps) ps refl ∙ no (agrees ps)
         where
-          no : (t : Bool) → cond (t && (leb 2 x.n && eqb (suc (length ps)) x.n)) (one_piece x.provider (gather (first_of ∷ ps) x.n 1)) none ≡ none
+          no : (t : Bool) → cond (t && (leb 2 x.n && eqb (suc (length ps)) x.n)) (one_piece x.provider (gather (first_of ∷ ps) x.n 1)) None ≡ None
           no true = rw (lt-leb 2 x.n (omega arith))
           no false = refl
 
@@ -135,14 +135,14 @@ module _ (D : List ℕ) {s : List ℕ} {x : Member} (g : First s x) where
       size = refl;
     }
       where
-        go : (o : Option (List Part)) → is_set x.provider (ident_at s x.rows.to) x.n (part_with (some first_of) o) ≡ false
-            → join_parts (part_with (some first_of) o) ≡ none
-        go none e = refl
-        go (some ps) e =
+        go : (o : Option (List Part)) → is_set x.provider (ident_at s x.rows.to) x.n (part_with (Some first_of) o) ≡ false
+            → join_parts (part_with (Some first_of) o) ≡ None
+        go None e = refl
+        go (Some ps) e =
             let h : (agrees ps && eqb (suc (length ps)) x.n) ≡ false =
             ap (λ (b : Bool). b && eqb (suc (length ps)) x.n) (sym (agree_self x.provider (ident_at s x.rows.to) x.n x.k g.lines ps)) ∙ e in
             let u : test ps ≡ false = rw (le-leb 2 x.n more) h in
-            by_test (some ps) ps refl ∙ ap (λ (b : Bool). cond b (one_piece x.provider (gather (first_of ∷ ps) x.n 1)) none) u
+            by_test (Some ps) ps refl ∙ ap (λ (b : Bool). cond b (one_piece x.provider (gather (first_of ∷ ps) x.n 1)) None) u
 
     module _ (more : 1 < x.n) {u : ⊤} (v : CollectIs s x t (Ok u)) where
       abbrev collected : Collected s x t
@@ -160,15 +160,15 @@ module _ (D : List ℕ) {s : List ℕ} {x : Member} (g : First s x) where
       joins : join_parts (all_parts (pieces_in (rows s))) ≡ one_piece x.provider (gather collected.seen t.count 1)
       joins = ap join_parts g.is ∙ (go others (sym g.is ∙ collected.parts) ∙ ap (λ (n : ℕ). one_piece x.provider (gather collected.seen n 1)) (sym collected.count))
         where
-          go : (o : Option (List Part)) → part_with (some first_of) o ≡ some collected.seen
-              → join_parts (part_with (some first_of) o) ≡ one_piece x.provider (gather collected.seen x.n 1)
-          go none e = cc
-          go (some ps) e =
+          go : (o : Option (List Part)) → part_with (Some first_of) o ≡ Some collected.seen
+              → join_parts (part_with (Some first_of) o) ≡ one_piece x.provider (gather collected.seen x.n 1)
+          go None e = cc
+          go (Some ps) e =
               let h : first_of ∷ ps ≡ collected.seen = cc in
               let y : agrees ps ≡ true =
               sym (agree_self x.provider (ident_at s x.rows.to) x.n x.k g.lines ps) ∙ (ap agrees h ∙ collected.agrees) in
               let c : eqb (suc (length ps)) x.n ≡ true = eq-eqb (suc (length ps)) x.n (ap length h ∙ (collected.listed.count ∙ collected.count)) in
-              by_test (some ps) ps refl ∙ (rw (y, le-leb 2 x.n more, c) (ap (λ (z : List Part). one_piece x.provider (gather z x.n 1)) h))
+              by_test (Some ps) ps refl ∙ (rw (y, le-leb 2 x.n more, c) (ap (λ (z : List Part). one_piece x.provider (gather z x.n 1)) h))
 
       pub set_done : {D₁ : List ℕ} {r : Result ℕ Refusal} → SetIs (length D) x.provider s t D₁ r → Set-made D₁ r
       set_done {D₁} {r} m =
@@ -202,7 +202,7 @@ module _ (D : List ℕ) {s : List ℕ} {o : Opening} (x : FirstIs s (Ok o)) wher
   abbrev first-piece : Piece
   first-piece = record { provider = o.provider; rows = body_of (rows (drop o.end s)) }
 
-  nineteen : join_pieces (pieces_in (rows s)) ≡ none → Pieces-made D (Err Set)
+  nineteen : join_pieces (pieces_in (rows s)) ≡ None → Pieces-made D (Err Set)
   nineteen e = record { means = inl (refl, λ _. ap or_set e); size = refl }
 
   by_parts : all_parts (pieces_in (rows s)) ≡ part_with (part_of o.provider (body_of (rows (drop o.end s)))) (all_parts (pieces_in (rows (drop o.end s))))
@@ -221,11 +221,11 @@ module _ (D : List ℕ) {s : List ℕ} {o : Opening} (x : FirstIs s (Ok o)) wher
 
   module _ {l : Lines} (v : LinesAre s o.end (Ok l)) where
     module _ {m : Mark} (q : l.mark ≡ Some m) where
-      marked : MarkedLines s o.end l.end l.stop m.n m.k
+      marked : MarkedLines s o.end l.end l.stop m.count m.place
       marked = subst (MarkMeans s o.end l.end l.stop) q v.mean
 
       pub pieces_first : length s ≤ 131072
-          → First s (record { provider = o.provider; n = m.n; k = m.k; rows = record { from = o.end; to = l.end }; stop = l.stop })
+          → First s (record { provider = o.provider; n = m.count; k = m.place; rows = record { from = o.end; to = l.end }; stop = l.stop })
       pieces_first h = record {
         small = h;
         count = marked.count;
@@ -236,7 +236,7 @@ module _ (D : List ℕ) {s : List ℕ} {o : Opening} (x : FirstIs s (Ok o)) wher
         lines = marked.lines;
         bytes = marked.bytes;
         is = by_parts ∙ (ap (λ (p : Option Part). part_with p (all_parts (pieces_in (rows (drop o.end s))))) (marked.is o.provider)
-            ∙ ap (λ (ps : List Piece). part_with (some (part_by o.provider (ident_at s l.end) m.n m.k marked.lines)) (all_parts ps)) marked.next);
+            ∙ ap (λ (ps : List Piece). part_with (Some (part_by o.provider (ident_at s l.end) m.count m.place marked.lines)) (all_parts ps)) marked.next);
         over = marked.over;
         sound = x.means.sound ∙ sym opening.whole;
         whole = opening.whole ∙ marked.whole;
@@ -254,11 +254,11 @@ module _ (D : List ℕ) {s : List ℕ} {o : Opening} (x : FirstIs s (Ok o)) wher
       plain : PlainLines s o.end l.end l.stop
       plain = subst (MarkMeans s o.end l.end l.stop) q v.mean
 
-      module _ {w : Maybe Opening} (y : NextIs s l.stop (Ok w)) where
+      module _ {w : Option Opening} (y : NextIs s l.stop (Ok w)) where
         pub pieces_more : {p : Opening} → w ≡ Some p → Pieces-made D (Err Set)
         unfolding join_pieces all_parts
         pieces_more {p} u =
-            let z : Opened s l.stop p.end p.provider = subst (λ (r : Maybe Opening). NextMeans s l.stop (Ok r)) u y.means in
+            let z : Opened s l.stop p.end p.provider = subst (λ (r : Option Opening). NextMeans s l.stop (Ok r)) u y.means in
             let b : Piece = record { provider = p.provider; rows = body_of (rows (drop p.end s)) } in
             let xs : List Piece = pieces_in (rows (drop p.end s)) in
             let w : pieces_in (rows s) ≡ first-piece ∷ b ∷ xs = opening.is ∙ ap (λ (ps : List Piece). first-piece ∷ ps) (plain.next ∙ z.is) in
@@ -268,7 +268,7 @@ module _ (D : List ℕ) {s : List ℕ} {o : Opening} (x : FirstIs s (Ok o)) wher
             → MadeIs true (length D) (ok (head_row o.provider ++ bytes_of s (record { from = o.end; to = l.end }))) D₁ r → Pieces-made D₁ r
         unfolding join_pieces file_of
         pieces_one {D₁} {r} u z =
-            let i : Ended s l.stop = subst (λ (r : Maybe Opening). NextMeans s l.stop (Ok r)) u y.means in
+            let i : Ended s l.stop = subst (λ (r : Option Opening). NextMeans s l.stop (Ok r)) u y.means in
             let w : pieces_in (rows s) ≡ first-piece ∷ [] = opening.is ∙ ap (λ (ps : List Piece). first-piece ∷ ps) (plain.next ∙ i.is) in
             let f : or_set (join_pieces (pieces_in (rows s))) ≡ ok (head_row o.provider ++ bytes_of s (record { from = o.end; to = l.end })) =
             ap (λ (ps : List Piece). or_set (join_pieces ps)) w

@@ -6,3 +6,4 @@ pub mod GatheringLaws
 pub mod JoinLaws
 pub mod SoundLaws
 pub mod InputLaws
+pub mod CallLaws

@@ -2,7 +2,7 @@
 use Prim.Native.Nat.{ℕ, ◌+◌, ◌≤◌}
 use mathlib.Core.Path.{◌≡◌, refl, sym, ap, ap₂, ◌∙◌, subst}
 use mathlib.Core.Bool.{Bool, true, false, not, ◌&&◌, beq, false≢true, and-false}
-use mathlib.Core.Option.{Option, none, some}
+use Rattle.std.specs.Prelude.{Option}
 use mathlib.Core.List.{List, [], ◌∷◌}
 use native.Mathlib.Omega.{arith}
 use borrow.Author.Tests.{eq-eqb, ne_eqb, eqb-true, eqb-false, not-true, not-false}
@@ -17,7 +17,7 @@ use Rattle.replies.specs.declared.refusal.Refusal.TheVariants.{Set}
 use Rattle.division.specs.Pieces.{body_of}
 use Rattle.division.specs.Join.{Part, part_of, part_with, agree}
 use Rattle.join.specs.declared.rows.Opening.{Opening}
-use Rattle.join.specs.declared.body.Mark.{Mark}
+use Rattle.pieces.specs.declared.Mark.{Mark}
 use Rattle.join.specs.declared.body.Lines.{Lines}
 use Rattle.join.specs.declared.member.Member.{Member}
 use Rattle.join.specs.Spans.{part_by, ident_at, MarkedLines, MarkMeans, LinesAre, agreed, MemberIs}
@@ -36,14 +36,14 @@ same_flip (a ∷ x) [] = refl
 same_flip (a ∷ x) (b ∷ y) = ap₂ ◌&&◌ (eqb_flip a b) (same_flip x y)
 
 module _ {s : List ℕ} {e : ℕ} {l : Lines} (v : LinesAre s e (Ok l)) {m : Mark} (q : l.mark ≡ Some m) where
-  marked : MarkedLines s e l.end l.stop m.n m.k
+  marked : MarkedLines s e l.end l.stop m.count m.place
   marked = subst (MarkMeans s e l.end l.stop) q v.mean
 
   pub member_ident : l.end + 18 ≤ length s
   member_ident = omega (arith, marked.ident, marked.high)
 
 module _ {s : List ℕ} (o : Opening) (x : Member) where
-  foreign_none : ((d : Bool) → part_of d (body_of (rows (drop o.end s))) ≡ none) → MemberIs s o x (Err Set)
+  foreign_none : ((d : Bool) → part_of d (body_of (rows (drop o.end s))) ≡ None) → MemberIs s o x (Err Set)
   foreign_none f = record {
     means = record {
       number = refl;
@@ -59,12 +59,12 @@ module _ {s : List ℕ} (o : Opening) (x : Member) where
     member_plain q = foreign_none (subst (MarkMeans s o.end l.end l.stop) q v.mean).none
 
     module _ {m : Mark} (q : l.mark ≡ Some m) where
-      abbrev part : MarkedLines s o.end l.end l.stop m.n m.k
+      abbrev part : MarkedLines s o.end l.end l.stop m.count m.place
       part = marked v q
 
       -- the test of a part
       abbrev test : Bool
-      test = beq x.provider o.provider && (same (ident_at s x.rows.to) (ident_at s l.end) && eqb x.n m.n)
+      test = beq x.provider o.provider && (same (ident_at s x.rows.to) (ident_at s l.end) && eqb x.n m.count)
 
       foreign : test ≡ false → MemberIs s o x (Err Set)
       unfolding agree
@@ -75,22 +75,22 @@ module _ {s : List ℕ} (o : Opening) (x : Member) where
         };
       }
         where
-          go : (ps : Option (List Part)) → agreed x.provider (ident_at s x.rows.to) x.n (part_with (some (part_by o.provider (ident_at s l.end) m.n m.k part.lines)) ps) ≡ false
-          go none = refl
-          go (some ps) = rw t
+          go : (ps : Option (List Part)) → agreed x.provider (ident_at s x.rows.to) x.n (part_with (Some (part_by o.provider (ident_at s l.end) m.count m.place part.lines)) ps) ≡ false
+          go None = refl
+          go (Some ps) = rw t
 
       pub member_side : not (beq o.provider x.provider) ≡ true → MemberIs s o x (Err Set)
       member_side t = foreign (go o.provider x.provider (not-true (beq o.provider x.provider) t))
         where
-          go : (a b : Bool) → beq a b ≡ false → (beq b a && (same (ident_at s x.rows.to) (ident_at s l.end) && eqb x.n m.n)) ≡ false
+          go : (a b : Bool) → beq a b ≡ false → (beq b a && (same (ident_at s x.rows.to) (ident_at s l.end) && eqb x.n m.count)) ≡ false
           go true true e = absurd (false≢true (sym e))
           go true false e = refl
           go false true e = refl
           go false false e = absurd (false≢true (sym e))
 
-      pub member_count : (m.n ≡ x.n → ⊥) → MemberIs s o x (Err Set)
+      pub member_count : (m.count ≡ x.n → ⊥) → MemberIs s o x (Err Set)
       member_count u =
-          let z : eqb x.n m.n ≡ false = ne_eqb x.n m.n (λ w. u (sym w)) in
+          let z : eqb x.n m.count ≡ false = ne_eqb x.n m.count (λ w. u (sym w)) in
           foreign (rw z (ap (λ (b : Bool). beq x.provider o.provider && b) (and-false (same (ident_at s x.rows.to) (ident_at s l.end))) ∙ and-false (beq x.provider o.provider)))
 
       module _ {a b : List ℕ} (c : a ≡ ident_at s l.end) (d : b ≡ ident_at s x.rows.to) {y : Bool} (w : y ≡ not (same a b)) where
@@ -103,8 +103,8 @@ module _ {s : List ℕ} (o : Opening) (x : Member) where
             same_flip (ident_at s l.end) (ident_at s x.rows.to) ∙ (at_ids ∙ not-true (same a b) (sym w ∙ z)) in
             foreign (rw f (and-false (beq x.provider o.provider)))
 
-        pub member_is : not (beq o.provider x.provider) ≡ false → m.n ≡ x.n → y ≡ false
-            → MemberIs s o x (Ok (record { provider = o.provider; n = m.n; k = m.k; rows = record { from = o.end; to = l.end }; stop = l.stop }))
+        pub member_is : not (beq o.provider x.provider) ≡ false → m.count ≡ x.n → y ≡ false
+            → MemberIs s o x (Ok (record { provider = o.provider; n = m.count; k = m.place; rows = record { from = o.end; to = l.end }; stop = l.stop }))
         member_is t u z =
             let f : ident_at s l.end ≡ ident_at s x.rows.to = same_true (ident_at s l.end) (ident_at s x.rows.to) (at_ids ∙ not-false (same a b) (sym w ∙ z)) in
             let g : o.provider ≡ x.provider = go o.provider x.provider (not-false (beq o.provider x.provider) t) in
@@ -130,8 +130,8 @@ module _ {s : List ℕ} (o : Opening) (x : Member) where
             go false true e = absurd (false≢true e)
             go false false e = refl
 
-            same-part : o.provider ≡ x.provider → ident_at s l.end ≡ ident_at s x.rows.to → m.n ≡ x.n
-                → some (part_by o.provider (ident_at s l.end) m.n m.k part.lines) ≡ some (part_by x.provider (ident_at s x.rows.to) x.n m.k part.lines)
+            same-part : o.provider ≡ x.provider → ident_at s l.end ≡ ident_at s x.rows.to → m.count ≡ x.n
+                → Some (part_by o.provider (ident_at s l.end) m.count m.place part.lines) ≡ Some (part_by x.provider (ident_at s x.rows.to) x.n m.place part.lines)
             same-part g f u = cc
 
 pub ruleset member_laws = (member_wrong, member_plain, member_ident, member_side, member_count, member_id, member_is)

@@ -3,22 +3,22 @@ use Prim.Native.Nat.{ℕ, zero, suc, ◌+◌, ◌-◌, ◌≤◌, ◌<◌}
 use mathlib.Core.Path.{◌≡◌, refl, sym, ap, ap₂, ◌∙◌, subst}
 use mathlib.Core.Bool.{Bool, true, false, ◌&&◌, beq, false≢true, and-false}
 use mathlib.Core.Logic.{◌⊎◌, inl, inr}
-use mathlib.Core.Option.{Option, none, some}
+use Rattle.std.specs.Prelude.{Option}
 use mathlib.Core.List.{List, [], ◌∷◌, ◌++◌, append_assoc, append-nil}
 use native.Mathlib.Omega.{arith}
 use borrow.Author.Tests.{eq-eqb, ne_eqb, eqb-true, eqb-false}
 use lib.Dec.{eqb}
-use lib.ListN.{length, get_or, set, take, drop, length-append}
+use lib.ListN.{length, get_or, take, drop, length-append}
 use lib.Seq.{length-take-le, take-suc-set, get_or-take, get_or-set_same, get_or-set_other}
 use Rattle.std.specs.Prelude.{Some, None, Ok, Err, ⊤}
-use Rattle.std.specs.Prelude.{Option as Maybe}
+use Rattle.std.specs.Prelude.{Option}
 use Rattle.lists.specs.Lists.{same}
 use Rattle.lists.proofs.Tests.{same_refl}
 use Rattle.characters.specs.Rows.{rows, flat}
 use Rattle.replies.specs.declared.refusal.Refusal.{Refusal}
 use Rattle.replies.specs.declared.refusal.Refusal.TheVariants.{Set}
 use Rattle.division.specs.Pieces.{Piece, body_of, pieces_in}
-use Rattle.division.specs.Join.{Part, part_of, part_with, all_parts, agree, find_part}
+use Rattle.division.specs.Join.{Part, part_of, part_with, all_parts, agree}
 use Rattle.search.specs.Places.{CountIs}
 use Rattle.search.specs.Search.{ks_of, piece_after}
 use Rattle.search.proofs.Pieces.{count_one, count_most, piece_found, piece_missing}
@@ -26,21 +26,21 @@ use Rattle.join.specs.declared.rows.Opening.{Opening}
 use Rattle.join.specs.declared.member.Span.{Span}
 use Rattle.join.specs.declared.member.Member.{Member}
 use Rattle.join.specs.declared.set.Members.{Members}
-use Rattle.join.specs.Spans.{unbroken, goes_on, part_by, ident_at, Opened, Ended, NextMeans, NextIs, like, agreed, is_set, bytes_of, part_at, Within, MemberAt, MemberIs, rows_at, Stored, Bounds, Listed, First, Collected, NoSet, CollectIs, SpotIs}
+use Rattle.join.specs.Spans.{unbroken, goes_on, part_by, ident_at, Opened, Ended, NextMeans, NextIs, like, agreed, is_set, bytes_of, part_at, Within, MemberAt, MemberIs, rows_at, Stored, Bounds, Listed, First, Collected, CollectIs, SpotIs}
 
 -- ---- parts after others
 
 abbrev after : List Part → Option (List Part) → Option (List Part)
-after seen none = none
-after seen (some ps) = some (seen ++ ps)
+after seen None = None
+after seen (Some ps) = Some (seen ++ ps)
 
 after_none : (o : Option (List Part)) → o ≡ after [] o
-after_none none = refl
-after_none (some ps) = refl
+after_none None = refl
+after_none (Some ps) = refl
 
-after_with : (seen : List Part) (p : Part) (o : Option (List Part)) → after seen (part_with (some p) o) ≡ after (seen ++ p ∷ []) o
-after_with seen p none = refl
-after_with seen p (some ps) = ap some (sym (append_assoc seen (p ∷ []) ps))
+after_with : (seen : List Part) (p : Part) (o : Option (List Part)) → after seen (part_with (Some p) o) ≡ after (seen ++ p ∷ []) o
+after_with seen p None = refl
+after_with seen p (Some ps) = ap Some (sym (append_assoc seen (p ∷ []) ps))
 
 pub agree_append : (q : Part) (xs ys : List Part) → agree q (xs ++ ys) ≡ (agree q xs && agree q ys)
 unfolding agree
@@ -54,17 +54,17 @@ agree_append q (x ∷ xs) ys =
 
 agreed_after : (d : Bool) (i : List ℕ) (n : ℕ) (seen : List Part) (o : Option (List Part)) → agree (like d i n) seen ≡ true
     → agreed d i n (after seen o) ≡ agreed d i n o
-agreed_after d i n seen none e = refl
-agreed_after d i n seen (some ps) e = agree_append (like d i n) seen ps ∙ rw e
+agreed_after d i n seen None e = refl
+agreed_after d i n seen (Some ps) e = agree_append (like d i n) seen ps ∙ rw e
 
 not_agreed : (d : Bool) (i : List ℕ) (n : ℕ) (o : Option (List Part)) → agreed d i n o ≡ false → is_set d i n o ≡ false
-not_agreed d i n none e = refl
-not_agreed d i n (some ps) e = rw e
+not_agreed d i n None e = refl
+not_agreed d i n (Some ps) e = rw e
 
 -- more than n parts are no set
 too_many : (d : Bool) (i : List ℕ) (n : ℕ) (seen : List Part) (o : Option (List Part)) → n < length seen → is_set d i n (after seen o) ≡ false
-too_many d i n seen none h = refl
-too_many d i n seen (some ps) h =
+too_many d i n seen None h = refl
+too_many d i n seen (Some ps) h =
     let z : length (seen ++ ps) ≡ n → ⊥ = λ e. omega (arith, length-append seen ps) in
     ap (λ (b : Bool). agree (like d i n) (seen ++ ps) && b) (ne_eqb (length (seen ++ ps)) n z) ∙ and-false (agree (like d i n) (seen ++ ps))
 
@@ -89,9 +89,9 @@ ks_length (p ∷ ps) = ap suc (ks_length ps)
 
 -- one of the pieces before, or the new one
 abbrev Either : List Part → Part → ℕ → Part → Type 0
-Either seen p i q = ((piece_after i seen ≡ some q) × (i < length seen)) ⊎ ((i ≡ length seen) × (p ≡ q))
+Either seen p i q = ((piece_after i seen ≡ Some q) × (i < length seen)) ⊎ ((i ≡ length seen) × (p ≡ q))
 
-after_more : (seen : List Part) (p : Part) (i : ℕ) (q : Part) → piece_after i (seen ++ p ∷ []) ≡ some q → Either seen p i q
+after_more : (seen : List Part) (p : Part) (i : ℕ) (q : Part) → piece_after i (seen ++ p ∷ []) ≡ Some q → Either seen p i q
 after_more [] p zero q e = inr (refl, cc)
 after_more [] p (suc i) q e = let z : ◌≡◌ {A = ℕ} 0 1 = cc in absurd (omega arith)
 after_more (x ∷ seen) p zero q e = inl (e, omega arith)
@@ -101,7 +101,7 @@ after_more (x ∷ seen) p (suc i) q e = go (after_more seen p i q e)
     go (inl (f, h)) = inl (f, omega arith)
     go (inr (f, h)) = inr (ap suc f, h)
 
-none_after : (i : ℕ) (p : Part) → piece_after i [] ≡ some p → ⊥
+none_after : (i : ℕ) (p : Part) → piece_after i [] ≡ Some p → ⊥
 none_after i p e = cc
 
 module _ {N : ℕ} {t t' : Members N} {m : Member} (h : t.count < N) (st : Stored t t' m) where
@@ -184,7 +184,7 @@ collect_start {N} {s} {x} {t} {t'} g e a b st = record {
   room = b;
   inside = g.high;
   seen = part_at s x g.lines ∷ [];
-  parts = g.is ∙ (after_none (part_with (some (part_at s x g.lines)) (all_parts (pieces_in (rows (drop x.stop s)))))
+  parts = g.is ∙ (after_none (part_with (Some (part_at s x g.lines)) (all_parts (pieces_in (rows (drop x.stop s)))))
       ∙ after_with [] (part_at s x g.lines) (all_parts (pieces_in (rows (drop x.stop s)))));
   agrees = agree_self x.provider (ident_at s x.rows.to) x.n x.k g.lines [];
   bounds = bounds_more less st g.low (omega (arith, g.ident, g.high)) (bounds_none s e);
@@ -206,20 +206,20 @@ module _ {N : ℕ} {s : List ℕ} {x : Member} {t : Members N} {at : ℕ} (v : C
   pub collect_free : t.count < x.n → t.count < N
   collect_free h = omega (arith, v.room)
 
-  is_whole-set : t.count ≡ x.n → all_parts (pieces_in (rows s)) ≡ some v.seen → unbroken (rows s) ≡ true → Collected s x t
+  is_whole-set : t.count ≡ x.n → all_parts (pieces_in (rows s)) ≡ Some v.seen → unbroken (rows s) ≡ true → Collected s x t
   is_whole-set e w u = record { seen = v.seen; parts = w; agrees = v.agrees; count = e; bounds = v.bounds; listed = v.listed; whole = u }
 
   lost : is_set x.provider (ident_at s x.rows.to) x.n (all_parts (pieces_in (rows s))) ≡ false → CollectIs s x t (Err Set)
   lost e = record { means = record { number = refl; none = λ _. e } }
 
   -- no more pieces
-  module _ {w : Maybe Opening} (f : NextIs s at (Ok w)) (q : w ≡ None) where
+  module _ {w : Option Opening} (f : NextIs s at (Ok w)) (q : w ≡ None) where
     ended : Ended s at
-    ended = subst (λ (r : Maybe Opening). NextMeans s at (Ok r)) q f.means
+    ended = subst (λ (r : Option Opening). NextMeans s at (Ok r)) q f.means
 
-    all_seen : all_parts (pieces_in (rows s)) ≡ some v.seen
+    all_seen : all_parts (pieces_in (rows s)) ≡ Some v.seen
     unfolding all_parts
-    all_seen = v.parts ∙ (ap (λ (p : List Piece). after v.seen (all_parts p)) ended.is ∙ ap some (append-nil v.seen))
+    all_seen = v.parts ∙ (ap (λ (p : List Piece). after v.seen (all_parts p)) ended.is ∙ ap Some (append-nil v.seen))
 
     pub collect_done : t.count ≡ x.n → (u : ⊤) → CollectIs s x t (Ok u)
     collect_done e u = record { means = is_whole-set e all_seen (v.whole ∙ ended.whole) }
@@ -237,9 +237,9 @@ module _ {N : ℕ} {s : List ℕ} {x : Member} {t : Members N} {at : ℕ} (v : C
     means = record { number = f.means.number; none = λ u. absurd (false≢true (sym (f.means.broken v.over) ∙ (sym v.whole ∙ u))) };
   }
 
-  module _ {w : Maybe Opening} {o : Opening} (f : NextIs s at (Ok w)) (q : w ≡ Some o) where
+  module _ {w : Option Opening} {o : Opening} (f : NextIs s at (Ok w)) (q : w ≡ Some o) where
     opening : Opened s at o.end o.provider
-    opening = subst (λ (r : Maybe Opening). NextMeans s at (Ok r)) q f.means
+    opening = subst (λ (r : Option Opening). NextMeans s at (Ok r)) q f.means
 
     pub collect_within : Within s o.end
     collect_within = record { high = opening.high; small = v.first.small }

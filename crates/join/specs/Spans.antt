@@ -3,8 +3,8 @@
 -- have the k's of the parts and their bodies, as they lie. The laws in proofs/ show that they stand for the lists of rows of Join.antt; the call's own
 -- contract names Join.antt alone.
 use Rattle.std.specs.Prelude.{ℕ, ◌+◌, ◌≤◌, ◌<◌, ◌≡◌, Bool, true, false, ◌&&◌, ◌⊎◌, List, [], ◌∷◌, eqb, length, take, drop, get_or, set, Some, None, Result, Ok, Err, ⊤}
-use Rattle.std.specs.Prelude.{Option as Maybe}
-use Rattle.std.proofs.Math.Option.{Option, none, some}
+use Rattle.std.specs.Prelude.{Option}
+use Rattle.std.specs.Prelude.{Option}
 use Rattle.lists.specs.Lists.{Res, ok, refused}
 use Rattle.lists.specs.Searching.{part}
 use Rattle.characters.specs.Text.{text}
@@ -18,12 +18,12 @@ use Rattle.replies.specs.declared.refusal.Refusal.TheVariants.{Large, Set}
 use Rattle.replies.specs.declared.refusal.Refused.{Refused}
 use Rattle.replies.specs.Refusals.{number_of}
 use Rattle.join.specs.declared.rows.Opening.{Opening}
-use Rattle.join.specs.declared.body.Mark.{Mark}
+use Rattle.pieces.specs.declared.Mark.{Mark}
 use Rattle.join.specs.declared.body.Lines.{Lines}
 use Rattle.join.specs.declared.member.Span.{Span}
 use Rattle.join.specs.declared.member.Member.{Member}
 use Rattle.join.specs.declared.set.Members.{Members}
-use Rattle.division.specs.Join.{unmarked, Part, last_mark, part_of, part_with, all_parts, agree, find_part, gather, one_piece, or_set, then_checked}
+use Rattle.division.specs.Join.{unmarked, Part, last_mark, part_of, part_with, all_parts, agree, find_part, gather, one_piece, or_set}
 use Rattle.search.specs.Search.{ks_of, piece_after}
 
 -- ---- rows that break no rule of line ends, so that the pieces are read before it is known where one does
@@ -82,12 +82,12 @@ pub record Stray (s : List ℕ) (at : ℕ) (r : Refusal) : Type 0 where
   pub number : r ≡ Set
   pub broken : goes_on (rows (drop at s)) ≡ false → unbroken (rows (drop at s)) ≡ false
 
-abbrev pub NextMeans : List ℕ → ℕ → Result (Maybe Opening) Refusal → Type 0
+abbrev pub NextMeans : List ℕ → ℕ → Result (Option Opening) Refusal → Type 0
 NextMeans s at (Ok (Some o)) = Opened s at o.end o.provider
 NextMeans s at (Ok None) = Ended s at
 NextMeans s at (Err r) = Stray s at r
 
-pub record NextIs (s : List ℕ) (at : ℕ) (r : Result (Maybe Opening) Refusal) : Type 0 where
+pub record NextIs (s : List ℕ) (at : ℕ) (r : Result (Option Opening) Refusal) : Type 0 where
   pub means : NextMeans s at r
 
 -- the first piece: no 1Ah stands before its line 1
@@ -110,11 +110,11 @@ pub record FirstIs (s : List ℕ) (r : Result Opening Refusal) : Type 0 where
 
 -- ---- the line of the first broken row: the definition has 0 for none
 
-abbrev pub LineMeans : ℕ → Maybe ℕ → Type 0
+abbrev pub LineMeans : ℕ → Option ℕ → Type 0
 LineMeans n None = n ≡ 0
 LineMeans n (Some line) = (line ≡ n) × (1 ≤ line)
 
-pub record LineIs (n : ℕ) (r : Maybe ℕ) : Type 0 where
+pub record LineIs (n : ℕ) (r : Option ℕ) : Type 0 where
   pub means : LineMeans n r
 
 -- ---- the rows of a piece, from after its line 1 on
@@ -130,7 +130,7 @@ pub record PlainLines (s : List ℕ) (from to stop : ℕ) : Type 0 where
   pub low : from ≤ stop
   pub high : stop ≤ length s
   pub plain : unmarked (body_of (rows (drop from s))) ≡ true
-  pub none : (d : Bool) → part_of d (body_of (rows (drop from s))) ≡ none
+  pub none : (d : Bool) → part_of d (body_of (rows (drop from s))) ≡ None
   pub bytes : flat (body_of (rows (drop from s))) ≡ part s from stop
   pub next : pieces_in (rows (drop from s)) ≡ pieces_in (rows (drop stop s))
   pub over : goes_on (rows (drop stop s)) ≡ false
@@ -153,7 +153,7 @@ pub record MarkedLines (s : List ℕ) (from last stop n k : ℕ) : Type 0 where
   pub place : k ≤ 999
   pub marked : unmarked (body_of (rows (drop from s))) ≡ false
   pub lines : List (List ℕ)
-  pub is : (d : Bool) → part_of d (body_of (rows (drop from s))) ≡ some (part_by d (ident_at s last) n k lines)
+  pub is : (d : Bool) → part_of d (body_of (rows (drop from s))) ≡ Some (part_by d (ident_at s last) n k lines)
   pub bytes : flat lines ≡ part s from last
   pub next : pieces_in (rows (drop from s)) ≡ pieces_in (rows (drop stop s))
   pub over : goes_on (rows (drop stop s)) ≡ false
@@ -163,31 +163,31 @@ pub record MarkedLines (s : List ℕ) (from last stop n k : ℕ) : Type 0 where
 pub record WrongLines (s : List ℕ) (from : ℕ) (r : Refusal) : Type 0 where
   pub number : r ≡ Set
   pub marked : unmarked (body_of (rows (drop from s))) ≡ false
-  pub none : (d : Bool) → part_of d (body_of (rows (drop from s))) ≡ none
+  pub none : (d : Bool) → part_of d (body_of (rows (drop from s))) ≡ None
 
 -- the record 911 from at to e, and what is after it
 pub record LastMark (s : List ℕ) (at e n k : ℕ) : Type 0 where
   pub ident : at + 18 ≤ e
   pub count : n ≤ 999
   pub place : k ≤ 999
-  pub read : read_mark (text (part s at e)) ≡ some (record { ident = ident_at s at; count = n; place = k })
+  pub read : read_mark (text (part s at e)) ≡ Some (record { ident = ident_at s at; count = n; place = k })
   pub last : goes_on (rows (drop e s)) ≡ false
 
 -- or it is not the last row, or cannot be read
 pub record WrongMark (s : List ℕ) (at e : ℕ) (r : Refusal) : Type 0 where
   pub number : r ≡ Set
-  pub none : (d : Bool) → last_mark d (body_of (rows (drop e s))) (read_mark (text (part s at e))) ≡ none
+  pub none : (d : Bool) → last_mark d (body_of (rows (drop e s))) (read_mark (text (part s at e))) ≡ None
 
 abbrev pub LastMeans : List ℕ → ℕ → ℕ → Result Mark Refusal → Type 0
-LastMeans s at e (Ok m) = LastMark s at e m.n m.k
+LastMeans s at e (Ok m) = LastMark s at e m.count m.place
 LastMeans s at e (Err r) = WrongMark s at e r
 
 pub record LastIs (s : List ℕ) (at e : ℕ) (r : Result Mark Refusal) : Type 0 where
   pub means : LastMeans s at e r
 
-abbrev pub MarkMeans : List ℕ → ℕ → ℕ → ℕ → Maybe Mark → Type 0
+abbrev pub MarkMeans : List ℕ → ℕ → ℕ → ℕ → Option Mark → Type 0
 MarkMeans s from to stop None = PlainLines s from to stop
-MarkMeans s from to stop (Some m) = MarkedLines s from to stop m.n m.k
+MarkMeans s from to stop (Some m) = MarkedLines s from to stop m.count m.place
 
 abbrev pub LinesMean : List ℕ → ℕ → Result Lines Refusal → Type 0
 LinesMean s from (Ok l) = MarkMeans s from l.end l.stop l.mark
@@ -202,13 +202,13 @@ abbrev pub like : Bool → List ℕ → ℕ → Part
 like d i n = part_by d i n 0 []
 
 abbrev pub agreed : Bool → List ℕ → ℕ → Option (List Part) → Bool
-agreed d i n none = false
-agreed d i n (some ps) = agree (like d i n) ps
+agreed d i n None = false
+agreed d i n (Some ps) = agree (like d i n) ps
 
 -- n parts
 abbrev pub is_set : Bool → List ℕ → ℕ → Option (List Part) → Bool
-is_set d i n none = false
-is_set d i n (some ps) = agree (like d i n) ps && eqb (length ps) n
+is_set d i n None = false
+is_set d i n (Some ps) = agree (like d i n) ps && eqb (length ps) n
 
 -- the bytes of a span
 abbrev pub bytes_of : List ℕ → Span → List ℕ
@@ -231,7 +231,7 @@ pub record MemberAt (s : List ℕ) (o : Opening) (x m : Member) : Type 0 where
   pub place : m.k ≤ 999
   pub from : m.rows.from ≡ o.end
   pub lines : List (List ℕ)
-  pub is : part_of o.provider (body_of (rows (drop o.end s))) ≡ some (part_by x.provider (ident_at s x.rows.to) x.n m.k lines)
+  pub is : part_of o.provider (body_of (rows (drop o.end s))) ≡ Some (part_by x.provider (ident_at s x.rows.to) x.n m.k lines)
   pub bytes : flat lines ≡ bytes_of s m.rows
   pub next : pieces_in (rows (drop o.end s)) ≡ pieces_in (rows (drop m.stop s))
   pub over : goes_on (rows (drop m.stop s)) ≡ false
@@ -270,7 +270,7 @@ pub record Bounds {N : ℕ} (s : List ℕ) (t : Members N) : Type 0 where
 pub record Listed {N : ℕ} (s : List ℕ) (t : Members N) (ps : List Part) : Type 0 where
   pub count : length ps ≡ t.count
   pub numbers : take t.count t.ks ≡ ks_of ps
-  pub bytes : (i : ℕ) (p : Part) → piece_after i ps ≡ some p → flat p.rows ≡ bytes_of s (rows_at t i)
+  pub bytes : (i : ℕ) (p : Part) → piece_after i ps ≡ Some p → flat p.rows ≡ bytes_of s (rows_at t i)
 
 -- the first piece of a set
 pub record First (s : List ℕ) (x : Member) : Type 0 where
@@ -282,14 +282,14 @@ pub record First (s : List ℕ) (x : Member) : Type 0 where
   pub high : x.stop ≤ length s
   pub lines : List (List ℕ)
   pub bytes : flat lines ≡ bytes_of s x.rows
-  pub is : all_parts (pieces_in (rows s)) ≡ part_with (some (part_at s x lines)) (all_parts (pieces_in (rows (drop x.stop s))))
+  pub is : all_parts (pieces_in (rows s)) ≡ part_with (Some (part_at s x lines)) (all_parts (pieces_in (rows (drop x.stop s))))
   pub over : goes_on (rows (drop x.stop s)) ≡ false
   pub sound : sound (rows s) ≡ unbroken (rows s)
   pub whole : unbroken (rows s) ≡ unbroken (rows (drop x.stop s))
 
 pub record Collected {N : ℕ} (s : List ℕ) (x : Member) (t : Members N) : Type 0 where
   pub seen : List Part
-  pub parts : all_parts (pieces_in (rows s)) ≡ some seen
+  pub parts : all_parts (pieces_in (rows s)) ≡ Some seen
   pub agrees : agree (like x.provider (ident_at s x.rows.to) x.n) seen ≡ true
   pub count : t.count ≡ x.n
   pub bounds : Bounds s t
@@ -315,13 +315,13 @@ pub record SpotAt {N : ℕ} (t : Members N) (k : ℕ) (x : Span) : Type 0 where
   pub index : ℕ
   pub inside : index < t.count
   pub rows : x ≡ rows_at t index
-  pub found : (ps : List Part) → length ps ≡ t.count → take t.count t.ks ≡ ks_of ps → (p : Part) × (find_part k ps ≡ some p) × (piece_after index ps ≡ some p)
+  pub found : (ps : List Part) → length ps ≡ t.count → take t.count t.ks ≡ ks_of ps → (p : Part) × (find_part k ps ≡ Some p) × (piece_after index ps ≡ Some p)
 
-abbrev pub SpotMeans : {N : ℕ} → Members N → ℕ → Maybe Span → Type 0
+abbrev pub SpotMeans : {N : ℕ} → Members N → ℕ → Option Span → Type 0
 SpotMeans t k (Some x) = SpotAt t k x
-SpotMeans t k None = (ps : List Part) → length ps ≡ t.count → take t.count t.ks ≡ ks_of ps → find_part k ps ≡ none
+SpotMeans t k None = (ps : List Part) → length ps ≡ t.count → take t.count t.ks ≡ ks_of ps → find_part k ps ≡ None
 
-pub record SpotIs {N : ℕ} (t : Members N) (k : ℕ) (r : Maybe Span) : Type 0 where
+pub record SpotIs {N : ℕ} (t : Members N) (k : ℕ) (r : Option Span) : Type 0 where
   pub means : SpotMeans t k r
 
 -- ---- the buffer: the gathered rows from index at on; or they do not fit; or a part is missing
@@ -334,10 +334,10 @@ pub record PutIs (d d' : List ℕ) (at r : ℕ) (w : List ℕ) : Type 0 where
 
 -- 19 for a part that is missing, or 1 where the buffer cannot hold these rows
 abbrev pub NotFilled : List ℕ → ℕ → Option (List (List ℕ)) → Refusal → Type 0
-NotFilled d at w r = ((r ≡ Set) × (w ≡ none)) ⊎ ((r ≡ Large) × ((rs : List (List ℕ)) × (w ≡ some rs) × (length d < at + length (flat rs))))
+NotFilled d at w r = ((r ≡ Set) × (w ≡ None)) ⊎ ((r ≡ Large) × ((rs : List (List ℕ)) × (w ≡ Some rs) × (length d < at + length (flat rs))))
 
 abbrev pub FillMeans : List ℕ → List ℕ → ℕ → Option (List (List ℕ)) → Result ℕ Refusal → Type 0
-FillMeans d d' at w (Ok r) = (rs : List (List ℕ)) × (w ≡ some rs) × Wrote d d' at r (flat rs)
+FillMeans d d' at w (Ok r) = (rs : List (List ℕ)) × (w ≡ Some rs) × Wrote d d' at r (flat rs)
 FillMeans d d' at w (Err r) = NotFilled d at w r
 
 -- of whichever parts the tables have

@@ -3,15 +3,8 @@ ghost use Rattle.std.specs.Prelude.{◌≤◌, length};
 ghost use Rattle.join.specs.Spans.{LineAt, LastIs, LinesAre};
 
 use crate::rows::goes_on;
-use pieces::Row;
+use pieces::{Mark, Row};
 use replies::Refusal;
-
-// n and k of a record 911.
-#[derive(Clone, Copy)]
-pub(crate) struct Mark {
-    pub n: usize,
-    pub k: usize,
-}
 
 // The rows of a piece: where they end, and where the piece does. The record 911, if there is one, lies between.
 #[derive(Clone, Copy)]
@@ -22,18 +15,14 @@ pub(crate) struct Lines {
 }
 
 // The record 911 from at to e, which must be the last row.
+#[tactic(auto, using(crate::proofs::BodyLaws::last_laws))]
 fn last_mark(s: &[u8], at: usize, e: usize) -> Result<Mark, Refusal>
     requires { LineAt s.now at e }
     ensures { LastIs s.now at e result }
 {
     match pieces::read_mark(&s[at..e - 2]) {
-        pieces::Numbers::Read(n, k) => {
-            if goes_on(s, e) {
-                return Err(Refusal::Set);
-            }
-            Ok(Mark { n, k })
-        }
-        pieces::Numbers::Unread => Err(Refusal::Set),
+        Some(mark) if !goes_on(s, e) => Ok(mark),
+        _ => Err(Refusal::Set),
     }
 }
 

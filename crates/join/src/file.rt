@@ -99,8 +99,8 @@ fn join_pieces(s: &[u8], buf: &mut [u8]) -> Result<usize, Refusal>
     if let Some(mark) = lines.mark {
         let first = Member {
             provider: opening.provider,
-            n: mark.n,
-            k: mark.k,
+            n: mark.count,
+            k: mark.place,
             rows,
             stop: lines.stop,
         };

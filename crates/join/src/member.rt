@@ -44,7 +44,7 @@ pub(crate) fn read_member(s: &[u8], opening: Opening, first: Member) -> Result<M
     if opening.provider != first.provider {
         return Err(Refusal::Set);
     }
-    if mark.n != first.n {
+    if mark.count != first.n {
         return Err(Refusal::Set);
     }
     if ident(s, lines.end) != ident(s, first.rows.to) {
@@ -52,8 +52,8 @@ pub(crate) fn read_member(s: &[u8], opening: Opening, first: Member) -> Result<M
     }
     Ok(Member {
         provider: opening.provider,
-        n: mark.n,
-        k: mark.k,
+        n: mark.count,
+        k: mark.place,
         rows: Span {
             from: opening.end,
             to: lines.end,
