@@ -46,7 +46,11 @@ pub record Bytes (l : List ℕ) (k : Scripts) : Type 0 where
   pub katakana : k.katakana ≡ bytes_of is_own_katakana l
   pub either : k.either ≡ bytes_of is_either l
 
--- two such counts whose sums fit, and the sums
+-- and from a to e
+abbrev pub Counted : List ℕ → ℕ → ℕ → Scripts → Type 0
+Counted s a e k = Bytes (part s a e) k
+
+-- counts whose sums fit, and the sums
 pub record SumFits (a b : Scripts) : Type 0 where
   pub one : a.one + b.one < 2 ^ 64
   pub hiragana : a.hiragana + b.hiragana < 2 ^ 64
@@ -55,10 +59,6 @@ pub record SumFits (a b : Scripts) : Type 0 where
 
 abbrev pub sum_of : Scripts → Scripts → Scripts
 sum_of a b = record { one = a.one + b.one; hiragana = a.hiragana + b.hiragana; katakana = a.katakana + b.katakana; either = a.either + b.either }
-
--- and from a to e
-abbrev pub Counted : List ℕ → ℕ → ℕ → Scripts → Type 0
-Counted s a e k = Bytes (part s a e) k
 
 -- a run up to i, which is the last byte's place or past it, with the scripts k, is the run r
 pub record Finished (s : List ℕ) (i : ℕ) (k : Scripts) (r : Run) : Type 0 where
