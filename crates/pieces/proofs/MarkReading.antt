@@ -1,11 +1,11 @@
--- The ways through the tests of an ID and the reading of a record 911, by its items. Assumes nothing.
+-- The ways through the test for a record 911 and its reading, item by item. Assumes nothing.
 use Prim.Native.Nat.{ℕ, ◌+◌, ◌-◌, ◌≤◌, ◌<◌}
 use mathlib.Core.Path.{◌≡◌, refl, sym, ap, ap₂, ◌∙◌, subst}
 use mathlib.Core.Bool.{Bool, true, false, cond, not, ◌&&◌, false≢true}
 use mathlib.Core.List.{List, [], ◌∷◌, ◌++◌}
 use native.Mathlib.Omega.{arith}
 use denote.Ref.{Bor}
-use borrow.Author.Tests.{eq-eqb, ne_eqb, eqb-true, ltb-true, ltb-false, not-true, not-false}
+use borrow.Author.Tests.{eqb-true, ltb-true, ltb-false, not-true, not-false}
 use lib.Dec.{eqb, leb, ltb}
 use lib.ListN.{length, take, drop, get_or, length-append}
 use lib.Seq.{take_at}
@@ -27,16 +27,6 @@ use Rattle.division.specs.Marks.{Mark, valid_id, marked, mark_of, read_mark}
 use Rattle.pieces.specs.Answers.{ItemThen, ItemIs, MarkIs}
 
 -- ---- an ID
-
-pub id_size : (i : List ℕ) → (length i ≡ 14 → ⊥) → eqb (length i) 14 ≡ valid_id i
-unfolding valid_id
-id_size i h = rw (ne_eqb (length i) 14 h)
-
-pub id_digits : (i : List ℕ) {x : Bool} → length i ≡ 14 → x ≡ all is_digit i → x ≡ valid_id i
-unfolding valid_id
-id_digits i h e = e ∙ sym (rw (eq-eqb (length i) 14 h))
-
-pub ruleset id_laws = (id_size, id_digits)
 
 id_length : (i : List ℕ) → valid_id i ≡ true → length i ≡ 14
 unfolding valid_id

@@ -87,8 +87,6 @@ module _ (s : List ℕ) {at i : ℕ} (h : at < length s) (p : i ≡ find_from 0x
         cut = rest_is (drop at s) (omega (arith, length-drop at s)) (omega (arith, by_length, length-drop at s)) ∙ rw (t, q);
       }
 
-pub ruleset row_laws = (row_feed, row_rest)
-
 -- ---- a line: its text, and 0Dh 0Ah
 
 same_behind : (t x y : List ℕ) → same (t ++ x) (t ++ y) ≡ same x y

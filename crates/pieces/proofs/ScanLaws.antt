@@ -27,7 +27,7 @@ use Rattle.std.specs.Option.{MatchOption, unwrap_or}
 use Rattle.std.specs.List.{fold}
 use Rattle.std.specs.Array.{IsFirstChunk}
 use Rattle.pieces.specs.Answers.{RowAt, KindIs, RowIs, Skipped}
-use Rattle.pieces.proofs.RowLaws.{row_laws}
+use Rattle.pieces.proofs.RowLaws.{row_feed, row_rest}
 use Rattle.division.proofs.Chunks.{body_is}
 
 -- ---- eight bytes
@@ -88,12 +88,18 @@ module _ (p : ℕ → Bool) (s : List ℕ) where
       many_on at (i - at) (omega (arith, v.low, v.high)) (λ j g l. f (get_or s j 0) (v.plain j g (omega (arith, v.low)))) in
       omega (arith, q, v.low, ap (λ (k : ℕ). length (up_to p (drop k s))) e)
 
-module _ {s : List ℕ} {at i : ℕ} (v : Skipped s at i) where
-  pub feed_find : {e : ℕ} → e ≡ find_from 0x0a s i → e ≡ find_from 0x0a s at
+module _ {s : List ℕ} {at i : ℕ} (v : Skipped s at i) {e : ℕ} (h : at < length s) (q : e ≡ find_from 0x0a s i) where
+  feed_find : e ≡ find_from 0x0a s at
   unfolding find_from
-  feed_find q = q ∙ sym (behind (is 0x0a) s (λ b h. ne_eqb b 0x0a (λ e. omega arith)) v)
+  feed_find = q ∙ sym (behind (is 0x0a) s (λ b h. ne_eqb b 0x0a (λ e. omega arith)) v)
 
-pub ruleset feed_laws = (row_laws, feed_find)
+  pub feed_row : e < length s → RowAt s at (e + 1)
+  feed_row = row_feed s h feed_find
+
+  pub feed_rest : length s ≤ e → RowAt s at e
+  feed_rest = row_rest s h feed_find
+
+pub ruleset feed_laws = (feed_row, feed_rest)
 
 -- ---- the text
 

@@ -12,6 +12,7 @@ ghost use Rattle.division.specs.Marks.{valid_id};
 ghost use Rattle.pieces.specs.Answers.{RowAt, KindIs, RowIs, Skipped, ItemIs, MarkIs};
 
 // "A valid ID is 14 digits and nothing else."
+#[tactic(auto, unfolding(division::specs::Marks::valid_id))]
 pub fn valid_id(id: &[u8]) -> bool
     ensures { result ≡ valid_id id.now }
 {
@@ -22,6 +23,7 @@ pub fn valid_id(id: &[u8]) -> bool
 const NUMBER: &[u8] = b"911";
 
 // "A record 911 is a line that is 911 or begins with 911 and a comma."
+#[tactic(auto, using(crate::proofs::MarkReading::mark_laws))]
 pub fn is_mark(line: &[u8]) -> bool
     ensures { result ≡ is_mark line.now }
 {
@@ -40,6 +42,7 @@ fn comma_of(line: &[u8]) -> Option<usize>
 }
 
 // The first item of a line with a comma, and what follows the comma.
+#[tactic(auto, using(crate::proofs::MarkReading::item_laws))]
 fn split_item(line: &[u8]) -> Option<(&[u8], &[u8])>
     ensures { ItemIs line.now result }
 {
@@ -80,7 +83,7 @@ fn all_plain(eight: &[u8; 8]) -> bool
     eight.iter().fold(true, |plain, b| plain & (0x1a < *b))
 }
 
-// Behind as many eights of such bytes as follow a position.
+// Behind as many eights of such bytes as follow a position. Not by chunks_exact, with which a byte costs a sixth more.
 fn skip_plain(s: &[u8], at: usize) -> usize
     requires { at ≤ length s.now }
     ensures { Skipped s.now at result }
@@ -123,6 +126,7 @@ fn text_end(s: &[u8], at: usize) -> usize
 const LINE_END: &[u8] = b"\r\n";
 
 // Whether a row is a line with its line end.
+#[tactic(auto, using(crate::proofs::RowLaws::line_laws))]
 fn is_line(r: &[u8]) -> bool
     ensures { result ≡ is_line r.now }
 {
@@ -141,6 +145,7 @@ pub enum Row {
 
 const END_MARK: &[u8] = b"\x1a";
 
+#[tactic(auto, using(crate::proofs::RowLaws::kind_laws))]
 fn row_kind(r: &[u8]) -> Row
     ensures { KindIs r.now result }
 {
@@ -179,6 +184,7 @@ fn any_row(s: &[u8], at: usize) -> RowRead
 
 // The same. Most rows are a text with its line end, which the text's end tells: they are looked at once. Of these only a row as long as
 // a line 1 that begins with its J is compared with it.
+#[tactic(auto, using(crate::proofs::ScanLaws::text_laws))]
 pub fn row_at(s: &[u8], at: usize) -> RowRead
     requires { at < length s.now }
     ensures { RowIs s.now at result }
@@ -188,14 +194,10 @@ pub fn row_at(s: &[u8], at: usize) -> RowRead
         return any_row(s, at);
     }
     let end = i + 2;
-    if end - at == 13 && s[at] == b'J' {
-        return RowRead {
-            end,
-            kind: row_kind(&s[at..end]),
-        };
-    }
-    RowRead {
-        end,
-        kind: Row::Body,
-    }
+    let kind = if end - at == 13 && s[at] == b'J' {
+        row_kind(&s[at..end])
+    } else {
+        Row::Body
+    };
+    RowRead { end, kind }
 }
