@@ -31,7 +31,7 @@ fn quick_items(
 {
     let mut end = from;
     for (j, item) in row.iter().enumerate() {
-        if s.get(end) != Some(&b',') {
+        if s.len() <= end || s[end] != b',' {
             return None;
         }
         stops[j] = end - at;
