@@ -148,7 +148,18 @@ def read_all():
                 modules[(crate, path.stem)] = read_specs(crate, path)
         if (CRATES / crate / "src/lib.rt").exists():
             modules[(crate, "")] = read_code(crate, CRATES / crate / "src/lib.rt")
+            for path in sorted((CRATES / crate / "src").rglob("*.rt")):
+                if path.stem != "lib":
+                    modules[(crate, f"src/{path.stem}")] = read_code(crate, path)
     return modules
+
+
+def in_code(modules, crate, word):
+    """The struct or enum of this name in a crate's code, in whichever of its files."""
+    for (other, name), module in modules.items():
+        if other == crate and (not name or name.startswith("src/")) and word in module.declared:
+            return module.declared[word]
+    return None
 
 
 def crates_in_order():
@@ -166,7 +177,7 @@ def lookup(modules, module, where, name):
         return None
     crate, parts = found.group(1), found.group(2).split(".")
     if parts[:2] == ["specs", "declared"]:
-        declaration = modules[(crate, "")].declared.get(parts[2])
+        declaration = in_code(modules, crate, parts[3] if (crate, f"src/{parts[2]}") in modules else parts[2])
     else:
         owner = modules.get((crate, parts[1])) if parts[0] == "specs" and len(parts) > 1 else None
         declaration = owner and owner.declared.get(parts[2] if len(parts) > 2 else name)
@@ -192,9 +203,9 @@ def uses(modules, declaration):
     if module.sort == "code":
         for line in declaration.lines[1:]:
             for crate, word in re.findall(r"(?:(\w+)::)?(\w+)", line):
-                other = modules[(crate, "")] if (crate, "") in modules else module
-                if word in other.declared and other.declared[word].name == word:
-                    found.add(other.declared[word])
+                other = in_code(modules, crate if (crate, "") in modules else module.crate, word)
+                if other and other.name == word:
+                    found.add(other)
         return found - {declaration}
     for line in declaration.lines:
         if "Rattle." in line:
@@ -242,7 +253,7 @@ def contracts(modules, path, exported):
             if word in module.imports:
                 roots[name].add(lookup(modules, module, *module.imports[word]))
         for crate, word in re.findall(r"(\w+)::(\w+)", contract):
-            roots[name].add(modules[(crate, "")].declared.get(word))
+            roots[name].add(in_code(modules, crate, word))
         roots[name].discard(None)
     return roots
 

@@ -1,9 +1,8 @@
 -- The scripts that rows and cells tell are those of their bytes, by one computed test over all pairs; two bytes are no character of one byte. Assumes nothing.
-use Prim.Native.Nat.{ℕ, ◌+◌, ◌≤◌, ◌<◌}
+use Prim.Native.Nat.{ℕ, ◌+◌, ◌<◌}
 use mathlib.Core.Path.{◌≡◌, refl, sym, ap, ◌∙◌}
 use mathlib.Core.Bool.{Bool, true, false, cond, not, ◌&&◌, ◌||◌, beq, false≢true}
 use lib.Dec.{eqb}
-use native.Mathlib.Omega.{arith}
 use borrow.Author.Tests.{eqb-true}
 use Rattle.lists.proofs.Tests.{both, neither, not_true', below, below_at}
 use Rattle.characters.specs.declared.Char.{Char}

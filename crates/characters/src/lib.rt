@@ -3,7 +3,7 @@
 #![tactic(auto)]
 
 // What the reading of one character answers: one of one byte, one of two bytes by its script, or none. `Either` are the two that both kana scripts
-// share. A new kind of answer about characters goes here.
+// share. `Bad` is one of the answers, and no `None`: a question about a text is its answers for all six. A new kind of answer about characters goes here.
 #[derive(Clone, Copy, Debug, PartialEq, Eq)]
 pub enum Char {
     One,

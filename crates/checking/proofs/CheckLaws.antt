@@ -10,10 +10,10 @@ use borrow.Author.Tests.{eq-eqb}
 use mir.Val.{Fits}
 use mir.Syntax.{w32, w64}
 use lib.Dec.{eqb}
-use lib.ListN.{length, take, drop}
+use lib.ListN.{length, drop}
 use Rattle.lists.specs.Lists.{Res, ok, refused}
 use Rattle.lists.specs.Searching.{part}
-use Rattle.std.specs.Prelude.{Option, Some, None, Result, Ok, Err}
+use Rattle.std.specs.Prelude.{Some, None, Ok, Err}
 use Rattle.scanning.specs.declared.lines.Scan.{Scan}
 use Rattle.scanning.specs.Scans.{LineOf}
 use Rattle.characters.specs.Rows.{rows}
@@ -52,9 +52,9 @@ module _ (st : State) where
   unfolding closed count
   close_good e = rw (eq-eqb (finish_of st) 0 (sym e)) (three (sym (add-zero (st.line - 1))) (sym (add-zero st.groups)) (sym (add-zero st.drugs)))
 
-  pub close_missing : {x : Word} → number_of x ≡ finish_of st → Refused (number_of x) (st.line + 1) ≡ tally st (closed st)
+  pub close_missing : (x : Word) → number_of x ≡ finish_of st → Refused (number_of x) (st.line + 1) ≡ tally st (closed st)
   unfolding closed
-  close_missing {x} e = rw (sym e, never_0 x)
+  close_missing x e = rw (sym e, never_0 x)
 
 -- ---- the counts: what a state has counted, with what follows
 
@@ -143,7 +143,7 @@ module _ {st₀ : State} {s : List ℕ} {from : ℕ} {st : State} {at : ℕ} (v 
     reading_stopped {x} w = ap (Refused (number_of x.refusal)) w.means.1 ∙ go w.means.0
       where
         go : RefusedAt st s at stops (number_of x.refusal) → Refused (number_of x.refusal) (st.line + 1) ≡ tally st₀ (records_from st₀ (rows (drop from s)))
-        go (broken b l e) = ap (λ (j : ℕ). Refused j (st.line + 1)) e ∙ answer (sym (ap (tally st) (records_broken st l)))
+        go (broken l e) = ap (λ (j : ℕ). Refused j (st.line + 1)) e ∙ answer (sym (ap (tally st) (records_broken st l)))
         go (faulty e m y) = reading_refused y.line y.step
 
     module _ {t : Turn} (w : TurnOf st s at stops (Ok (Some t))) where

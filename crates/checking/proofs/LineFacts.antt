@@ -2,20 +2,19 @@
 -- Assumes nothing.
 use Prim.Native.Nat.{ℕ, ◌+◌, ◌-◌, ◌≤◌, ◌<◌}
 use native.Mathlib.Omega.{arith}
-use mathlib.Core.Path.{◌≡◌, ap}
+use mathlib.Core.Path.{◌≡◌, ap, subst}
 use mathlib.Core.Logic.{⊎_elim}
-use mathlib.Core.Bool.{Bool}
 use mathlib.Core.List.{List, [], ◌∷◌}
 use mir.Val.{Fits}
 use mir.Syntax.{w64}
-use lib.ListN.{length, take, drop, length-drop}
+use lib.ListN.{length, drop, length-drop}
 use lib.Seq.{length-take-le}
 use Rattle.lists.specs.Lists.{refused}
 use Rattle.lists.specs.Searching.{part}
-use Rattle.std.specs.Prelude.{Option, Some, None, Result, Ok, Err}
+use Rattle.std.specs.Prelude.{Option, Some, None, Ok, Err}
 use Rattle.scanning.specs.declared.lines.Scan.{Scan}
-use Rattle.scanning.specs.declared.lines.Broken.{Broken}
-use Rattle.scanning.specs.Scans.{Stops, ScannedLine, LineMeans, LineOf}
+use Rattle.scanning.specs.Scans.{Stops, ScannedLine, LineOf}
+use Rattle.scanning.proofs.LineLaws.{over_rows}
 use Rattle.characters.specs.Rows.{rows}
 use Rattle.characters.specs.Scanning.{comma_count, WholeLine, BrokenRow}
 use Rattle.characters.proofs.RowLaws.{line_is, line_text, line_no_mark}
@@ -24,13 +23,16 @@ use Rattle.order.specs.declared.State.{State}
 use Rattle.notebook.specs.Notebook.{step_line, closed, onward, records_from}
 
 module _ {s : List ℕ} {at : ℕ} {stops : List ℕ} where
+  pub line_some : {o : Option Scan} {r : Scan} → LineOf s at stops (Ok o) → o ≡ Some r → LineOf s at stops (Ok (Some r))
+  line_some w q = subst (λ (x : Option Scan). LineOf s at stops (Ok x)) q w
+
   -- ---- where no record is left
 
   pub records_over : (st : State) → LineOf s at stops (Ok None) → records_from st (rows (drop at s)) ≡ closed st
   unfolding records_from
-  records_over st w = ⊎_elim (ap (records_from st)) (ap (records_from st)) w.means
+  records_over st w = ⊎_elim (ap (records_from st)) (ap (records_from st)) (over_rows w.means)
 
-  pub records_broken : (st : State) {b : Broken} → LineOf s at stops (Err b) → records_from st (rows (drop at s)) ≡ refused 2 (st.line + 1)
+  pub records_broken : (st : State) → LineOf s at stops (Err (record {})) → records_from st (rows (drop at s)) ≡ refused 2 (st.line + 1)
   unfolding records_from
   records_broken st w = go (rows (drop at s)) w.means
     where

@@ -13,39 +13,38 @@ use lib.Seq.{length-take-le, take_at}
 use Rattle.lists.specs.Lists.{same, refused}
 use Rattle.lists.specs.Searching.{part}
 use Rattle.lists.proofs.Tests.{same_true, same_refl}
-use Rattle.std.specs.Prelude.{Option, Some, None, Result, Ok, Err}
+use Rattle.std.specs.Prelude.{Option, Some, None, Ok, Err}
 use Rattle.scanning.specs.declared.lines.Scan.{Scan}
-use Rattle.scanning.specs.declared.lines.Broken.{Broken}
 use Rattle.characters.specs.Rows.{rows, flat, is_line, line_end}
 use Rattle.characters.specs.Scanning.{WholeLine, BrokenRow}
 use Rattle.scanning.specs.Scans.{LineOf}
+use Rattle.scanning.proofs.LineLaws.{over_rows}
 use Rattle.characters.proofs.RowLaws.{line_is, line_text, flat_rows}
 use Rattle.records.specs.Records.{header}
 use Rattle.notebook.specs.Notebook.{read_rows, read_file}
 use Rattle.notebook.specs.Canonical.{head_row}
 use Rattle.notebook.proofs.Accepted.{rows_read}
-use Rattle.replies.specs.declared.refusal.Refused.{Refused}
 use Rattle.replies.specs.declared.refusal.Refusal.TheVariants.{Large, LineEnd, Version}
 use Rattle.heading.specs.Reading.{heading_of}
 use Rattle.heading.proofs.Laws.{heading_is, heading_not}
 use Rattle.checking.specs.declared.Opening.{Opening}
-use Rattle.checking.specs.Opening.{Behind, OpensAt, OpeningOf}
+use Rattle.checking.specs.Opening.{Behind, OpeningOf}
 
 module _ (s : List ℕ) where
   pub open_large : 65536 < length s → OpeningOf s (Err (record { refusal = Large; line = 0 }))
   unfolding read_file
   open_large h = record { means = rw (lt-leb (length s) 65536 h) }
 
-  module _ (h : length s ≤ 65536) {stops : List ℕ} where
+  module _ (h : length s ≤ 65536) where
     by_rows : read_file s ≡ read_rows (rows s)
     unfolding read_file
     by_rows = rw (le-leb (length s) 65536 h)
 
-    pub open_over : LineOf s 0 stops (Ok None) → OpeningOf s (Err (record { refusal = LineEnd; line = 1 }))
+    pub open_over : {stops : List ℕ} → LineOf s 0 stops (Ok None) → OpeningOf s (Err (record { refusal = LineEnd; line = 1 }))
     unfolding read_rows is_line
-    open_over w = record { means = by_rows ∙ ⊎_elim (ap read_rows) (ap read_rows) w.means }
+    open_over w = record { means = by_rows ∙ ⊎_elim (ap read_rows) (ap read_rows) (over_rows w.means) }
 
-    pub open_broken : {b : Broken} → LineOf s 0 stops (Err b) → OpeningOf s (Err (record { refusal = LineEnd; line = 1 }))
+    pub open_broken : {stops : List ℕ} → LineOf s 0 stops (Err (record {})) → OpeningOf s (Err (record { refusal = LineEnd; line = 1 }))
     unfolding read_rows
     open_broken w = record { means = by_rows ∙ go (rows s) w.means }
       where
@@ -53,7 +52,7 @@ module _ (s : List ℕ) where
         go [] b = absurd b
         go (r ∷ rs) b = rw b.0
 
-    module _ {r : Scan} (w : LineOf s 0 stops (Ok (Some r))) where
+    module _ {stops : List ℕ} {r : Scan} (w : LineOf s 0 stops (Ok (Some r))) where
       line_1 : WholeLine s 0 r.end r.good
       line_1 = w.means.line
 
@@ -70,7 +69,10 @@ module _ (s : List ℕ) where
           let a : s ≡ (part s 0 r.end ++ line_end) ++ flat (rows (drop (r.end + 2) s)) = sym (flat_rows s) ∙ ap flat line_1.cut in
           ap (take (r.end + 2 - 0)) a ∙ take_at (part s 0 r.end ++ line_end) (flat (rows (drop (r.end + 2) s))) (r.end + 2 - 0) l
 
-      module _ {f : Option Bool} (p : f ≡ heading_of (part s 0 (r.end + 2))) where
+      module _ {f : Option Bool} (p₀ : f ≡ heading_of (take (r.end + 2) s)) where
+        p : f ≡ heading_of (part s 0 (r.end + 2))
+        p = p₀ ∙ ap (λ (k : ℕ). heading_of (take k s)) {x = r.end + 2} {y = r.end + 2 - 0} (omega arith)
+
         pub open_records : {provider : Bool} → f ≡ Some provider → OpeningOf s (Ok (record { provider = provider; from = r.end + 2 }))
         open_records {provider} t =
             let a : part s 0 (r.end + 2) ≡ head_row provider = heading_is (part s 0 (r.end + 2)) p t in

@@ -2,7 +2,6 @@
 -- One turn of a walk over records: what the record at a position does to a state, as the code answers it.
 use Rattle.std.specs.Prelude.{ℕ, ◌+◌, ◌≡◌, Bool, List, Option, Some, None, Result, Ok, Err}
 use Rattle.lists.specs.Searching.{part}
-use Rattle.scanning.specs.declared.lines.Broken.{Broken}
 use Rattle.scanning.specs.Scans.{LineOf}
 use Rattle.replies.specs.declared.refusal.Refused.{Refused}
 use Rattle.replies.specs.Refusals.{number_of}
@@ -20,7 +19,7 @@ pub record StepAt (st : State) (s : List ℕ) (at : ℕ) (stops : List ℕ) (e n
 
 -- the rule of line ends is broken; or the line is refused
 pub data RefusedAt (st : State) (s : List ℕ) (at : ℕ) (stops : List ℕ) (n : ℕ) : Type 0 where
-  broken : (b : Broken) → LineOf s at stops (Err b) → n ≡ 2 → RefusedAt st s at stops n
+  broken : LineOf s at stops (Err (record {})) → n ≡ 2 → RefusedAt st s at stops n
   faulty : (e k : ℕ) → StepAt st s at stops e k (Fault n) → RefusedAt st s at stops n
 
 abbrev pub TurnMeans : State → List ℕ → ℕ → List ℕ → Result (Option Turn) Refused → Type 0

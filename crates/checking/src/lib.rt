@@ -11,7 +11,7 @@ ghost use Rattle.order.specs.Room.{Room};
 ghost use Rattle.notebook.specs.Notebook.{closed as closed_of, records_from};
 ghost use Rattle.checking.specs.Turns.{TurnOf};
 ghost use Rattle.notebook.specs.Check.{check_result};
-ghost use Rattle.replies.specs.Replies.{answer};
+ghost use Rattle.replies.specs.Refusals.{answer};
 ghost use Rattle.replies.specs.Results.{answer_in};
 ghost use Rattle.checking.specs.Walking.{tally, Closing};
 ghost use Rattle.checking.specs.Opening.{Behind, OpeningOf};
@@ -71,7 +71,7 @@ pub struct Turn {
 
 /// Reads and places the record at a position, if one is left; stops: the places of its commas, from its beginning. One call for both, so that
 /// the state is not stored and read back between them.
-#[tactic(auto, using(crate::proofs::TurnLaws::read_record_laws))]
+#[tactic(auto, using(crate::proofs::TurnLaws::turn_ends))]
 pub fn read_record(
     stops: &mut [usize; 16],
     st: State,

@@ -1,5 +1,5 @@
 -- Vocabulary of the code.
--- Digits read one by one, a number with no leading zero, and numbers with 1000 for "none".
+-- Digits read one by one, and a number with no leading zero.
 use Rattle.std.specs.Prelude.{ℕ, ◌+◌, ◌-◌, ◌*◌, cond, List, [], ◌∷◌, Option, Some, None, eqb, get_or}
 use Rattle.digits.specs.Digits.{is_digit, number}
 
@@ -15,11 +15,3 @@ number_from n (b ∷ s) = cond (is_digit b) (number_from (10 * n + (b - 48)) s) 
 -- one to three digits with no leading zero: their value
 unfoldable pub plain_number : List ℕ → Option ℕ
 plain_number s = cond (eqb (get_or s 0 0) 48) None (number s)
-
-abbrev pub or_thousand : Option ℕ → ℕ
-or_thousand None = 1000
-or_thousand (Some n) = n
-
--- one to three digits: their value; else 1000
-unfoldable pub short_value : List ℕ → ℕ
-short_value s = or_thousand (number s)

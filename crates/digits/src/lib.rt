@@ -2,7 +2,7 @@
 // Definitions: specs/Digits.antt and specs/Short.antt.
 #![tactic(auto)]
 
-ghost use Rattle.std.specs.Prelude.{◌≡◌, ◌<◌};
+ghost use Rattle.std.specs.Prelude.{◌≡◌};
 ghost use Rattle.lists.specs.Lists.{all};
 ghost use Rattle.digits.specs.Digits.{is_digit, number};
 ghost use Rattle.digits.specs.Short.{digit, plain_number};
@@ -17,14 +17,6 @@ pub fn all_digits(s: &[u8]) -> bool
     ensures { result ≡ all is_digit s.now }
 {
     s.iter().all(|b| is_digit(*b))
-}
-
-// A byte as a wider number.
-pub fn wide(b: u8) -> u32
-    ensures value { result ≡ b }
-    ensures upper_bound { result < 256 }
-{
-    u32::from(b)
 }
 
 // The value of a digit.

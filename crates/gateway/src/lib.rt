@@ -11,34 +11,32 @@ ghost use Rattle.division.specs.Cut.{cut_result};
 ghost use Rattle.division.specs.Join.{join_result};
 ghost use Rattle.gateway.specs.Version.{library_version};
 
-use replies::Reply;
-
 // Checks a file: a records, b groups, c drugs; or the one refusal with its line.
 #[unsafe(no_mangle)]
-pub extern "C" fn notebook_check(file: &[u8]) -> Reply
+pub extern "C" fn notebook_check(file: &[u8]) -> replies::Reply
     ensures { result ≡ reply_to (check_result file.now) [] }
 {
-    Reply::from(checking::check(file))
+    replies::Reply::from(checking::check(file))
 }
 
 // Writes seven numbers for each record from the front of the buffer on and keeps what lies after them: a records; or the one refusal
 // with its line, and the whole buffer as it was.
 #[unsafe(no_mangle)]
-pub extern "C" fn notebook_index(file: &[u8], out: &mut [u32]) -> Reply
+pub extern "C" fn notebook_index(file: &[u8], out: &mut [u32]) -> replies::Reply
     ensures reply { result ≡ reply_to (index_result file.now) out.old }
     ensures buffer { out.new ≡ output_of (index_result file.now) out.old }
 {
-    Reply::from(index::index(file, out))
+    replies::Reply::from(index::index(file, out))
 }
 
 // Writes the canonical file from the front of the buffer on and keeps what lies after it: a bytes; or the one refusal with its line, and
 // the whole buffer as it was.
 #[unsafe(no_mangle)]
-pub extern "C" fn notebook_canonical(file: &[u8], out: &mut [u8]) -> Reply
+pub extern "C" fn notebook_canonical(file: &[u8], out: &mut [u8]) -> replies::Reply
     ensures reply { result ≡ reply_to (canonical_result file.now) out.old }
     ensures buffer { out.new ≡ output_of (canonical_result file.now) out.old }
 {
-    Reply::from(canonical::canonical_file(file, out))
+    replies::Reply::from(canonical::canonical_file(file, out))
 }
 
 // Writes the pieces of the canonical file for a capacity, one after another from the front of the buffer on, and keeps what lies after
@@ -51,21 +49,21 @@ pub extern "C" fn notebook_cut(
     id: &[u8],
     used: &[u8],
     out: &mut [u8],
-) -> Reply
+) -> replies::Reply
     ensures reply { result ≡ reply_to (cut_result file.now capacity id.now used.now) out.old }
     ensures buffer { out.new ≡ output_of (cut_result file.now capacity id.now used.now) out.old }
 {
-    Reply::from(cut::cut(file, capacity, id, used, out))
+    replies::Reply::from(cut::cut(file, capacity, id, used, out))
 }
 
 // Writes the file that pieces in any order join to, from the front of the buffer on, and keeps what lies after it: a bytes; or the one
 // refusal with its line, and the whole buffer as it was.
 #[unsafe(no_mangle)]
-pub extern "C" fn notebook_join(pieces: &[u8], out: &mut [u8]) -> Reply
+pub extern "C" fn notebook_join(pieces: &[u8], out: &mut [u8]) -> replies::Reply
     ensures reply { result ≡ reply_to (join_result pieces.now) out.old }
     ensures buffer { out.new ≡ output_of (join_result pieces.now) out.old }
 {
-    Reply::from(join::join(pieces, out))
+    replies::Reply::from(join::join(pieces, out))
 }
 
 // The file VERSION as one number (tests/version.py).

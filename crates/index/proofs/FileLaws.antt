@@ -25,15 +25,14 @@ use Rattle.replies.specs.Results.{Result, at_exit, answer_of, fitting, answer_in
 use Rattle.replies.specs.CallContracts.{Gives}
 use Rattle.replies.proofs.Results.{gives_refusal, gives_20, gives_result}
 use Rattle.notebook.specs.Notebook.{Notebook, read_file}
-use Rattle.notebook.specs.Check.{check_result}
 use Rattle.notebook.specs.Canonical.{head_row}
 use Rattle.checking.specs.declared.Opening.{Opening}
 use Rattle.checking.specs.Opening.{OpensAt, OpeningOf}
-use Rattle.checking.specs.Walking.{Midway}
 use Rattle.checking.proofs.CheckLaws.{midway_start, check_records}
 use Rattle.notebook.specs.Index.{Entry, entries_from, entries_after_head, entries_of, listed_from, list_of, numbers, numbers_of, indexed, index_result}
 use Rattle.index.specs.Filling.{MidwayIn, numbers_at, FullOf, LastOf, BatchOf, Onward, ExitMeans, Exit}
 use Rattle.index.specs.declared.Reader.{Reader}
+use Rattle.index.specs.declared.Batch.{Batch}
 use Rattle.index.specs.declared.Batch.TheVariants.{Full, Last}
 use Rattle.notebook.proofs.Answered.{Counted, answer_refused, answer_accepted}
 use Rattle.notebook.proofs.Walk.{Accepted as AcceptedFile, accepted, walk_length, listed_length, numbers_length}
@@ -122,9 +121,10 @@ module _ {s : List ℕ} where
         go (Refused n line) a q = q ∙ answer_kept (index_result s) d (sym a)
         go (Done n g y) a q = q ∙ all ∙ (answer_accepts s d (sym a)).output
 
-pub ruleset index_laws = (index_unopened, index_begins, index_whole)
-
 -- ---- the answer and the buffer, midway in a file
+
+pub batch_is : {s : List ℕ} {from : Reader} {entries : List ℕ} {b c : Batch} → BatchOf s from entries (Ok b) → b ≡ c → BatchOf s from entries (Ok c)
+batch_is {s} {from} {entries} w q = subst (λ (x : Batch). BatchOf s from entries (Ok x)) q w
 
 module _ {s : List ℕ} {from : Reader} (v : Onward s from) where
   pub onward_midway : MidwayIn s from
@@ -230,5 +230,3 @@ module _ {s : List ℕ} {from : Reader} (v : Onward s from) where
                 ∙ ap (sets d ((from.st.line - 1) * 7)) (sym b.list);
             size = u.size ∙ x.size;
           }
-
-pub ruleset on_laws = (onward_midway, onward_line, batch_refused, last_end, last_short, last_room, last_written, full_onward, full_refused, full_room, full_written)

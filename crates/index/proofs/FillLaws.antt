@@ -10,11 +10,12 @@ use borrow.Author.Tests.{eq-eqb, ne_eqb}
 use lib.ListN.{length, take, drop, length-append}
 use lib.Seq.{take_all}
 use Rattle.lists.specs.Searching.{part}
-use Rattle.std.specs.Prelude.{Option, Some, None, Result, Ok, Err}
+use Rattle.std.specs.Prelude.{Some, None, Ok, Err}
 use Rattle.scanning.specs.declared.lines.Scan.{Scan}
 use Rattle.characters.specs.Rows.{rows, is_line, line_end}
 use Rattle.characters.specs.Scanning.{WholeLine}
 use Rattle.scanning.specs.Scans.{LineOf}
+use Rattle.scanning.proofs.LineLaws.{over_rows}
 use Rattle.characters.proofs.RowLaws.{line_is, line_text}
 use Rattle.records.specs.Records.{record_of}
 use Rattle.rules.specs.Places.{in_group}
@@ -69,19 +70,12 @@ module _ (number clinic : ℕ) {b : Bool} (e : b ≡ in_group number) where
 
 -- ---- one entry
 
--- room for seven numbers is room for any seven
-pub entry_room : (d : List ℕ) (next a b c x y z k a' b' c' x' y' z' k' : ℕ) → Room d next (seven_numbers a' b' c' x' y' z' k') → Room d next (a ∷ b ∷ c ∷ x ∷ y ∷ z ∷ k ∷ [])
-unfolding seven_numbers
-entry_room d next a b c x y z k a' b' c' x' y' z' k' r = r
-
 pub entry_written : {d d' : List ℕ} {next behind : ℕ} (st : State) (a b doctor clinic : ℕ) {group drug shown : ℕ}
     → group ≡ group_of st → drug ≡ drug_of st → shown ≡ clinic_of st.place clinic
     → Wrote d d' next behind (st.place ∷ a ∷ b ∷ group ∷ doctor ∷ drug ∷ shown ∷ [])
     → Wrote d d' next behind (seven_numbers st.place a b (group_of st) doctor (drug_of st) (clinic_of st.place clinic))
 unfolding seven_numbers
 entry_written st a b doctor clinic g h i w = rw (g, h, i) at w
-
-pub ruleset entry_laws = (entry_room, entry_written)
 
 -- ---- the walk
 
@@ -129,7 +123,7 @@ module _ {from : Reader} {s : List ℕ} {r : Reader} {d : List ℕ} {next : ℕ}
   -- where no record is left
   filling_none : {stops : List ℕ} → LineOf s r.at stops (Ok None) → entries_from r.st r.at (rows (drop r.at s)) ≡ []
   unfolding entries_from is_line
-  filling_none w = ⊎_elim (ap (entries_from r.st r.at)) (ap (entries_from r.st r.at)) w.means
+  filling_none w = ⊎_elim (ap (entries_from r.st r.at)) (ap (entries_from r.st r.at)) (over_rows w.means)
 
   module _ {stops : List ℕ} {l : Scan} (w : LineOf s r.at stops (Ok (Some l))) where
     line : WholeLine s r.at l.end l.good

@@ -9,7 +9,7 @@ ghost use Rattle.order.specs.State.{group_of, drug_of};
 ghost use Rattle.buffers.specs.Buffers.{Room, Wrote};
 ghost use Rattle.buffers.specs.Entries.{seven_numbers};
 ghost use Rattle.notebook.specs.Index.{clinic_after, clinic_of, index_result};
-ghost use Rattle.replies.specs.Replies.{answer};
+ghost use Rattle.replies.specs.Refusals.{answer};
 ghost use Rattle.replies.specs.CallContracts.{Gives};
 ghost use Rattle.index.specs.Filling.{Spanned, MidwayIn, BatchOf, Onward, Exit};
 
@@ -38,7 +38,6 @@ fn clinic_of(number: u32, clinic: u32) -> u32
 }
 
 // The entry of a record whose line stands from at to end and moved the reader to the state; clinic: the line of its group's 51, or 0.
-#[tactic(auto, using(crate::proofs::FillLaws::entry_laws))]
 fn put_entry(
     entries: &mut [u32],
     next: usize,
@@ -59,7 +58,15 @@ fn put_entry(
     buffers::put_all(
         entries,
         next,
-        &[st.place, offset, bytes, st.group(), doctor, st.drug(), shown],
+        &[
+            st.place,
+            offset,
+            bytes,
+            st.group(),
+            doctor,
+            st.drug(),
+            shown,
+        ],
     )
 }
 
@@ -93,7 +100,15 @@ fn read_batch(from: Reader, s: &[u8], entries: &mut [u32; 448]) -> Result<Batch,
         };
         let after = turn.moved.state;
         let clinic = clinic_after(after.line, reader.clinic, after.place);
-        next = put_entry(entries, next, reader.at, turn.end, after, turn.moved.doctor, clinic);
+        next = put_entry(
+            entries,
+            next,
+            reader.at,
+            turn.end,
+            after,
+            turn.moved.doctor,
+            clinic,
+        );
         reader = Reader {
             st: after,
             clinic,

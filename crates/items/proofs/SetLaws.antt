@@ -38,17 +38,6 @@ no_zero (n ∷ ns) h =
     let q : (1 ≤ n) × (n ≤ 999) = small_is n p.0 in
     rw (ne_eqb 0 n (λ e. omega arith), no_zero ns p.1)
 
--- what the code asks of the plain number o
-module _ (ns : List ℕ) (s : List ℕ) (h : all small ns ≡ true) {o : Option ℕ} (e : o ≡ plain_number s) where
-  pub spelled_some : {n : ℕ} {r : Bool} → o ≡ Some n → r ≡ member ns n → r ≡ spelled_as ns s
-  spelled_some {n} q m = m ∙ sym (one_of_member ns s h ∙ ap (λ (x : Option ℕ). member ns (unwrap_or x 0)) (sym e ∙ q))
-
-  pub spelled_none : o ≡ None → false ≡ spelled_as ns s
-  spelled_none q = sym (one_of_member ns s h ∙ ap (λ (x : Option ℕ). member ns (unwrap_or x 0)) (sym e ∙ q) ∙ no_zero ns h)
-
-pub authors_small : all small authors ≡ true
-authors_small = refl
-
 pub values_small : (v : Values) → all small (values_of v) ≡ true
 values_small Sex = refl
 values_small NoteKind = refl
@@ -59,4 +48,28 @@ values_small DosageForm = refl
 values_small UsageCodeKind = refl
 values_small InformationKind = refl
 
-pub ruleset set_laws = (spelled_some, spelled_none, authors_small, values_small)
+-- what the code asks of the plain number o
+module _ (s : List ℕ) {o : Option ℕ} (e : o ≡ plain_number s) where
+  module _ (ns : List ℕ) (h : all small ns ≡ true) where
+    spelled_some : {n : ℕ} {r : Bool} → o ≡ Some n → r ≡ member ns n → r ≡ spelled_as ns s
+    spelled_some {n} q m = m ∙ sym (one_of_member ns s h ∙ ap (λ (x : Option ℕ). member ns (unwrap_or x 0)) (sym e ∙ q))
+
+    spelled_none : o ≡ None → false ≡ spelled_as ns s
+    spelled_none q = sym (one_of_member ns s h ∙ ap (λ (x : Option ℕ). member ns (unwrap_or x 0)) (sym e ∙ q) ∙ no_zero ns h)
+
+  pub author_some : {n : ℕ} {r : Bool} → o ≡ Some n → r ≡ member authors n → r ≡ spelled_as authors s
+  author_some q m = spelled_some authors refl q m
+
+  pub author_none : o ≡ None → false ≡ spelled_as authors s
+  author_none q = spelled_none authors refl q
+
+  module _ (v : Values) where
+    pub among_some : {n : ℕ} {r : Bool} → o ≡ Some n → r ≡ member (values_of v) n → r ≡ spelled_as (values_of v) s
+    among_some q m = spelled_some (values_of v) (values_small v) q m
+
+    pub among_none : o ≡ None → false ≡ spelled_as (values_of v) s
+    among_none q = spelled_none (values_of v) (values_small v) q
+
+pub ruleset author_laws = (author_some, author_none)
+
+pub ruleset among_laws = (among_some, among_none)

@@ -1,10 +1,11 @@
 -- The kinds of text: what the scripts of their characters tell, and the first and the last character. Assumes nothing.
-use Prim.Native.Nat.{ℕ, suc, ◌+◌, ◌-◌, ◌≤◌, ◌<◌}
-use mathlib.Core.Path.{◌≡◌, refl, sym, ap, ap₂, ◌∙◌}
-use mathlib.Core.Bool.{Bool, true, false, cond, not, ◌&&◌, ◌||◌, true≢false, and-false, or-true}
+use Prim.Native.Nat.{ℕ, suc, ◌+◌, ◌-◌, ◌≤◌}
+use mathlib.Core.Path.{◌≡◌, refl, sym, ap, ap₂, ◌∙◌, subst}
+use mathlib.Core.Bool.{Bool, true, false, cond, not, ◌&&◌, true≢false, and-false}
 use mathlib.Core.Logic.{◌⊎◌, ⊎_elim}
 use mathlib.Core.List.{List, [], ◌∷◌, ◌++◌}
 use native.Mathlib.Omega.{arith}
+use Rattle.std.specs.Prelude.{Option, Some, None, is_some, IfSome}
 use borrow.Author.Tests.{ne_eqb, eq-eqb, eqb-true, eqb-false, leb-true}
 use lib.Dec.{leb, eqb}
 use lib.ListN.{length, get_or, take, drop, take-append-drop}
@@ -20,7 +21,10 @@ use Rattle.characters.proofs.CharLaws.{pair_parts}
 use Rattle.scanning.proofs.TextLaws.{lead_from_81, trail_from_40}
 use Rattle.scanning.specs.declared.runs.Scripts.{Scripts}
 use Rattle.scanning.specs.Scans.{Bytes, ToldOf}
-use Rattle.records.specs.Items.{is_code, one_width, one_script, ends_wide, edge}
+use Rattle.records.specs.Items.{one_width, one_script, ends_wide, edge, sized, fault}
+use Rattle.items.specs.declared.kinds.Kind.{Kind}
+use Rattle.items.specs.declared.kinds.Kind.TheVariants.{Kana}
+use Rattle.items.specs.Kinds.{kind_of}
 use Rattle.items.specs.declared.Uniform.{Uniform}
 use Rattle.items.specs.declared.Uniform.TheVariants.{Width, Script}
 use Rattle.items.specs.Ends.{Within, uniform_scripts, uniform_text}
@@ -82,6 +86,28 @@ pub not_uniform : (u : Uniform) (l : List ℕ) → all_chars l ≡ false → fal
 unfolding one_width one_script
 not_uniform Width l e = sym (rw (are_chars is_one_byte refl l e, are_chars is_two_byte refl l e) refl)
 not_uniform Script l e = sym (rw (are_chars is_one_byte refl l e, are_chars is_hiragana refl l e, are_chars is_katakana refl l e) refl)
+
+-- o: what the reading of its characters tells
+module _ {l : List ℕ} {o : Option Scripts} (w : ToldOf l o) where
+  told_bytes : {k : Scripts} → o ≡ Some k → Bytes l k
+  told_bytes q = subst (λ (x : Option Scripts). IfSome x (Bytes l)) q w.bytes
+
+  told_chars : {k : Scripts} → o ≡ Some k → all_chars l ≡ true
+  told_chars q = sym w.chars ∙ ap is_some q
+
+  pub told_within : {k : Scripts} → o ≡ Some k → Within k (length l)
+  told_within {k} q = scripts_within l k (told_bytes q) (length l) refl
+
+  pub told_uniform : (u : Uniform) {k : Scripts} {f : Bool} → o ≡ Some k → f ≡ uniform_scripts u k (length l) → f ≡ uniform_text u l
+  told_uniform u {k} q e = e ∙ scripts_fit l k (told_bytes q) (told_chars q) u (length l) refl
+
+  pub told_none : (u : Uniform) → o ≡ None → false ≡ uniform_text u l
+  told_none u q = not_uniform u l (sym w.chars ∙ ap is_some q)
+
+-- kind K
+pub kana_fault : {k : Kind} (m : ℕ) (s : List ℕ) {x : Bool} {r : ℕ} → k ≡ Kana m → x ≡ uniform_text Script s → r ≡ sized m s x → r ≡ fault (kind_of k) s
+unfolding fault
+kana_fault m s e p q = q ∙ ap (sized m s) p ∙ ap (λ (x : Kind). fault (kind_of x) s) (sym e)
 
 -- ---- the last character is 8140h
 

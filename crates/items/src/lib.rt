@@ -7,7 +7,7 @@
 mod kinds;
 
 ghost use Rattle.std.specs.Prelude.{◌≡◌, Some, None, cond, not, ◌&&◌, ◌||◌, ◌+◌, ◌≤◌, ◌<◌, eqb, length, get_or};
-ghost use Rattle.lists.specs.Lists.{member, unless as unless_of};
+ghost use Rattle.lists.specs.Lists.{all, member, unless as unless_of};
 ghost use Rattle.scanning.specs.Scans.{RunOf, Counted};
 ghost use Rattle.replies.specs.Refusals.{number_of, fault_in};
 ghost use Rattle.records.specs.Table.{N, X, R, required};
@@ -17,7 +17,6 @@ ghost use Rattle.items.specs.Kinds.{authors, values_of, need_of, kind_of, item_o
 ghost use Rattle.items.specs.Ends.{Within, uniform_scripts, uniform_text, uniform_kind, sized_end, EndOf, SpelledAt, CodeRun, DigitAt, DigitFits};
 
 pub use kinds::{Item, Kind, Need, Values};
-
 use replies::Refusal;
 use replies::Refusal::{Edge, Empty, Form, Long};
 use scanning::{Run, Scripts};
@@ -29,6 +28,12 @@ fn is_code(b: u8) -> bool
     ensures { result ≡ is_code b }
 {
     matches!(b, b'A'..=b'Z' | b'a'..=b'z' | b'0'..=b'9' | b'.' | b'-')
+}
+
+fn all_code(s: &[u8]) -> bool
+    ensures { result ≡ all is_code s.now }
+{
+    s.iter().all(|b| is_code(*b))
 }
 
 // What all characters of an item of kind U or K have in common.
@@ -66,11 +71,14 @@ impl Uniform {
     }
 
     // The same of a whole item.
+    #[tactic(auto, using(crate::proofs::TextLaws::told_none))]
     fn holds_in(self, s: &[u8]) -> bool
         ensures { result ≡ uniform_text self s.now }
     {
-        let t = scanning::scripts_of(s);
-        t.good && self.holds(t.scripts, s.len())
+        match scanning::scripts_of(s) {
+            Some(k) => self.holds(k, s.len()),
+            None => false,
+        }
     }
 }
 
@@ -84,6 +92,7 @@ fn ends_wide(s: &[u8]) -> bool
         && scanning::all_chars(&s[..before])
 }
 
+#[tactic(auto, unfolding(records::specs::Items::edge))]
 fn edge(s: &[u8]) -> bool
     ensures { result ≡ edge_of s.now }
 {
@@ -101,28 +110,35 @@ fn edge(s: &[u8]) -> bool
         | ((2 <= n) & ((a == b'\'') & (z == b'\'')))
 }
 
+#[tactic(auto, unfolding(records::specs::Items::seven))]
 fn seven(s: &[u8]) -> bool
     ensures { result ≡ seven_of s.now }
 {
     s.len() == 7 && digits::all_digits(s)
 }
 
+#[tactic(auto, using(crate::proofs::FormLaws::seven_laws))]
 fn hyphened(s: &[u8]) -> bool
     ensures { result ≡ seven_of (unhyphened s.now) }
 {
     s.len() == 8 && digits::all_digits(&s[..3]) && digits::all_digits(&s[4..])
 }
 
+#[tactic(auto, unfolding(records::specs::Items::postal))]
 fn postal(s: &[u8]) -> bool
     ensures { result ≡ postal_of s.now }
 {
     seven(s) || (lists::byte_at(s, 3) == b'-' && hyphened(s))
 }
 
+#[tactic(auto, using(crate::proofs::FormLaws::prefecture_laws))]
 fn prefecture(s: &[u8]) -> bool
     ensures { result ≡ prefecture_of s.now }
 {
-    s.len() == 2 && matches!(digits::short_value(s), Some(1..=47))
+    match digits::short_value(s) {
+        Some(n) => (s.len() == 2) & ((1 <= n) & (n <= 47)),
+        None => false,
+    }
 }
 
 fn whole(w: usize, a: &[u8]) -> bool
@@ -139,12 +155,14 @@ fn decimals(f: usize, b: &[u8]) -> bool
     (1 <= n && n <= f) && (digits::all_digits(b) && b[n - 1] != b'0')
 }
 
+#[tactic(auto, using(crate::proofs::FormLaws::fraction_some))]
 fn fraction(f: usize, s: &[u8]) -> bool
     ensures { result ≡ fraction_of f s.now }
 {
     s.is_empty() || decimals(f, &s[1..])
 }
 
+#[tactic(auto, using(crate::proofs::FormLaws::decimal_laws))]
 fn decimal(w: usize, f: usize, s: &[u8]) -> bool
     ensures { result ≡ decimal_of w f s.now }
 {
@@ -158,7 +176,7 @@ fn is_author(n: u32) -> bool
     matches!(n, 1 | 2 | 8 | 9)
 }
 
-#[tactic(auto, using(crate::proofs::SetLaws::set_laws))]
+#[tactic(auto, using(crate::proofs::SetLaws::author_laws))]
 fn author(s: &[u8]) -> bool
     ensures { result ≡ spelled_as authors s.now }
 {
@@ -168,7 +186,7 @@ fn author(s: &[u8]) -> bool
     }
 }
 
-#[tactic(auto, using(crate::proofs::SetLaws::set_laws))]
+#[tactic(auto, using(crate::proofs::SetLaws::among_laws))]
 fn among(values: Values, s: &[u8]) -> bool
     ensures { result ≡ spelled_as (values_of values) s.now }
 {
@@ -185,15 +203,21 @@ fn unless(good: bool, refusal: Refusal) -> Verdict
 }
 
 // The kinds N, U, X and K: too long, then an edge, then the form.
+#[tactic(auto, unfolding(records::specs::Items::sized))]
 fn sized(most: u16, s: &[u8], good: bool) -> Verdict
     ensures { fault_in result ≡ sized_of most s.now good }
 {
-    unless(s.len() <= usize::from(most), Long)?;
-    unless(!edge(s), Edge)?;
+    if usize::from(most) < s.len() {
+        return Err(Long);
+    }
+    if edge(s) {
+        return Err(Edge);
+    }
     unless(good, Form)
 }
 
 // The fault of an item that is not empty, by its kind.
+#[tactic(auto, unfolding(records::specs::Items::fault))]
 fn kind_fault(kind: Kind, s: &[u8]) -> Verdict
     ensures { fault_in result ≡ fault_of (kind_of kind) s.now }
 {
@@ -201,7 +225,7 @@ fn kind_fault(kind: Kind, s: &[u8]) -> Verdict
         Kind::Text(most) => sized(most, s, true),
         Kind::OneWidth(most) => sized(most, s, Uniform::Width.holds_in(s)),
         Kind::Kana(most) => sized(most, s, Uniform::Script.holds_in(s)),
-        Kind::Code(most) => sized(most, s, s.iter().all(|b| is_code(*b))),
+        Kind::Code(most) => sized(most, s, all_code(s)),
         Kind::Author => unless(author(s), Form),
         Kind::Prefecture => unless(prefecture(s), Form),
         Kind::SevenDigits => unless(seven(s), Form),
@@ -215,6 +239,7 @@ fn kind_fault(kind: Kind, s: &[u8]) -> Verdict
 }
 
 /// What the rules say of an item of the table.
+#[tactic(auto, unfolding(records::specs::Records::item_fault))]
 pub fn item_fault(item: Item, provider: bool, s: &[u8]) -> Result<(), Refusal>
     ensures { fault_in result ≡ item_fault provider (item_of item) s.now }
 {
@@ -261,6 +286,7 @@ fn no_wide_edge(k: Scripts, s: &[u8], from: usize, z: u8) -> bool
 
 // Where a run that is not empty ends, if it is not too long and has no edge. A blank or a quote at an end is 8140h or a character of one byte below
 // 28h: most runs have neither.
+#[tactic(auto, using(crate::proofs::EndLaws::sized_laws))]
 fn sized_end(most: u16, s: &[u8], from: usize, run: Run) -> Option<usize>
     requires run_of { RunOf s.now from run.end }
     requires counted { Counted s.now from run.end run.scripts }
@@ -274,7 +300,7 @@ fn sized_end(most: u16, s: &[u8], from: usize, run: Run) -> Option<usize>
     }
     let a = s[from];
     let z = s[end - 1];
-    if k.one == 0 || (0x28 <= a && 0x28 <= z) {
+    if (k.one == 0) | ((0x28 <= a) & (0x28 <= z)) {
         if no_wide_edge(k, s, from, z) {
             return Some(end);
         }
@@ -283,6 +309,7 @@ fn sized_end(most: u16, s: &[u8], from: usize, run: Run) -> Option<usize>
 }
 
 // Kind N: too long, then an edge.
+#[tactic(auto, using(crate::proofs::EndLaws::text_item_laws))]
 fn text_item(most: u16, need: Need, provider: bool, s: &[u8], from: usize) -> Option<usize>
     requires { from ≤ length s.now }
     ensures { EndOf provider (record { kind = N most; need = need_of need }) s.now from result }
@@ -295,6 +322,7 @@ fn text_item(most: u16, need: Need, provider: bool, s: &[u8], from: usize) -> Op
 }
 
 // Kinds U and K: the scripts of the run, then as kind N.
+#[tactic(auto, using(crate::proofs::EndLaws::uniform_item_laws))]
 fn uniform_item(
     uniform: Uniform,
     most: u16,
@@ -317,6 +345,7 @@ fn uniform_item(
 }
 
 // Kind X: a code has no edge, so its length and whether it must not be empty are all that is left to look at.
+#[tactic(auto, using(crate::proofs::EndLaws::code_item_laws))]
 fn code_item(most: u16, need: Need, provider: bool, s: &[u8], from: usize) -> Option<usize>
     requires { from ≤ length s.now }
     ensures { EndOf provider (record { kind = X most; need = need_of need }) s.now from result }
@@ -333,6 +362,7 @@ fn code_item(most: u16, need: Need, provider: bool, s: &[u8], from: usize) -> Op
 }
 
 // Any other kind: its bytes are those of a code (digits, a period, a hyphen, an era's letter), so that the run of these is looked at.
+#[tactic(auto, using(crate::proofs::EndLaws::other_item_laws))]
 fn other_item(item: Item, provider: bool, s: &[u8], from: usize) -> Option<usize>
     requires { from ≤ length s.now }
     ensures { EndOf provider (item_of item) s.now from result }
@@ -345,6 +375,7 @@ fn other_item(item: Item, provider: bool, s: &[u8], from: usize) -> Option<usize
 }
 
 // The value of a digit with a comma or 0Dh after it, which is an item of one byte.
+#[tactic(auto, using(crate::proofs::DigitLaws::digit_laws))]
 fn digit_at(s: &[u8], from: usize) -> Option<u32>
     requires { from ≤ length s.now }
     ensures { DigitAt s.now from result }
@@ -359,6 +390,7 @@ fn digit_at(s: &[u8], from: usize) -> Option<u32>
 }
 
 // Whether an item of one digit has no fault, by its kind. False says nothing.
+#[tactic(auto, using(crate::proofs::DigitLaws::fits_laws))]
 fn digit_fits(kind: Kind, d: u32) -> bool
     ensures { DigitFits (kind_of kind) d result }
 {
@@ -371,11 +403,14 @@ fn digit_fits(kind: Kind, d: u32) -> bool
 }
 
 // The kinds of which most items are one digit.
+#[tactic(auto, using(crate::proofs::EndLaws::end_digit))]
 fn digit_item(item: Item, provider: bool, s: &[u8], from: usize) -> Option<usize>
     requires { from ≤ length s.now }
     ensures { EndOf provider (item_of item) s.now from result }
 {
-    if let Some(d) = digit_at(s, from) && digit_fits(item.kind, d) {
+    if let Some(d) = digit_at(s, from)
+        && digit_fits(item.kind, d)
+    {
         return Some(from + 1);
     }
     other_item(item, provider, s, from)
@@ -389,6 +424,7 @@ pub struct Spelled {
 }
 
 /// The digits at a position, if there are any. None are told of the last two bytes of all, which end no record.
+#[tactic(auto, using(crate::proofs::NumberLaws::spelled_laws))]
 pub fn spelled_at(s: &[u8], at: usize) -> Option<Spelled>
     requires { at ≤ length s.now }
     ensures { SpelledAt s.now at result }
@@ -417,11 +453,14 @@ pub fn spelled_at(s: &[u8], at: usize) -> Option<Spelled>
 }
 
 // Kind R.
+#[tactic(auto, using(crate::proofs::NumberLaws::number_fine))]
 fn number_item(need: Need, provider: bool, s: &[u8], from: usize) -> Option<usize>
     requires { from ≤ length s.now }
     ensures { EndOf provider (record { kind = R; need = need_of need }) s.now from result }
 {
-    if let Some(number) = spelled_at(s, from) && number.value != 0 {
+    if let Some(number) = spelled_at(s, from)
+        && number.value != 0
+    {
         return Some(number.end);
     }
     let kind = Kind::Number;

@@ -1,14 +1,11 @@
 -- The rows of a piece as a run of bytes, with or without a record 911 at its end. Assumes nothing.
 use Prim.Native.Nat.{ℕ, ◌+◌, ◌-◌, ◌≤◌}
 use mathlib.Core.Path.{◌≡◌, refl, sym, ap, ap₂, ◌∙◌, subst}
-use mathlib.Core.Bool.{Bool, true, false, cond, not, ◌&&◌, beq, false≢true, and-false}
-use mathlib.Core.Option.{Option, none, some}
+use mathlib.Core.Bool.{Bool, true, false, cond, not, ◌&&◌, false≢true}
+use Rattle.std.specs.Prelude.{Option}
 use mathlib.Core.List.{List, [], ◌∷◌, ◌++◌, append_assoc, append-nil}
 use native.Mathlib.Omega.{arith}
-use borrow.Author.Tests.{eq-eqb, ne_eqb, eqb-true, eqb-false, not-true, not-false}
-use mir.Val.{Fits}
-use mir.Syntax.{w64}
-use lib.Dec.{eqb}
+use borrow.Author.Tests.{not-true}
 use lib.ListN.{length, take, drop, length-append}
 use lib.Seq.{take-take}
 use Rattle.lists.specs.Lists.{same}
@@ -22,16 +19,15 @@ use Rattle.notebook.specs.Canonical.{head_row}
 use Rattle.lists.proofs.Parts.{part_length, part_none, part_join, part_part}
 use Rattle.pieces.specs.declared.Row.{Row}
 use Rattle.pieces.specs.declared.Row.TheVariants.{Head, EndHead, Body, End, Broken}
-use Rattle.pieces.specs.declared.Numbers.{Numbers}
-use Rattle.pieces.specs.declared.Numbers.TheVariants.{Read, Unread}
 use Rattle.division.specs.Marks.{Mark, read_mark}
 use Rattle.division.specs.Pieces.{RowKind, head, end_head, body, end, broken, kind_of, body_step, body_of, opened, pieces_in}
 use Rattle.pieces.specs.Answers.{RowAt, as_kind, KindIs, as_mark, Most, Reaches, MarkIs}
-use Rattle.join.specs.declared.Lines.{Lines}
-use Rattle.join.specs.declared.Lines.TheVariants.{Plain, Marked, Wrong}
-use Rattle.join.specs.declared.Member.TheVariants.{Of, Foreign}
-use Rattle.division.specs.Join.{unmarked, Part, row_before, last_mark, part_of, part_with, agree}
-use Rattle.join.specs.Spans.{is_whole, unbroken, is_body, goes_on, LineAt, part_by, ident_at, MarkedLines, LastMeans, LastIs, LinesMean, LinesAre, agreed, Within, MemberIs}
+use Rattle.std.specs.Prelude.{Some, None, Ok, Err}
+use Rattle.replies.specs.declared.refusal.Refusal.{Refusal}
+use Rattle.replies.specs.declared.refusal.Refusal.TheVariants.{Set}
+use Rattle.pieces.specs.declared.Mark.{Mark as NandK}
+use Rattle.division.specs.Join.{unmarked, Part, row_before, last_mark, part_of}
+use Rattle.join.specs.Spans.{is_whole, unbroken, is_body, goes_on, LineAt, part_by, ident_at, LastIs, LinesAre}
 use Rattle.join.proofs.WalkLaws.{row_bounds, goes_over, goes_head, goes_end_head, goes_end, goes_broken, unbroken_step}
 
 -- ---- a row of kind body is a line; its text is all but two bytes
@@ -81,16 +77,16 @@ module _ {s : List ℕ} {at e : ℕ} (x : LineAt s at e) where
 
 -- ---- the last record 911
 
-last_none : (d : Bool) (rs : List (List ℕ)) → last_mark d rs none ≡ none
+last_none : (d : Bool) (rs : List (List ℕ)) → last_mark d rs None ≡ None
 last_none d [] = refl
 last_none d (r ∷ rs) = refl
 
-body_on : (rs : List (List ℕ)) (d : Bool) (m : Option Mark) → goes_on rs ≡ true → last_mark d (body_of rs) m ≡ none
+body_on : (rs : List (List ℕ)) (d : Bool) (m : Option Mark) → goes_on rs ≡ true → last_mark d (body_of rs) m ≡ None
 unfolding body_of
 body_on [] d m e = absurd (false≢true e)
 body_on (r ∷ rs) d m e = go (kind_of r) e
   where
-    go : (k : RowKind) → is_body k ≡ true → last_mark d (body_step r (body_of rs) k) m ≡ none
+    go : (k : RowKind) → is_body k ≡ true → last_mark d (body_step r (body_of rs) k) m ≡ None
     go (head x) e = absurd (false≢true e)
     go (end_head x) e = absurd (false≢true e)
     go body e = refl
@@ -109,35 +105,34 @@ body_over (r ∷ rs) e = go (kind_of r) e
     go end e = refl
     go broken e = refl
 
-module _ {s : List ℕ} {at e : ℕ} (x : LineAt s at e) {m : Numbers} (p : MarkIs (take (e - 2 - at) (drop at s)) m) where
-  read : {j : Numbers} → m ≡ j → read_mark (text (part s at e)) ≡ as_mark (part (part s at (e - 2)) 4 18) j
+module _ {s : List ℕ} {at e : ℕ} (x : LineAt s at e) {o : Option NandK} (p : MarkIs (take (e - 2 - at) (drop at s)) o) where
+  read : {j : Option NandK} → o ≡ j → read_mark (text (part s at e)) ≡ as_mark (part (part s at (e - 2)) 4 18) j
   read q = ap read_mark (line_text x) ∙ (p.is ∙ ap (as_mark (part (part s at (e - 2)) 4 18)) q)
 
-  pub last_unread : m ≡ Unread → LastIs s at e Wrong
-  last_unread q = record { means = λ d. ap (last_mark d (body_of (rows (drop e s)))) (read q) ∙ last_none d (body_of (rows (drop e s))) }
+  wrong : ((d : Bool) → last_mark d (body_of (rows (drop e s))) (read_mark (text (part s at e))) ≡ None) → LastIs s at e (Err Set)
+  wrong f = record { means = record { number = refl; none = f } }
 
-  module _ {n k : ℕ} (q : m ≡ Read n k) {y : Bool} (g : y ≡ goes_on (rows (drop e s))) where
-    pub last_on : y ≡ true → LastIs s at e Wrong
-    last_on t = record { means = λ d. body_on (rows (drop e s)) d (read_mark (text (part s at e))) (sym g ∙ t) }
+  pub last_unread : o ≡ None → LastIs s at e (Err Set)
+  last_unread q = wrong (λ d. ap (last_mark d (body_of (rows (drop e s)))) (read q) ∙ last_none d (body_of (rows (drop e s))))
 
-    pub last_read : y ≡ false → LastIs s at e (Marked at e n k)
+  module _ {m : NandK} (q : o ≡ Some m) {y : Bool} (g : y ≡ goes_on (rows (drop e s))) where
+    pub last_on : y ≡ true → LastIs s at e (Err Set)
+    last_on t = wrong (λ d. body_on (rows (drop e s)) d (read_mark (text (part s at e))) (sym g ∙ t))
+
+    pub last_read : y ≡ false → LastIs s at e (Ok m)
     last_read t =
-        let c : (n ≤ 999) × (k ≤ 999) = subst Most q p.most in
+        let c : (m.count ≤ 999) × (m.place ≤ 999) = subst Most q p.most in
         let h : 18 ≤ length (part s at (e - 2)) = subst (Reaches (part s at (e - 2))) q p.reaches in
         let l : length (part s at (e - 2)) ≡ e - 2 - at = part_length s at (e - 2) (line_before x) (line_high x) in
         let w : part (part s at (e - 2)) 4 18 ≡ ident_at s at = part_part s at (e - 2) 4 18 (omega arith) (omega (arith, line_room x)) in
         record {
-          means = (
-            refl,
-            refl,
-            record {
-              ident = omega (arith, line_room x);
-              count = c.0;
-              place = c.1;
-              read = read q ∙ ap (λ (i : List ℕ). as_mark i (Read n k)) w;
-              last = sym g ∙ t;
-            },
-          );
+          means = record {
+            ident = omega (arith, line_room x);
+            count = c.0;
+            place = c.1;
+            read = read q ∙ ap (λ (i : List ℕ). as_mark i (Some m)) w;
+            last = sym g ∙ t;
+          };
         }
 
 pub ruleset last_laws = (line_two, line_before, line_high, line_behind, last_unread, last_on, last_read)
@@ -220,13 +215,13 @@ part_front d (r ∷ rs) xs e =
     let p : (not (is_mark (text r)) ≡ true) × (unmarked rs ≡ true) = both (not (is_mark (text r))) (unmarked rs) e in
     rw (not-true (is_mark (text r)) p.0) (ap (row_before r) (part_front d rs xs p.1))
 
-front_none : (rs : List (List ℕ)) → infront rs none ≡ none
+front_none : (rs : List (List ℕ)) → infront rs None ≡ None
 unfolding infront
 front_none [] = refl
 front_none (r ∷ rs) = ap (row_before r) (front_none rs)
 
 front_some : (rs xs : List (List ℕ)) (d : Bool) (m : Mark)
-    → infront rs (some (record { provider = d; mark = m; rows = xs })) ≡ some (record { provider = d; mark = m; rows = rs ++ xs })
+    → infront rs (Some (record { provider = d; mark = m; rows = xs })) ≡ Some (record { provider = d; mark = m; rows = rs ++ xs })
 unfolding infront
 front_some [] xs d m = refl
 front_some (r ∷ rs) xs d m = ap (row_before r) (front_some rs xs d m)
@@ -255,13 +250,14 @@ module _ {s : List ℕ} {from at : ℕ} (v : Before s from at) where
   whole_unbroken = ap unbroken v.cut ∙ unbroken_front v.front (rows (drop at s)) v.bodies
 
   -- nothing of the piece is left
-  over : goes_on (rows (drop at s)) ≡ false → LinesAre s from (Plain at)
+  over : goes_on (rows (drop at s)) ≡ false → LinesAre s from (Ok (record { end = at; stop = at; mark = None }))
   unfolding part_of
   over e =
       let b : body_of (rows (drop from s)) ≡ v.front ++ [] = whole_body ∙ ap (λ (t : List (List ℕ)). v.front ++ t) (body_over (rows (drop at s)) e) in
       let f : body_of (rows (drop from s)) ≡ v.front = b ∙ append-nil v.front in
       record {
         mean = record {
+          all = refl;
           low = v.low;
           high = v.high;
           plain = ap unmarked f ∙ v.plain;
@@ -273,21 +269,19 @@ module _ {s : List ℕ} {from at : ℕ} (v : Before s from at) where
         };
       }
 
-  pub lines_out : length s ≤ at → LinesAre s from (Plain at)
+  pub lines_out : length s ≤ at → LinesAre s from (Ok (record { end = at; stop = at; mark = None }))
   lines_out h = over (sym (goes_over s at h))
 
   module _ {e : ℕ} {k : Row} (x : RowAt s at e) (p : KindIs (take (e - at) (drop at s)) k) where
-    pub lines_head : {d : Bool} → k ≡ Head d → LinesAre s from (Plain at)
-    lines_head q = over (sym (goes_head s x p q))
-
-    pub lines_end_head : {d : Bool} → k ≡ EndHead d → LinesAre s from (Plain at)
-    lines_end_head q = over (sym (goes_end_head s x p q))
-
-    pub lines_end : k ≡ End → LinesAre s from (Plain at)
-    lines_end q = over (sym (goes_end s x p q))
-
-    pub lines_broken : k ≡ Broken → LinesAre s from (Plain at)
-    lines_broken q = over (sym (goes_broken s x p q))
+    pub lines_other : (k ≡ Body → ⊥) → LinesAre s from (Ok (record { end = at; stop = at; mark = None }))
+    lines_other f = over (go k refl)
+      where
+        go : (j : Row) → k ≡ j → goes_on (rows (drop at s)) ≡ false
+        go (Head d) q = sym (goes_head s x p q)
+        go (EndHead d) q = sym (goes_end_head s x p q)
+        go Body q = absurd (f q)
+        go End q = sym (goes_end s x p q)
+        go Broken q = sym (goes_broken s x p q)
 
     module _ (q : k ≡ Body) where
       is_body_lem : is_body (kind_of (part s at e)) ≡ true
@@ -343,136 +337,31 @@ module _ {s : List ℕ} {from at : ℕ} (v : Before s from at) where
           next-pieces =
               whole_pieces ∙ (ap pieces_in x.cut ∙ ap (opened (body_of (rows (drop e s))) (pieces_in (rows (drop e s)))) (p.is ∙ ap as_kind q))
 
-          last_is : (r : Lines) → LastMeans s at e r → LinesMean s from r
-          last_is (Plain stop) m = absurd m
-          last_is Wrong m = record { marked = not_plain; none = λ d. by_last d ∙ (ap (infront v.front) (m d) ∙ front_none v.front) }
-          last_is (Marked a b n j) (m₁, m₂, m) =
-              subst (λ (i : ℕ). MarkedLines s from i b n j) (sym m₁) (subst (λ (i : ℕ). MarkedLines s from at i n j) (sym m₂) (record {
-                low = v.low;
-                ident = m.ident;
-                high = x.inside;
-                count = m.count;
-                place = m.place;
-                marked = not_plain;
-                lines = v.front;
-                is =
-                    λ d. by_last d ∙ (ap₂ (λ (w : List (List ℕ)) (o : Option Mark). infront v.front (last_mark d w o)) (body_over (rows (drop e s)) m.last) m.read
-                    ∙ (front_some v.front [] d (record { ident = ident_at s at; count = n; place = j })
-                    ∙ ap (λ (w : List (List ℕ)). some (part_by d (ident_at s at) n j w)) (append-nil v.front)));
-                bytes = v.bytes;
-                next = next-pieces;
-                over = m.last;
-                whole = whole_unbroken ∙ unbroken_step s x p q;
-              }))
+          pub lines_wrong : {r : Refusal} → LastIs s at e (Err r) → LinesAre s from (Err r)
+          lines_wrong m = record {
+            mean = record { number = m.means.number; marked = not_plain; none = λ d. by_last d ∙ (ap (infront v.front) (m.means.none d) ∙ front_none v.front) };
+          }
 
-          pub lines-last : {r : Lines} → LastIs s at e r → LinesAre s from r
-          lines-last {r} m = record { mean = last_is r m.means }
+          pub lines_marked : {m : NandK} → LastIs s at e (Ok m) → LinesAre s from (Ok (record { end = at; stop = e; mark = Some m }))
+          lines_marked {m} l = record {
+            mean = record {
+              low = v.low;
+              ident = l.means.ident;
+              high = x.inside;
+              count = l.means.count;
+              place = l.means.place;
+              marked = not_plain;
+              lines = v.front;
+              is =
+                  λ d. by_last d ∙ (ap₂ (λ (w : List (List ℕ)) (o : Option Mark). infront v.front (last_mark d w o)) (body_over (rows (drop e s)) l.means.last) l.means.read
+                  ∙ (front_some v.front [] d (record { ident = ident_at s at; count = m.count; place = m.place })
+                  ∙ ap (λ (w : List (List ℕ)). Some (part_by d (ident_at s at) m.count m.place w)) (append-nil v.front)));
+              bytes = v.bytes;
+              next = next-pieces;
+              over = l.means.last;
+              whole = whole_unbroken ∙ unbroken_step s x p q;
+            };
+          }
 
 pub ruleset lines_laws =
-    (row_bounds, lines_start, lines_out, lines_head, lines_end_head, lines_end, lines_broken, lines_line, lines_two, lines_before, lines_high, lines_go, lines-last)
-
--- ---- a piece of a set
-
-eqb_flip : (a b : ℕ) → eqb b a ≡ eqb a b
-eqb_flip a b = go (eqb a b) refl
-  where
-    go : (x : Bool) → eqb a b ≡ x → eqb b a ≡ x
-    go true e = eq-eqb b a (sym (eqb-true a b e))
-    go false e = ne_eqb b a (λ q. eqb-false a b e (sym q))
-
-same_flip : (a b : List ℕ) → same b a ≡ same a b
-same_flip [] [] = refl
-same_flip [] (b ∷ y) = refl
-same_flip (a ∷ x) [] = refl
-same_flip (a ∷ x) (b ∷ y) = ap₂ ◌&&◌ (eqb_flip a b) (same_flip x y)
-
--- the test of a part
-abbrev test : List ℕ → Bool → Bool → List ℕ → ℕ → ℕ → ℕ → Bool
-test s side d i n last m = beq d side && (same i (ident_at s last) && eqb n m)
-
-lines : {s : List ℕ} {e : ℕ} {r : Lines} → LinesAre s e r → {last stop m k : ℕ} → r ≡ Marked last stop m k → MarkedLines s e last stop m k
-lines {s} {e} v q = subst (LinesMean s e) q v.mean
-
-pub member_ident : {s : List ℕ} {e : ℕ} {r : Lines} → LinesAre s e r → {last stop m k : ℕ} → r ≡ Marked last stop m k → last + 18 ≤ length s
-member_ident v q = omega (arith, (lines v q).ident, (lines v q).high)
-
-pub member_at : {s : List ℕ} {e : ℕ} → Within s e → e ≤ length s
-member_at w = w.high
-
-module _ {s : List ℕ} {e : ℕ} {r : Lines} (w : Within s e) (v : LinesAre s e r) {last stop m k : ℕ} (q : r ≡ Marked last stop m k) where
-  pub member_from : Fits w64 (last + 4)
-  member_from = omega (arith, member_ident v q, w.small)
-
-  pub member_to : Fits w64 (last + 18)
-  member_to = omega (arith, member_ident v q, w.small)
-
-module _ {s : List ℕ} {e : ℕ} {side d : Bool} {i : List ℕ} {n : ℕ} {r : Lines} (v : LinesAre s e r) where
-  foreign_none : ((x : Bool) → part_of x (body_of (rows (drop e s))) ≡ none) → MemberIs s e side d i n Foreign
-  foreign_none f = record { means = record { none = λ ps. ap (λ (o : Option Part). agreed d i n (part_with o ps)) (f side) } }
-
-  pub member_plain : {stop : ℕ} → r ≡ Plain stop → MemberIs s e side d i n Foreign
-  member_plain q = foreign_none (subst (LinesMean s e) q v.mean).none
-
-  pub member_wrong : r ≡ Wrong → MemberIs s e side d i n Foreign
-  member_wrong q = foreign_none (subst (LinesMean s e) q v.mean).none
-
-  module _ {last stop m k : ℕ} (q : r ≡ Marked last stop m k) where
-    foreign : test s side d i n last m ≡ false → MemberIs s e side d i n Foreign
-    unfolding agree
-    foreign t = record { means = record { none = λ ps. ap (λ (o : Option Part). agreed d i n (part_with o ps)) ((lines v q).is side) ∙ go ps } }
-      where
-        go : (ps : Option (List Part)) → agreed d i n (part_with (some (part_by side (ident_at s last) m k (lines v q).lines)) ps) ≡ false
-        go none = refl
-        go (some ps) = rw t
-
-    pub member_side : not (beq side d) ≡ true → MemberIs s e side d i n Foreign
-    member_side t = foreign (go side d (not-true (beq side d) t))
-      where
-        go : (a b : Bool) → beq a b ≡ false → (beq b a && (same i (ident_at s last) && eqb n m)) ≡ false
-        go true true e = absurd (false≢true (sym e))
-        go true false e = refl
-        go false true e = refl
-        go false false e = absurd (false≢true (sym e))
-
-    module _ (t : not (beq side d) ≡ false) where
-      pub member_count : (m ≡ n → ⊥) → MemberIs s e side d i n Foreign
-      member_count u =
-          let z : eqb n m ≡ false = ne_eqb n m (λ w. u (sym w)) in
-          foreign (rw z (ap (λ (b : Bool). beq d side && b) (and-false (same i (ident_at s last))) ∙ and-false (beq d side)))
-
-      module _ (u : m ≡ n) {y : Bool} (w : y ≡ same (take (last + 18 - (last + 4)) (drop (last + 4) s)) i) where
-        pub member_id : not y ≡ true → MemberIs s e side d i n Foreign
-        member_id z =
-            let f : same i (ident_at s last) ≡ false = same_flip (ident_at s last) i ∙ (sym w ∙ not-true y z) in
-            foreign (rw f (and-false (beq d side)))
-
-        pub member_is : not y ≡ false → MemberIs s e side d i n (Of last stop k)
-        member_is z =
-            let f : ident_at s last ≡ i = same_true (ident_at s last) i (sym w ∙ not-false y z) in
-            let g : side ≡ d = go side d (not-false (beq side d) t) in
-            record {
-              means = record {
-                low = (lines v q).low;
-                mid = omega (arith, (lines v q).ident);
-                high = (lines v q).high;
-                place = (lines v q).place;
-                lines = (lines v q).lines;
-                is = (lines v q).is side ∙ same-part g f u;
-                bytes = (lines v q).bytes;
-                next = (lines v q).next;
-                over = (lines v q).over;
-                whole = (lines v q).whole;
-              };
-            }
-          where
-            go : (a b : Bool) → beq a b ≡ true → a ≡ b
-            go true true e = refl
-            go true false e = absurd (false≢true e)
-            go false true e = absurd (false≢true e)
-            go false false e = refl
-
-            same-part : side ≡ d → ident_at s last ≡ i → m ≡ n
-                → some (part_by side (ident_at s last) m k (lines v q).lines) ≡ some (part_by d i n k (lines v q).lines)
-            same-part g f u = cc
-
-pub ruleset member_laws = (member_plain, member_wrong, member_ident, member_at, member_from, member_to, member_side, member_count, member_id, member_is)
+    (row_bounds, lines_start, lines_out, lines_other, lines_line, lines_two, lines_before, lines_high, lines_go, lines_wrong, lines_marked)

@@ -1,5 +1,9 @@
 pub mod WalkLaws
-pub mod SoundLaws
 pub mod BodyLaws
+pub mod MemberLaws
 pub mod SetLaws
+pub mod GatheringLaws
 pub mod JoinLaws
+pub mod SoundLaws
+pub mod InputLaws
+pub mod CallLaws

@@ -1,27 +1,26 @@
 -- The facts and pairs of a record are those of its items' bytes: the table's first items by one computed test each, the two rows that
 -- have more by their places. Assumes nothing.
-use Prim.Native.Nat.{ℕ, zero, suc, ◌%◌, ◌<◌}
-use mathlib.Core.Path.{◌≡◌, refl, sym, ap, ap₂, ◌∙◌}
+use Prim.Native.Nat.{ℕ, zero, suc, ◌≤◌, ◌<◌}
+use mathlib.Core.Path.{◌≡◌, refl, ap, ap₂, ◌∙◌}
 use mathlib.Core.Bool.{Bool, true, false, cond, not, ◌&&◌, false≢true, beq}
-use mathlib.Core.Option.{Option, none, some}
+use Rattle.std.specs.Prelude.{Option, Some, None, unwrap_or}
 use mathlib.Core.List.{List, [], ◌∷◌}
 use native.Mathlib.Omega.{arith}
-use borrow.Author.Tests.{eqb-true, eqb-false, ne_eqb}
-use lib.Dec.{leb, eqb}
+use borrow.Author.Tests.{le-leb, eqb-true, eqb-false, ne_eqb}
+use lib.Dec.{eqb}
 use lib.ListN.{length, get_or}
 use Rattle.lists.specs.Lists.{empty, member}
 use Rattle.digits.specs.Digits.{number}
-use Rattle.calendar.specs.declared.DateRead.{DateRead}
-use Rattle.calendar.specs.declared.DateRead.TheVariants.{Date, NotADate}
+use Rattle.calendar.specs.declared.Day.{Day}
 use Rattle.calendar.specs.Era.{read_day}
-use Rattle.records.specs.Table.{Kind, N, U, X, K, A, F, C, P, R, W, Q, D, among, Item, Row, table, from_provider, optional}
-use Rattle.records.specs.Items.{Value, raw, num, day, value_of, number_value, day_value}
-use Rattle.records.specs.Records.{Record, item_value, items_value, nth, is_empty, code_pair, form_pair, pairs}
-use Rattle.items.specs.Codes.{kind_of}
-use Rattle.notebook.specs.Facts.{num_of, day_of, or_zero, spelled, facts_of}
-use Rattle.codes.specs.Codes.{codes, slice_of, place_of, place_in}
-use Rattle.lines.specs.Codes.{code_raw, form_raw, pairs_raw, rp_raw, day_raw, rp_records, facts_raw}
-use Rattle.codes.proofs.TableLaws.{row_by, all_rows, listed_row}
+use Rattle.records.specs.Table.{Kind, N, U, X, K, A, F, C, P, R, W, Q, D, among, forms, Item, Row, table, from_provider, optional}
+use Rattle.records.specs.Items.{Value, raw, value_of, number_value, day_value}
+use Rattle.records.specs.Records.{item_value, items_value, nth, is_empty, code_pair, form_pair, pairs}
+use Rattle.notebook.specs.Facts.{num_of, day_of, spelled, facts_of}
+use Rattle.table.specs.Rows.{row_by, paper_row}
+use Rattle.lines.specs.Details.{code_raw, form_raw, pairs_raw, rp_raw, day_raw, rp_records, facts_raw}
+use Rattle.table.proofs.TableLaws.{all_rows, listed_row}
+use Rattle.lines.proofs.RowLaws.{paper_number}
 
 -- ---- values by their place
 
@@ -80,17 +79,17 @@ is_r k = eqb (tag k) 1
 is_d : Kind → Bool
 is_d k = eqb (tag k) 2
 
-num_number : (o : Option ℕ) → num_of (number_value o) ≡ or_zero o
-num_number none = refl
-num_number (some n) = refl
+num_number : (o : Option ℕ) → num_of (number_value o) ≡ unwrap_or o 0
+num_number None = refl
+num_number (Some n) = refl
 
 day_number : (o : Option ℕ) → day_of (number_value o) ≡ 0
-day_number none = refl
-day_number (some n) = refl
+day_number None = refl
+day_number (Some n) = refl
 
-num_day : (o : DateRead) → num_of (day_value o) ≡ 0
-num_day (Date d) = refl
-num_day NotADate = refl
+num_day : (o : Option Day) → num_of (day_value o) ≡ 0
+num_day (Some d) = refl
+num_day None = refl
 
 record First (k : Kind) (s : List ℕ) (v : Value) : Type 0 where
   num : num_of v ≡ cond (is_r k) (rp_raw s) 0
@@ -165,120 +164,100 @@ beq_eq true false e = absurd (false≢true e)
 beq_eq false true e = absurd (false≢true e)
 beq_eq false false e = refl
 
--- ---- a listed record: its number, its row's place, its items
+-- ---- the rows that have more: 11, 201 and 301
 
-module _ (n place : ℕ) (ss : List (List ℕ)) (listed : leb 1 (row_by table n).number ≡ true) (number : (row_by table n).number ≡ n)
-    (items : (row_by table n).items ≡ slice_of place) (count : length ss ≡ length (slice_of place)) (at_place : place ≡ place_of n) where
-  rec : Record
-  rec = record { number = n; values = items_value (slice_of place) ss }
+at_row : (n : ℕ) (ss : List (List ℕ)) (j : ℕ) → length ss ≡ length (paper_row n).items → j < length (paper_row n).items
+    → get_or (items_value (paper_row n).items ss) j (raw []) ≡ item_value (get_or (paper_row n).items j blank) (get_or ss j [])
+at_row n ss j c h = value_at (paper_row n).items ss j c h
 
-  first_r : first_is is_r (slice_of place) ≡ member rp_records n
-  unfolding rp_row
-  first_r = ap (first_is is_r) (sym items) ∙ beq_eq (first_is is_r (row_by table n).items) (member rp_records (row_by table n).number) (listed_row rp_row table n rp_rows_lem listed) ∙ ap (member rp_records) number
-
-  first_d : first_is is_d (slice_of place) ≡ eqb n 5
-  unfolding day_row
-  first_d = ap (first_is is_d) (sym items) ∙ beq_eq (first_is is_d (row_by table n).items) (eqb (row_by table n).number 5) (listed_row day_row table n day_rows listed) ∙ ap (λ (x : ℕ). eqb x 5) number
-
-  rp_is : num_of (nth (items_value (slice_of place) ss) 1) ≡ cond (member rp_records n) (rp_raw (get_or ss 0 [])) 0
-  rp_is = first_num (slice_of place) ss count ∙ ap (λ (b : Bool). cond b (rp_raw (get_or ss 0 [])) 0) first_r
-
-  day_is : day_of (nth (items_value (slice_of place) ss) 1) ≡ cond (eqb n 5) (day_raw (get_or ss 0 [])) 0
-  day_is = first_day_lem (slice_of place) ss count ∙ ap (λ (b : Bool). cond b (day_raw (get_or ss 0 [])) 0) first_d
-
--- the rows of 11, 201 and 301, by their places
 module _ (ss : List (List ℕ)) where
-  at_11 : (j : ℕ) → length ss ≡ 8 → j < 8 → get_or (items_value (slice_of 360) ss) j (raw []) ≡ item_value (get_or (slice_of 360) j blank) (get_or ss j [])
-  unfolding codes
-  at_11 j n h = value_at (slice_of 360) ss j n h
+  schedule_11 : length ss ≡ length (paper_row 11).items → spelled (nth (items_value (paper_row 11).items ss) 3) ≡ rp_raw (get_or ss 2 [])
+  unfolding row_by table rp_raw
+  schedule_11 n = ap spelled (at_row 11 ss 2 n (omega arith) ∙ among_text (1 ∷ 3 ∷ 4 ∷ []) (get_or ss 2 []))
 
-  at_201 : (j : ℕ) → length ss ≡ 7 → j < 7 → get_or (items_value (slice_of 663) ss) j (raw []) ≡ item_value (get_or (slice_of 663) j blank) (get_or ss j [])
-  unfolding codes
-  at_201 j n h = value_at (slice_of 663) ss j n h
+  module _ (n : length ss ≡ length (paper_row 201).items) where
+    pairs_of_201 : pairs (record { number = 201; values = items_value (paper_row 201).items ss }) ≡ code_raw (get_or ss 4 []) (get_or ss 5 [])
+    unfolding pairs code_raw row_by table
+    pairs_of_201 = ap₂ code_pair (at_row 201 ss 4 n (omega arith) ∙ among_text (1 ∷ 2 ∷ 3 ∷ 4 ∷ 6 ∷ []) (get_or ss 4 [])) (at_row 201 ss 5 n (omega arith) ∙ code_text 13 (get_or ss 5 []))
 
-  at_301 : (j : ℕ) → length ss ≡ 8 → j < 8 → get_or (items_value (slice_of 968) ss) j (raw []) ≡ item_value (get_or (slice_of 968) j blank) (get_or ss j [])
-  unfolding codes
-  at_301 j n h = value_at (slice_of 968) ss j n h
+  module _ (n : length ss ≡ length (paper_row 301).items) where
+    form_301 : spelled (nth (items_value (paper_row 301).items ss) 5) ≡ rp_raw (get_or ss 4 [])
+    unfolding row_by table rp_raw
+    form_301 = ap spelled (at_row 301 ss 4 n (omega arith) ∙ among_text forms (get_or ss 4 []))
 
-  schedule_11 : length ss ≡ 8 → spelled (nth (items_value (slice_of 360) ss) 3) ≡ rp_raw (get_or ss 2 [])
-  unfolding codes kind_of rp_raw
-  schedule_11 n = ap spelled (at_11 2 n (omega arith) ∙ among_text (1 ∷ 3 ∷ 4 ∷ []) (get_or ss 2 []))
+    name_301 : is_empty (nth (items_value (paper_row 301).items ss) 2) ≡ empty (get_or ss 1 [])
+    unfolding row_by table
+    name_301 = ap is_empty (at_row 301 ss 1 n (omega arith) ∙ name_text 100 (get_or ss 1 []))
 
-  form_301 : length ss ≡ 8 → spelled (nth (items_value (slice_of 968) ss) 5) ≡ rp_raw (get_or ss 4 [])
-  unfolding codes kind_of rp_raw
-  form_301 n = ap spelled (at_301 4 n (omega arith) ∙ among_text (1 ∷ 2 ∷ 3 ∷ 4 ∷ 5 ∷ 6 ∷ 7 ∷ 9 ∷ 10 ∷ []) (get_or ss 4 []))
+    pairs_of_301 : pairs (record { number = 301; values = items_value (paper_row 301).items ss })
+        ≡ (code_raw (get_or ss 5 []) (get_or ss 6 []) && form_raw (get_or ss 4 []) (get_or ss 2 []) (get_or ss 3 []))
+    unfolding pairs code_raw form_raw row_by table
+    pairs_of_301 =
+        ap₂ ◌&&◌
+        (ap₂ code_pair (at_row 301 ss 5 n (omega arith) ∙ among_text (1 ∷ 2 ∷ []) (get_or ss 5 [])) (at_row 301 ss 6 n (omega arith) ∙ code_text 16 (get_or ss 6 [])))
+        (three (at_row 301 ss 4 n (omega arith) ∙ among_text forms (get_or ss 4 [])) (at_row 301 ss 2 n (omega arith)) (at_row 301 ss 3 n (omega arith) ∙ unit_text 100 (get_or ss 3 [])))
+      where
+        three : {a b c a' b' c' : Value} → a ≡ a' → b ≡ b' → c ≡ c' → form_pair a b c ≡ form_pair a' b' c'
+        three p q r = cc
 
-  name_301 : length ss ≡ 8 → is_empty (nth (items_value (slice_of 968) ss) 2) ≡ empty (get_or ss 1 [])
-  unfolding codes kind_of
-  name_301 n = ap is_empty (at_301 1 n (omega arith) ∙ name_text 100 (get_or ss 1 []))
+pairs_of_other : (n : ℕ) (vs : List Value) → (n ≡ 201 → ⊥) → (n ≡ 301 → ⊥) → pairs (record { number = n; values = vs }) ≡ true
+unfolding pairs
+pairs_of_other n vs a b = simp (ne_eqb n 201 a, ne_eqb n 301 b)
 
-  pairs_of_201 : length ss ≡ 7 → pairs (record { number = 201; values = items_value (slice_of 663) ss }) ≡ code_raw (get_or ss 4 []) (get_or ss 5 [])
-  unfolding pairs code_raw codes kind_of
-  pairs_of_201 n = ap₂ code_pair (at_201 4 n (omega arith) ∙ among_text (1 ∷ 2 ∷ 3 ∷ 4 ∷ 6 ∷ []) (get_or ss 4 [])) (at_201 5 n (omega arith) ∙ code_text 13 (get_or ss 5 []))
+-- ---- a record whose number is listed, ss its items
 
-  pairs_of_301 : length ss ≡ 8 → pairs (record { number = 301; values = items_value (slice_of 968) ss })
-      ≡ (code_raw (get_or ss 5 []) (get_or ss 6 []) && form_raw (get_or ss 4 []) (get_or ss 2 []) (get_or ss 3 []))
-  unfolding pairs code_raw form_raw codes kind_of
-  pairs_of_301 n =
-      ap₂ ◌&&◌
-      (ap₂ code_pair (at_301 5 n (omega arith) ∙ among_text (1 ∷ 2 ∷ []) (get_or ss 5 [])) (at_301 6 n (omega arith) ∙ code_text 16 (get_or ss 6 [])))
-      (three (at_301 4 n (omega arith) ∙ among_text (1 ∷ 2 ∷ 3 ∷ 4 ∷ 5 ∷ 6 ∷ 7 ∷ 9 ∷ 10 ∷ []) (get_or ss 4 [])) (at_301 2 n (omega arith)) (at_301 3 n (omega arith) ∙ unit_text 100 (get_or ss 3 [])))
-    where
-      three : {a b c a' b' c' : Value} → a ≡ a' → b ≡ b' → c ≡ c' → form_pair a b c ≡ form_pair a' b' c'
-      three p q r = cc
+module _ (n : ℕ) (ss : List (List ℕ)) (count : length ss ≡ length (paper_row n).items) where
+  -- its items' count, where its number is k
+  count_by : (k : ℕ) → n ≡ k → length ss ≡ length (paper_row k).items
+  count_by k e = count ∙ ap (λ (x : ℕ). length (paper_row x).items) e
 
-  pairs_of_other : (n : ℕ) (vs : List Value) → (n ≡ 201 → ⊥) → (n ≡ 301 → ⊥) → pairs (record { number = n; values = vs }) ≡ true
-  unfolding pairs
-  pairs_of_other n vs a b = simp (ne_eqb n 201 a, ne_eqb n 301 b)
-
--- the place and the count of a record's items, by its number
-module _ (n place : ℕ) (ss : List (List ℕ)) (at_place : place ≡ place_of n) (count : length ss ≡ place % 16) where
-  place_by : (k p : ℕ) → n ≡ k → place_of k ≡ p → (place ≡ p) × (length ss ≡ p % 16)
-  place_by k p e q = let g : place ≡ p = at_place ∙ ap place_of e ∙ q in (g, count ∙ ap (λ (x : ℕ). x % 16) g)
-
-  pub pairs_is : pairs (record { number = n; values = items_value (slice_of place) ss }) ≡ pairs_raw n ss
-  unfolding pairs_raw place_of place_in
+  pub pairs_is : pairs (record { number = n; values = items_value (paper_row n).items ss }) ≡ pairs_raw n ss
+  unfolding pairs_raw
   pairs_is = go (eqb n 201) refl (eqb n 301) refl
     where
       go : (x : Bool) → eqb n 201 ≡ x → (y : Bool) → eqb n 301 ≡ y
-          → pairs (record { number = n; values = items_value (slice_of place) ss })
+          → pairs (record { number = n; values = items_value (paper_row n).items ss })
           ≡ cond x (code_raw (get_or ss 4 []) (get_or ss 5 [])) (cond y (code_raw (get_or ss 5 []) (get_or ss 6 []) && form_raw (get_or ss 4 []) (get_or ss 2 []) (get_or ss 3 [])) true)
-      go true p y q =
-          let e : n ≡ 201 = eqb-true n 201 p in
-          let g = place_by 201 663 e refl in
-          rw (e, g.0) (pairs_of_201 ss g.1)
-      go false p true q =
-          let e : n ≡ 301 = eqb-true n 301 q in
-          let g = place_by 301 968 e refl in
-          rw (e, g.0) (pairs_of_301 ss g.1)
-      go false p false q = pairs_of_other ss n _ (eqb-false n 201 p) (eqb-false n 301 q)
+      go true p y q = let e : n ≡ 201 = eqb-true n 201 p in rw e (pairs_of_201 ss (count_by 201 e))
+      go false p true q = let e : n ≡ 301 = eqb-true n 301 q in rw e (pairs_of_301 ss (count_by 301 e))
+      go false p false q = pairs_of_other n _ (eqb-false n 201 p) (eqb-false n 301 q)
 
-  schedule_is : cond (eqb n 11) (spelled (nth (items_value (slice_of place) ss) 3)) 0 ≡ cond (eqb n 11) (rp_raw (get_or ss 2 [])) 0
-  unfolding place_of place_in
+  schedule_is : cond (eqb n 11) (spelled (nth (items_value (paper_row n).items ss) 3)) 0 ≡ cond (eqb n 11) (rp_raw (get_or ss 2 [])) 0
   schedule_is = go (eqb n 11) refl
     where
-      go : (x : Bool) → eqb n 11 ≡ x → cond x (spelled (nth (items_value (slice_of place) ss) 3)) 0 ≡ cond x (rp_raw (get_or ss 2 [])) 0
-      go true p = let g = place_by 11 360 (eqb-true n 11 p) refl in rw g.0 (schedule_11 ss g.1)
+      go : (x : Bool) → eqb n 11 ≡ x → cond x (spelled (nth (items_value (paper_row n).items ss) 3)) 0 ≡ cond x (rp_raw (get_or ss 2 [])) 0
+      go true p = let e : n ≡ 11 = eqb-true n 11 p in rw e (schedule_11 ss (count_by 11 e))
       go false p = refl
 
-  form_is : cond (eqb n 301) (spelled (nth (items_value (slice_of place) ss) 5)) 0 ≡ cond (eqb n 301) (rp_raw (get_or ss 4 [])) 0
-  unfolding place_of place_in
+  form_is : cond (eqb n 301) (spelled (nth (items_value (paper_row n).items ss) 5)) 0 ≡ cond (eqb n 301) (rp_raw (get_or ss 4 [])) 0
   form_is = go (eqb n 301) refl
     where
-      go : (x : Bool) → eqb n 301 ≡ x → cond x (spelled (nth (items_value (slice_of place) ss) 5)) 0 ≡ cond x (rp_raw (get_or ss 4 [])) 0
-      go true p = let g = place_by 301 968 (eqb-true n 301 p) refl in rw g.0 (form_301 ss g.1)
+      go : (x : Bool) → eqb n 301 ≡ x → cond x (spelled (nth (items_value (paper_row n).items ss) 5)) 0 ≡ cond x (rp_raw (get_or ss 4 [])) 0
+      go true p = let e : n ≡ 301 = eqb-true n 301 p in rw e (form_301 ss (count_by 301 e))
       go false p = refl
 
-  named_is : (eqb n 301 && not (is_empty (nth (items_value (slice_of place) ss) 2))) ≡ (eqb n 301 && not (empty (get_or ss 1 [])))
-  unfolding place_of place_in
+  named_is : (eqb n 301 && not (is_empty (nth (items_value (paper_row n).items ss) 2))) ≡ (eqb n 301 && not (empty (get_or ss 1 [])))
   named_is = go (eqb n 301) refl
     where
-      go : (x : Bool) → eqb n 301 ≡ x → (x && not (is_empty (nth (items_value (slice_of place) ss) 2))) ≡ (x && not (empty (get_or ss 1 [])))
-      go true p = let g = place_by 301 968 (eqb-true n 301 p) refl in rw g.0 (ap not (name_301 ss g.1))
+      go : (x : Bool) → eqb n 301 ≡ x → (x && not (is_empty (nth (items_value (paper_row n).items ss) 2))) ≡ (x && not (empty (get_or ss 1 [])))
+      go true p = let e : n ≡ 301 = eqb-true n 301 p in rw e (ap not (name_301 ss (count_by 301 e)))
       go false p = refl
 
-  pub facts_is : leb 1 (row_by table n).number ≡ true → (row_by table n).number ≡ n → (row_by table n).items ≡ slice_of place → length ss ≡ length (slice_of place)
-      → facts_of (record { number = n; values = items_value (slice_of place) ss }) ≡ facts_raw n ss
-  unfolding facts_of facts_raw
-  facts_is l e i c =
-      rw (rp_is n place ss l e i c at_place, day_is n place ss l e i c at_place, schedule_is, form_is, named_is)
+  module _ (listed : 1 ≤ (paper_row n).number) where
+    rp_is : num_of (nth (items_value (paper_row n).items ss) 1) ≡ cond (member rp_records n) (rp_raw (get_or ss 0 [])) 0
+    unfolding rp_row
+    rp_is =
+        let r : first_is is_r (paper_row n).items ≡ member rp_records n =
+        beq_eq (first_is is_r (paper_row n).items) (member rp_records (paper_row n).number) (listed_row rp_row table n rp_rows_lem (le-leb 1 _ listed)) ∙ ap (member rp_records) (paper_number n listed) in
+        first_num (paper_row n).items ss count ∙ ap (λ (b : Bool). cond b (rp_raw (get_or ss 0 [])) 0) r
+
+    day_is : day_of (nth (items_value (paper_row n).items ss) 1) ≡ cond (eqb n 5) (day_raw (get_or ss 0 [])) 0
+    unfolding day_row
+    day_is =
+        let d : first_is is_d (paper_row n).items ≡ eqb n 5 =
+        beq_eq (first_is is_d (paper_row n).items) (eqb (paper_row n).number 5) (listed_row day_row table n day_rows (le-leb 1 _ listed)) ∙ ap (λ (x : ℕ). eqb x 5) (paper_number n listed) in
+        first_day_lem (paper_row n).items ss count ∙ ap (λ (b : Bool). cond b (day_raw (get_or ss 0 [])) 0) d
+
+    pub facts_is : facts_of (record { number = n; values = items_value (paper_row n).items ss }) ≡ facts_raw n ss
+    unfolding facts_of facts_raw
+    facts_is = rw (rp_is, day_is, schedule_is, form_is, named_is)

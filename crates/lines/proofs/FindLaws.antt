@@ -1,29 +1,31 @@
 -- Lines at a position: the ways through `slow_line`, `find_line` and `read_line`. Assumes nothing.
-use Prim.Native.Nat.{ℕ, ◌-◌, ◌≤◌}
+use Prim.Native.Nat.{ℕ}
 use native.Mathlib.Omega.{arith}
 use mathlib.Core.Path.{◌≡◌, refl, sym, ap, ◌∙◌, subst}
 use mathlib.Core.Bool.{Bool, true, false, not}
-use mathlib.Core.Logic.{inl, inr}
 use mathlib.Core.List.{List}
-use lib.ListN.{length, take, drop}
-use Rattle.lists.specs.Lists.{unless}
+use lib.ListN.{drop}
+use borrow.Author.Tests.{eqb-false}
+use Rattle.std.specs.Prelude.{Option, Some, None, Result, Ok, Err}
 use Rattle.lists.specs.Searching.{part}
 use Rattle.lists.proofs.Tests.{not_true', not_false'}
 use Rattle.characters.specs.Text.{all_chars}
-use Rattle.scanning.specs.declared.Line.{Line}
-use Rattle.scanning.specs.declared.Line.TheVariants.{Whole, Mark, End, Broken}
-use Rattle.scanning.specs.Scans.{Stops, Sixteen, ScannedLine, LineOf}
+use Rattle.scanning.specs.declared.lines.Scan.{Scan}
+use Rattle.scanning.specs.declared.lines.Broken.{Broken}
+use Rattle.scanning.specs.Scans.{ScannedLine, LineOf}
+use Rattle.replies.specs.declared.refusal.Refusal.{Refusal}
+use Rattle.replies.specs.declared.refusal.Refusal.TheVariants.{LineEnd, Character}
+use Rattle.replies.specs.Refusals.{number_of}
+use Rattle.replies.proofs.Numbers.{never_0}
+use Rattle.order.specs.declared.Facts.{Facts}
 use Rattle.records.specs.Split.{items_of}
 use Rattle.records.specs.Records.{fault_from, line_fault}
-use Rattle.lines.specs.declared.Details.{Details}
 use Rattle.lines.specs.declared.Numbered.{Numbered}
-use Rattle.lines.specs.declared.Quick.{Quick}
-use Rattle.lines.specs.declared.Found.{Found}
-use Rattle.lines.specs.declared.Found.TheVariants.{Line as FoundLine, Fault as FoundFault, Over as FoundOver}
-use Rattle.lines.specs.declared.LineRead.TheVariants.{Record, Fault, Over}
-use Rattle.lines.specs.Codes.{Commas, Spanned, details_raw}
-use Rattle.lines.specs.Found.{NumberedAs, QuickOf, SoundAt, broken, faulty, FoundMeans, FoundOf, ReadOf}
-use Rattle.lines.proofs.LineLaws.{sound_few, sound_fault, sound_facts}
+use Rattle.lines.specs.Line.{LineIn}
+use Rattle.lines.specs.Details.{details_raw}
+use Rattle.lines.specs.Found.{NumberOf, WholeAt, SoundAt, broken, faulty, FoundMeans, FoundOf, ReadOf}
+use Rattle.lines.proofs.SplitLaws.{scanned_in}
+use Rattle.lines.proofs.LineLaws.{sound_good, sound_broken}
 
 -- "4": characters come before all else
 chars_fault : (b : Bool) (l : List ℕ) → all_chars l ≡ false → line_fault b l ≡ 4
@@ -34,108 +36,62 @@ past_chars : (b : Bool) (l : List ℕ) → all_chars l ≡ true → line_fault b
 unfolding line_fault
 past_chars b l e = rw e
 
+-- a refusal has a number
+some_number : (r : Refusal) → number_of r ≡ 0 → ⊥
+some_number r = eqb-false (number_of r) 0 (never_0 r)
+
 -- ---- the ways through slow_line
 
-module _ (b : Bool) (s : List ℕ) (at : ℕ) {stops : List ℕ} {k : Line} (v : LineOf s at stops k) where
-  line_as : {j : Line} → k ≡ j → LineOf s at stops j
+module _ (b : Bool) (s : List ℕ) (at : ℕ) {stops : List ℕ} {k : Result (Option Scan) Broken} (v : LineOf s at stops k) where
+  line_as : {j : Result (Option Scan) Broken} → k ≡ j → LineOf s at stops j
   line_as q = subst (LineOf s at stops) q v
 
-  pub slow_end : k ≡ End → FoundOf b s at stops FoundOver
-  slow_end q = record { means = inl (line_as q); size = v.size }
+  pub slow_over : k ≡ Ok None → FoundOf b s at stops (Ok None)
+  slow_over q = record { means = line_as q }
 
-  pub slow_mark : k ≡ Mark → FoundOf b s at stops FoundOver
-  slow_mark q = record { means = inr (line_as q); size = v.size }
+  pub slow_broken : k ≡ Err (record {}) → FoundOf b s at stops (Err LineEnd)
+  slow_broken q = record { means = broken (line_as q) refl }
 
-  pub slow_broken : k ≡ Broken → FoundOf b s at stops (FoundFault 2)
-  slow_broken q = record { means = broken (line_as q) refl; size = v.size }
+  module _ {t : Option Scan} {x : Scan} (q : k ≡ Ok t) (p : t ≡ Some x) where
+    line : WholeAt s at stops x.end x.good x.commas
+    line = line_as (q ∙ ap Ok p)
 
-  module _ {e : ℕ} {good : Bool} {n : ℕ} (q : k ≡ Whole e good n) where
-    whole : ScannedLine s at stops e good n
-    whole = (line_as q).means
+    whole : ScannedLine s at stops x.end x.good x.commas
+    whole = line.means
 
-    pub slow_size : Sixteen stops
-    slow_size = v.size
+    pub slow_in : LineIn s at x.end stops x.commas
+    slow_in = scanned_in whole
 
-    pub slow_low : at ≤ e
-    slow_low = whole.line.low
+    pub slow_chars : not x.good ≡ true → FoundOf b s at stops (Err Character)
+    slow_chars h = record {
+      means = faulty x.end x.good x.commas line (sym (chars_fault b (part s at x.end) (sym whole.line.chars ∙ not_true' x.good h))) (λ z. omega arith);
+    }
 
-    pub slow_high : e ≤ length s
-    slow_high = omega (arith, whole.line.high)
-
-    pub slow_commas : Commas (take (e - at) (drop at s)) n
-    slow_commas = record { is = whole.commas }
-
-    pub slow_places : Stops (take (e - at) (drop at s)) stops
-    slow_places = whole.places
-
-    found_fault : {f : ℕ} → f ≡ line_fault b (part s at e) → (f ≡ 0 → ⊥) → FoundOf b s at stops (FoundFault f)
-    found_fault p z = record { means = faulty e good n (line_as q) p z; size = v.size }
-
-    pub slow_chars : not good ≡ true → FoundOf b s at stops (FoundFault 4)
-    slow_chars t = found_fault (sym (chars_fault b (part s at e) (sym whole.line.chars ∙ not_true' good t))) (λ z. omega arith)
-
-    module _ (t : not good ≡ false) {r : Numbered} (x : NumberedAs b (take (e - at) (drop at s)) r) where
-      pub slow_fault : {f : ℕ} → (r.fault ≡ 0 → ⊥) → f ≡ r.fault → FoundOf b s at stops (FoundFault f)
-      slow_fault z p =
-          found_fault (p ∙ x.faulty z ∙ sym (past_chars b (part s at e) (sym whole.line.chars ∙ not_false' good t))) (λ y. z (sym p ∙ y))
-
-      pub slow_fine : r.fault ≡ 0 → FoundOf b s at stops (FoundLine e n r.number)
-      slow_fine o = record {
-        means = record { line = subst (λ (g : Bool). LineOf s at stops (Whole e g n)) (not_false' good t) (line_as q); sound = x.sound o };
-        size = v.size;
+    module _ (h : not x.good ≡ false) where
+      pub slow_fault : {r : Refusal} → NumberOf b (part s at x.end) (Err r) → FoundOf b s at stops (Err r)
+      slow_fault {r} v = record {
+        means = faulty x.end x.good x.commas line (v.means ∙ sym (past_chars b (part s at x.end) (sym whole.line.chars ∙ not_false' x.good h))) (some_number r);
       }
 
-pub ruleset slow_laws = (slow_end, slow_mark, slow_broken, slow_size, slow_low, slow_high, slow_chars, slow_fault, slow_fine)
+      pub slow_fine : {n : ℕ} → NumberOf b (part s at x.end) (Ok n) → FoundOf b s at stops (Ok (Some (record { number = n; end = x.end; commas = x.commas })))
+      slow_fine v = record {
+        means = record { line = subst (λ (g : Bool). WholeAt s at stops x.end g x.commas) (not_false' x.good h) line; sound = v.means };
+      }
 
--- ---- the ways through find_line
-
-module _ {b : Bool} {s : List ℕ} {at : ℕ} {stops : List ℕ} {r : Quick} (v : QuickOf b s at stops r) where
-  pub find_quick : (r.end ≡ 0 → ⊥) → FoundOf b s at stops (FoundLine r.end r.commas r.number)
-  find_quick z = record { means = v.holds z; size = v.size }
-
-  pub find_size : Sixteen stops
-  find_size = v.size
-
-pub ruleset find_laws = (find_quick, find_size)
+pub ruleset slow_laws = (slow_over, slow_broken, slow_in, slow_chars, slow_fault, slow_fine)
 
 -- ---- the ways through read_line
 
-module _ {b : Bool} {s : List ℕ} {at : ℕ} {stops : List ℕ} {k : Found} (v : FoundOf b s at stops k) where
-  pub read_over : k ≡ FoundOver → ReadOf b s at stops Over
-  read_over q = record { means = subst (FoundMeans b s at stops) q v.means; size = v.size }
+module _ {b : Bool} {s : List ℕ} {at : ℕ} {stops : List ℕ} {t : Option Numbered} {x : Numbered} (v : FoundOf b s at stops (Ok t)) (p : t ≡ Some x) where
+  found : SoundAt b s at stops x
+  found = subst (λ (o : Option Numbered). FoundMeans b s at stops (Ok o)) p v.means
 
-  pub read_fault : {n : ℕ} → k ≡ FoundFault n → ReadOf b s at stops (Fault n)
-  read_fault q = record { means = subst (FoundMeans b s at stops) q v.means; size = v.size }
+  characters : line_fault b (part s at x.end) ≡ fault_from b (items_of (part s at x.end))
+  characters = past_chars b (part s at x.end) (sym found.line.means.line.chars)
 
-  module _ {e n number : ℕ} (q : k ≡ FoundLine e n number) where
-    sound : SoundAt b s at stops e n number
-    sound = subst (FoundMeans b s at stops) q v.means
+  module _ {r : Result Facts Refusal} (h : r ≡ details_raw x.number (drop 1 (items_of (part s at x.end)))) where
+    pub read_record : {f : Facts} → r ≡ Ok f → ReadOf b s at stops (Ok (Some (record { facts = f; end = x.end; commas = x.commas })))
+    read_record q = let g = sound_good found.sound h q in record { means = record { line = found.line; fine = characters ∙ g.0; facts = g.1 } }
 
-    found : ScannedLine s at stops e true n
-    found = sound.line.means
-
-    pub read_low : at ≤ e
-    read_low = found.line.low
-
-    pub read_high : e ≤ length s
-    read_high = omega (arith, found.line.high)
-
-    pub read_spanned : Spanned (take (e - at) (drop at s)) stops n
-    read_spanned = record {
-      places = found.places;
-      commas = record { is = found.commas };
-      few = omega (arith, found.commas, sound_few sound.sound);
-      size = v.size;
-    }
-
-    module _ {d : Details} (h : d ≡ details_raw number (drop 1 (items_of (take (e - at) (drop at s))))) where
-      by_pairs : {y : Bool} → d.paired ≡ y → line_fault b (part s at e) ≡ unless y 12
-      by_pairs p = past_chars b (part s at e) (sym found.line.chars) ∙ sound_fault sound.sound h ∙ ap (λ (y : Bool). unless y 12) p
-
-      pub read_record : d.paired ≡ true → ReadOf b s at stops (Record d.facts e n)
-      read_record p = record { means = record { line = sound.line; fine = by_pairs p; facts_are = sound_facts sound.sound h }; size = v.size }
-
-      pub read_pairs : d.paired ≡ false → ReadOf b s at stops (Fault 12)
-      read_pairs p = record { means = faulty e true n sound.line (sym (by_pairs p)) (λ z. omega arith); size = v.size }
-
-pub ruleset read_laws = (read_over, read_fault, read_low, read_high, read_spanned, read_record, read_pairs)
+    pub read_pairs : {y : Refusal} → r ≡ Err y → ReadOf b s at stops (Err y)
+    read_pairs {y} q = record { means = faulty x.end true x.commas found.line (sound_broken found.sound h q ∙ sym characters) (some_number y) }

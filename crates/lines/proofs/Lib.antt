@@ -1,9 +1,10 @@
 pub mod SplitLaws
-pub mod WalkLaws
 pub mod PairLaws
 pub mod DetailLaws
+pub mod RowLaws
 pub mod FactLaws
-pub mod ItemLaws
+pub mod WalkLaws
 pub mod LineLaws
 pub mod FindLaws
 pub mod QuickLaws
+pub mod ItemLaws

@@ -12,15 +12,14 @@ use lib.ListN.{length, take, drop, get_or}
 use lib.Seq.{drop-drop}
 use Rattle.lists.specs.Lists.{up_to}
 use Rattle.lists.specs.Searching.{part, find_from}
-use Rattle.lists.proofs.Parts.{part_length, part_at, part_part}
+use Rattle.lists.proofs.Parts.{part_length, part_none, part_at, part_part}
 use Rattle.lists.proofs.Cuts.{drop_step, drop_end, take_up_to}
 use Rattle.characters.specs.Scanning.{comma_count, commas_from}
-use Rattle.scanning.specs.Scans.{Stops}
+use Rattle.scanning.specs.Scans.{ScannedLine}
 use Rattle.scanning.proofs.TextLaws.{count_places}
 use Rattle.records.specs.Split.{is_comma, cons_item, items_of}
 use Rattle.records.specs.Positions.{items_from, item_end}
-use Rattle.lines.specs.declared.Span.{Span}
-use Rattle.lines.specs.Codes.{comma_at, Commas, Spanned, SpanAt, Between, LineIn, ItemOf, ItemIn}
+use Rattle.lines.specs.Line.{comma_at, LineIn, ItemAt}
 
 -- the items after the first one, from the byte that ends it
 tail_items : List ℕ → List (List ℕ)
@@ -268,99 +267,84 @@ module _ (l : List ℕ) where
             let z : suc j - 1 ≡ j = omega arith in
             omega (arith, get_d_any (commas_from 0 l) j 0 (length l) (omega (arith, count_places 0 l)), ap (λ (x : ℕ). get_or (commas_from 0 l) x (length l)) z)
 
--- ---- the ways through number_end
-
-none_left : (l : List ℕ) → comma_count l ≡ 0 → length (up_to is_comma l) ≡ length l
-none_left [] h = refl
-none_left (a ∷ l) h = go (is_comma a) (none_left l) h
-  where
-    go : (b : Bool) → (comma_count l ≡ 0 → length (up_to is_comma l) ≡ length l) → cond b 1 0 + comma_count l ≡ 0 → length (cond b [] (a ∷ up_to is_comma l)) ≡ suc (length l)
-    go true i e = absurd (omega arith)
-    go false i e = omega (arith, i (omega arith))
-
-first_left : (l : List ℕ) → 1 ≤ comma_count l → length (up_to is_comma l) ≡ get_or (commas_from 0 l) 0 0
-first_left [] h = absurd (omega arith)
-first_left (a ∷ l) h = go (is_comma a) (first_left l) h
-  where
-    go : (b : Bool) → (1 ≤ comma_count l → length (up_to is_comma l) ≡ get_or (commas_from 0 l) 0 0) → 1 ≤ cond b 1 0 + comma_count l
-        → length (cond b [] (a ∷ up_to is_comma l)) ≡ get_or (cond b (0 ∷ commas_from 1 l) (commas_from 1 l)) 0 0
-    go true i e = refl
-    go false i e = rw (comma_shift 0 l, get_d_suc (commas_from 0 l) 0 (omega (arith, count_places 0 l))) (omega (arith, i (omega arith)))
-
-module _ (s : List ℕ) {n : ℕ} (v : Commas s n) where
-  pub end_bare : n ≡ 0 → length s ≡ find_from 0x2c s 0
-  unfolding find_from
-  end_bare e = omega (arith, none_left s (omega (arith, v.is)))
-
-  pub end_first : {stops : List ℕ} → Stops s stops → (n ≡ 0 → ⊥) → get_or stops 0 0 ≡ find_from 0x2c s 0
-  unfolding find_from
-  end_first w h = omega (arith, w.here 0 (omega (arith, v.is, count_places 0 s)) (omega arith), first_left s (omega (arith, v.is)))
-
--- ---- the ways through item_span
+-- ---- the ways through `Items::end_of` and `Items::range`
 
 no_item : (xs : List (List ℕ)) (j : ℕ) → length xs ≤ j → get_or xs j [] ≡ []
 no_item [] j h = refl
 no_item (x ∷ xs) zero h = absurd (omega arith)
 no_item (x ∷ xs) (suc j) h = no_item xs j (omega arith)
 
-module _ {s stops : List ℕ} {n : ℕ} (v : Spanned s stops n) where
-  pub span_none : (j : ℕ) → n < j → SpanAt s j (record { from = 0; to = 0 })
-  span_none j h = record { says = sym (no_item (items_of s) j (omega (arith, items_count s, v.commas.is))); low = omega arith; high = omega arith }
+module _ {s : List ℕ} {at e : ℕ} {stops : List ℕ} {n : ℕ} (v : LineIn s at e stops n) where
+  abbrev line : List ℕ
+  line = part s at e
 
-  -- the places that the code has
-  pub stop_is : (j : ℕ) → j < n → get_or stops j 0 ≡ comma_at s j
-  stop_is j h = v.places.here j (omega (arith, count_places 0 s, v.commas.is)) (omega (arith, v.few)) ∙ sym (comma_is s j (omega (arith, v.commas.is)))
+  line_length : length (part s at e) ≡ e - at
+  line_length = part_length s at e v.low v.high
 
-  pub stop_last : (j : ℕ) → n ≤ j → comma_at s j ≡ length s
-  stop_last j h = comma_last s j (omega (arith, v.commas.is))
+  pub end_high : (j : ℕ) → at + comma_at (part s at e) j ≤ e
+  end_high j = omega (arith, comma_le line j, line_length, v.low)
 
-  module _ (j : ℕ) (h : 1 ≤ j) (k : j ≤ n) where
-    pub front_inside : get_or stops (j - 1) 0 < length s
-    front_inside = omega (arith, stop_is (j - 1) (omega arith), comma_less s (j - 1) (omega (arith, v.commas.is)))
+  pub end_stop : (j : ℕ) → j ≤ 15 → j < n → at + get_or stops j 0 ≡ at + comma_at (part s at e) j
+  end_stop j m h =
+      ap (λ (x : ℕ). at + x) (v.places.here j (omega (arith, count_places 0 line, v.commas)) (omega arith) ∙ sym (comma_is line j (omega (arith, v.commas))))
 
-    pub span_index : j - 1 < length stops
-    span_index = omega (arith, v.few, v.size.is)
+  pub end_last : (j : ℕ) → n ≤ j → e ≡ at + comma_at (part s at e) j
+  end_last j h = omega (arith, comma_last line j (omega (arith, v.commas)), line_length, v.low)
 
-    spanned : {a e : ℕ} → a ≡ comma_at s (j - 1) → e ≡ comma_at s j → SpanAt s j (record { from = a + 1; to = e })
-    spanned p q =
-        let c : j ≤ comma_count s = omega (arith, v.commas.is) in
-        record {
-          says = ap₂ (λ (x y : ℕ). part s (x + 1) y) p q ∙ sym (item_part s j h c);
-          low = omega (arith, p, q, comma_next s j h c);
-          high = omega (arith, q, comma_le s j);
-        }
+  pub end_fits : (j : ℕ) → j ≤ 15 → j < n → at + get_or stops j 0 ≤ e
+  end_fits j m h = omega (arith, end_stop j m h, end_high j)
 
-    pub span_mid : j < n → SpanAt s j (record { from = get_or stops (j - 1) 0 + 1; to = get_or stops j 0 })
-    span_mid m = spanned (stop_is (j - 1) (omega arith)) (stop_is j m)
+  pub next_fits : (j : ℕ) {p : ℕ} → j ≤ n → (j ≡ 0 → ⊥) → p ≡ at + comma_at (part s at e) (j - 1) → p + 1 ≤ e
+  next_fits j h z q = omega (arith, q, comma_less line (j - 1) (omega (arith, v.commas)), line_length, v.low)
 
-    pub span_last : n ≤ j → SpanAt s j (record { from = get_or stops (j - 1) 0 + 1; to = length s })
-    span_last m = spanned (stop_is (j - 1) (omega arith)) (sym (stop_last j m))
+  pub range_none : (j : ℕ) → n < j → ItemAt s at e n j (record { start = e; end = e })
+  range_none j h = record {
+    says = part_none s e ∙ sym (no_item (items_of line) j (omega (arith, items_count line, v.commas)));
+    low = omega arith;
+    high = omega arith;
+    begins = λ k m. absurd (omega arith);
+    ends = end_last j (omega arith);
+  }
 
-    pub between_mid : j < n → Between s j (record { from = get_or stops (j - 1) 0 + 1; to = get_or stops j 0 })
-    between_mid m = record { begins = omega (arith, stop_is (j - 1) (omega arith)); ends = stop_is j m }
-
-    pub between_last : n ≤ j → Between s j (record { from = get_or stops (j - 1) 0 + 1; to = length s })
-    between_last m = record { begins = omega (arith, stop_is (j - 1) (omega arith)); ends = sym (stop_last j m) }
-
-pub ruleset span_laws = (span_none, span_index, span_mid, span_last, between_mid, between_last)
-
--- ---- an item as a span of the file
-
-pub item_in : (s : List ℕ) (at e j : ℕ) {stops : List ℕ} {n : ℕ} {r : Span} → LineIn s at e stops n → SpanAt (take (e - at) (drop at s)) j r → Between (take (e - at) (drop at s)) j r
-    → ItemIn s at e j (record { from = at + r.from; to = at + r.to })
-item_in s at e j {stops} {n} {r} v x y =
-    let h : at + r.to ≤ e = omega (arith, x.high, part_length s at e v.low v.high, v.low) in
-    record {
-      says = sym (part_part s at e r.from r.to x.low h) ∙ x.says;
-      begins = ap (λ (k : ℕ). at + k) y.begins;
-      ends = ap (λ (k : ℕ). at + k) y.ends;
-      low = omega (arith, x.low);
-      high = h;
+  module _ (j : ℕ) (h : j ≤ n) {r : ℕ} (q : r ≡ at + comma_at (part s at e) j) where
+    pub range_first : j ≡ 0 → ItemAt s at e n j (record { start = at; end = r })
+    range_first z = record {
+      says =
+          let o : at + 0 ≡ at = omega arith in
+          ap (part s at) q ∙ ap (λ (x : ℕ). part s x (at + comma_at line j)) (sym o)
+          ∙ sym (part_part s at e 0 (comma_at line j) (omega arith) (end_high j))
+          ∙ subst (λ (x : ℕ). part line 0 (comma_at line x) ≡ get_or (items_of line) x []) (sym z) (sym (number_part line));
+      low = omega (arith, q);
+      high = omega (arith, q, end_high j);
+      begins = λ k m. absurd (omega arith);
+      ends = q;
     }
 
--- before it stands its comma
-pub comma_in : {s stops : List ℕ} {at e n j : ℕ} → LineIn s at e stops n → ItemOf j n → get_or s (at + comma_at (part s at e) (j - 1)) 0 ≡ 0x2c
-comma_in {s} {stops} {at} {e} {n} {j} v k =
-    let c : j - 1 < comma_count (part s at e) = omega (arith, v.spans.commas.is, k.low, k.high) in
+    pub range_next : (j ≡ 0 → ⊥) → {p : ℕ} → p ≡ at + comma_at (part s at e) (j - 1) → ItemAt s at e n j (record { start = p + 1; end = r })
+    range_next z {p} o =
+        let c : j ≤ comma_count line = omega (arith, v.commas) in
+        let k : comma_at line (j - 1) < comma_at line j = comma_next line j (omega arith) c in
+        let t : p + 1 ≡ at + (comma_at line (j - 1) + 1) = omega arith in
+        record {
+          says =
+              ap₂ (part s) t q ∙ sym (part_part s at e (comma_at line (j - 1) + 1) (comma_at line j) (omega arith) (end_high j))
+              ∙ sym (item_part line j (omega arith) c);
+          low = omega arith;
+          high = omega (arith, q, end_high j);
+          begins = λ _ _. t;
+          ends = q;
+        }
+
+pub ruleset range_laws = (end_stop, end_last, next_fits, range_none, range_first, range_next)
+
+-- ---- a scanned line
+
+pub scanned_in : {s : List ℕ} {at : ℕ} {stops : List ℕ} {e : ℕ} {good : Bool} {n : ℕ} → ScannedLine s at stops e good n → LineIn s at e stops n
+scanned_in v = record { places = v.places; commas = v.commas; low = v.line.low; high = omega (arith, v.line.high) }
+
+-- before an item after the number stands its comma
+pub comma_in : {s stops : List ℕ} {at e n j : ℕ} → LineIn s at e stops n → 1 ≤ j → j ≤ n → get_or s (at + comma_at (part s at e) (j - 1)) 0 ≡ 0x2c
+comma_in {s} {stops} {at} {e} {n} {j} v h k =
+    let c : j - 1 < comma_count (part s at e) = omega (arith, v.commas) in
     let i : comma_at (part s at e) (j - 1) < length (part s at e) = comma_less (part s at e) (j - 1) c in
     sym (part_at s at e (comma_at (part s at e) (j - 1)) (omega (arith, i, part_length s at e v.low v.high))) ∙ comma_byte (part s at e) (j - 1) c

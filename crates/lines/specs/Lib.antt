@@ -1,2 +1,4 @@
-pub mod Codes
+pub mod Line
+pub mod Items
+pub mod Details
 pub mod Found

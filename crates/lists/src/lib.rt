@@ -2,8 +2,7 @@
 // index that may lie past the end. A crate above this one names these and makes no second definition of its own.
 #![tactic(auto)]
 
-ghost use Rattle.std.specs.Prelude.{◌≡◌, ◌==◌, ◌-◌, get_or, position};
-ghost use Rattle.lists.specs.Lists.{same};
+ghost use Rattle.std.specs.Prelude.{◌≡◌, ◌==◌, get_or, position};
 ghost use Rattle.lists.specs.Searching.{find_from};
 
 // The byte at an index, 0 past the end.
@@ -11,13 +10,6 @@ pub fn byte_at(s: &[u8], i: usize) -> u8
     ensures { result ≡ get_or s.now i 0 }
 {
     s.get(i).copied().unwrap_or(0)
-}
-
-// One less, and 0 of 0.
-pub fn before(n: usize) -> usize
-    ensures { result ≡ n - 1 }
-{
-    n.saturating_sub(1)
 }
 
 // Where the byte c first stands, if it does.
@@ -36,11 +28,4 @@ pub fn find_byte(s: &[u8], at: usize, c: u8) -> usize
         Some(rest) => at + place_of(rest, c).unwrap_or(rest.len()),
         None => at,
     }
-}
-
-// Whether two slices hold the same bytes.
-pub fn same_bytes(a: &[u8], b: &[u8]) -> bool
-    ensures { result ≡ same a.now b.now }
-{
-    a == b
 }

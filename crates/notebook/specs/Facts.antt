@@ -1,7 +1,7 @@
 -- Definitions, to be believed.
 -- What the order of records looks at in a record. Document 01, "Order of records" and "Pairs" name these and no
 -- others, so a respelled file takes the same steps.
-use Rattle.std.specs.Prelude.{ℕ, cond, not, ◌&&◌, eqb, Option, Some, None}
+use Rattle.std.specs.Prelude.{ℕ, cond, not, ◌&&◌, eqb, unwrap_or}
 use Rattle.digits.specs.Digits.{number}
 use Rattle.order.specs.declared.Facts.{Facts}
 use Rattle.records.specs.Items.{Value, raw, num, day}
@@ -19,13 +19,9 @@ day_of (raw s) = 0
 day_of (num n) = 0
 day_of (day n) = n
 
-abbrev pub or_zero : Option ℕ → ℕ
-or_zero None = 0
-or_zero (Some n) = n
-
 -- the number that the bytes are the digits of, 0 where they are empty
 abbrev pub spelled : Value → ℕ
-spelled (raw s) = or_zero (number s)
+spelled (raw s) = unwrap_or (number s) 0
 spelled (num n) = 0
 spelled (day n) = 0
 

@@ -3,3 +3,4 @@ pub mod State
 pub mod Room
 pub mod Run
 pub mod Examples
+pub mod Steps

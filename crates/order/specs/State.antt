@@ -10,14 +10,11 @@
 -- which is also the count of RPs; `had301`, whether that RP its 301; `doctor` and `drug`, the lines of the last 55 and 201. 0 where there is none.
 -- `State`, where the reader is: `provider`, whether the direction is 1; `place`, the number of the last record, and `line`, its line; `groups` and
 -- `drugs`, how many 5s and 201s so far; `day`, the last 5's; `had`, of the open group.
-use Rattle.std.specs.Prelude.{ℕ, ◌+◌, Bool, true, false, cond, [], ◌∷◌, eqb, Result, Ok, Err}
+use Rattle.std.specs.Prelude.{ℕ, ◌+◌, Bool, true, false, cond, [], ◌∷◌, eqb}
 use Rattle.lists.specs.Lists.{member}
 use Rattle.order.specs.declared.Had.{Had}
 use Rattle.order.specs.declared.State.{State}
 use Rattle.order.specs.declared.Facts.{Facts}
-use Rattle.order.specs.declared.Moved.{Moved}
-use Rattle.replies.specs.declared.refusal.Refusal.{Refusal}
-use Rattle.replies.specs.Refusals.{number_of}
 use Rattle.rules.specs.Places.{in_rp, in_group}
 use Rattle.order.specs.Questions.{before_of, asked_of}
 use Rattle.rules.specs.Rules.{order_refusal, unfinished}
@@ -76,11 +73,6 @@ pub data Step : Type 0 where
 
 unfoldable pub step_of : State → Facts → Step
 step_of s r = cond (eqb (refusal_of s r) 0) (On (advance s r) (rp_of r) (doctor_of s r)) (Fault (refusal_of s r))
-
--- the step that the code's answer tells
-abbrev pub step_in : Result Moved Refusal → Step
-step_in (Ok m) = On m.state m.rp m.doctor
-step_in (Err r) = Fault (number_of r)
 
 -- 14 at the end, or 0
 unfoldable pub finish_of : State → ℕ

@@ -12,7 +12,8 @@ ghost use Rattle.replies.specs.Refusals.{fault_in};
 ghost use Rattle.rules.specs.Places.{in_head, in_front, in_drugs, in_rp, in_rest, in_group};
 ghost use Rattle.order.specs.Questions.{before_of};
 ghost use Rattle.rules.specs.Rules.{lacking};
-ghost use Rattle.order.specs.State.{nothing_yet, had_after, start, advance, rp_of, doctor_of, refusal_of, step_in, step_of, finish_of, group_of, drug_of};
+ghost use Rattle.order.specs.State.{nothing_yet, had_after, start, advance, rp_of, doctor_of, refusal_of, step_of, finish_of, group_of, drug_of};
+ghost use Rattle.order.specs.Steps.{step_in};
 ghost use Rattle.order.specs.Room.{Room};
 
 use replies::Refusal;

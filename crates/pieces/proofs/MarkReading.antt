@@ -1,42 +1,32 @@
--- The ways through the tests of an ID and the reading of a record 911, by its items. Assumes nothing.
-use Prim.Native.Nat.{ℕ, zero, suc, ◌+◌, ◌-◌, ◌≤◌, ◌<◌}
-use mathlib.Core.Path.{◌≡◌, refl, sym, ap, ap₂, ◌∙◌}
-use mathlib.Core.Bool.{Bool, true, false, cond, not, ◌&&◌}
-use mathlib.Core.Option.{Option, none, some}
-use mathlib.Core.List.{List, [], ◌∷◌, nil≢cons, head-eq_of_cons-eq}
+-- The ways through the test for a record 911 and its reading, item by item. Assumes nothing.
+use Prim.Native.Nat.{ℕ, ◌+◌, ◌-◌, ◌≤◌, ◌<◌}
+use mathlib.Core.Path.{◌≡◌, refl, sym, ap, ap₂, ◌∙◌, subst}
+use mathlib.Core.Bool.{Bool, true, false, cond, not, ◌&&◌, false≢true}
+use mathlib.Core.List.{List, [], ◌∷◌, ◌++◌}
 use native.Mathlib.Omega.{arith}
-use borrow.Author.Tests.{eq-eqb, ne_eqb, eqb-true, lt-leb, not-true, not-false}
-use lib.Dec.{eqb}
-use lib.ListN.{length, take, drop, get_or}
-use lib.Seq.{take-nil}
+use denote.Ref.{Bor}
+use borrow.Author.Tests.{eqb-true, ltb-true, ltb-false, not-true, not-false}
+use lib.Dec.{eqb, leb, ltb}
+use lib.ListN.{length, take, drop, get_or, length-append}
+use lib.Seq.{take_at}
+use Rattle.std.proofs.Common.{take-append-drop}
+use Rattle.std.specs.Prelude.{Option, Some, None}
+use Rattle.std.specs.List.{position, position_or_len, slice_split}
+use Rattle.std.proofs.lemmas.List.Splits.{slice_split_none, slice_split_first}
+use Rattle.std.proofs.lemmas.List.Sums.{split_at_first, fails_before_first, passes_at_first}
 use Rattle.lists.specs.Lists.{all, same}
-use Rattle.lists.specs.Searching.{part, find_from}
-use Rattle.lists.proofs.Tests.{both, same_true}
-use Rattle.lists.proofs.Parts.{part_length}
-use Rattle.lists.proofs.Loops.{find_low, find_high}
-use Rattle.digits.specs.Digits.{is_digit, number}
-use Rattle.digits.specs.Short.{or_thousand, short_value}
+use Rattle.lists.specs.Searching.{part}
+use Rattle.lists.proofs.Tests.{both, same_true, all_append}
+use Rattle.lists.proofs.Cuts.{rest_all}
+use Rattle.digits.specs.Digits.{is_digit, value, number}
 use Rattle.digits.proofs.Numbers.{number_length}
-use Rattle.records.specs.Split.{items_of}
-use Rattle.records.specs.Positions.{items_from}
+use Rattle.records.specs.Split.{is_comma, cons_item, items_of}
 use Rattle.records.specs.Records.{t911, first_of, is_mark}
-use Rattle.lines.proofs.SplitLaws.{items_from_lem, items_all, item_cut}
-use Rattle.pieces.specs.declared.Numbers.{Numbers}
-use Rattle.pieces.specs.declared.Numbers.TheVariants.{Read, Unread}
+use Rattle.pieces.specs.declared.Mark.{Mark as Numbers}
 use Rattle.division.specs.Marks.{Mark, valid_id, marked, mark_of, read_mark}
-use Rattle.pieces.specs.Answers.{as_mark, NumbersIs, Reaches, MarkIs}
+use Rattle.pieces.specs.Answers.{ItemThen, ItemIs, MarkIs}
 
 -- ---- an ID
-
-pub id_size : (i : List ℕ) → (length i ≡ 14 → ⊥) → false ≡ valid_id i
-unfolding valid_id
-id_size i h = sym (rw (ne_eqb (length i) 14 h))
-
-pub id_digits : (i : List ℕ) {x : Bool} → length i ≡ 14 → x ≡ all is_digit i → x ≡ valid_id i
-unfolding valid_id
-id_digits i h e = e ∙ sym (rw (eq-eqb (length i) 14 h))
-
-pub ruleset id_laws = (id_size, id_digits)
 
 id_length : (i : List ℕ) → valid_id i ≡ true → length i ≡ 14
 unfolding valid_id
@@ -44,185 +34,210 @@ id_length i e = eqb-true (length i) 14 (both (eqb (length i) 14) (all is_digit i
 
 -- ---- 911, by its first item
 
-items_out : (l : List ℕ) (at : ℕ) → length l < at → items_from l at ≡ []
-unfolding items_from
-items_out l at h = rw (lt-leb at (length l) h)
+first_cons : (a : ℕ) (x : List (List ℕ)) → first_of (cons_item a x) ≡ a ∷ first_of x
+first_cons a [] = refl
+first_cons a (h ∷ t) = refl
 
--- a first item that is 911 begins with a 9
-pub mark_first : (l : List ℕ) {b : ℕ} → b ≡ get_or l 0 0 → (b ≡ 0x39 → ⊥) → false ≡ is_mark l
+-- a first item is the front of its line
+front : (p l : List ℕ) → same (first_of (items_of l)) p ≡ true → same (take (length p) l) p ≡ true
+front [] l e = refl
+front (c ∷ p) [] e = absurd (false≢true e)
+front (c ∷ p) (a ∷ l) e = go (is_comma a) (front p l) e
+  where
+    go : (b : Bool) → (same (first_of (items_of l)) p ≡ true → same (take (length p) l) p ≡ true) → same (first_of (cond b ([] ∷ items_of l) (cons_item a (items_of l)))) (c ∷ p) ≡ true → (eqb a c && same (take (length p) l) p) ≡ true
+    go true i e = absurd (false≢true e)
+    go false i e =
+        let h : (eqb a c && same (first_of (items_of l)) p) ≡ true = ap (λ (x : List ℕ). same x (c ∷ p)) (sym (first_cons a (items_of l))) ∙ e in
+        let k : (eqb a c ≡ true) × (same (first_of (items_of l)) p ≡ true) = both (eqb a c) (same (first_of (items_of l)) p) h in
+        rw (k.0, i k.1)
+
+pub mark_other : (l : List ℕ) → same (take 3 l) (57 ∷ 49 ∷ 49 ∷ []) ≡ false → false ≡ is_mark l
 unfolding is_mark t911
-mark_first l q n = sym (go (same (first_of (items_of l)) (57 ∷ 49 ∷ 49 ∷ [])) refl)
+mark_other l e = go (same (first_of (items_of l)) (57 ∷ 49 ∷ 49 ∷ [])) refl
   where
-    front : (l : List ℕ) (n : ℕ) {x : List ℕ} → take n l ≡ 57 ∷ x → get_or l 0 0 ≡ 57
-    front [] n p = absurd (nil≢cons (sym (take-nil n) ∙ p))
-    front (a ∷ l) zero p = absurd (nil≢cons p)
-    front (a ∷ l) (suc n) p = head-eq_of_cons-eq p
+    go : (b : Bool) → same (first_of (items_of l)) (57 ∷ 49 ∷ 49 ∷ []) ≡ b → false ≡ b
+    go false q = refl
+    go true q = sym e ∙ front (57 ∷ 49 ∷ 49 ∷ []) l q
 
-    go : (b : Bool) → same (first_of (items_of l)) (57 ∷ 49 ∷ 49 ∷ []) ≡ b → b ≡ false
-    go false e = refl
-    go true e =
-        let i : first_of (items_of l) ≡ part l 0 (find_from 0x2c l 0) = ap first_of (items_all l ∙ item_cut l 0 (omega arith) refl) in
-        absurd (n (q ∙ front l (find_from 0x2c l 0 - 0) (sym i ∙ same_true (first_of (items_of l)) (57 ∷ 49 ∷ 49 ∷ []) e)))
+module _ (l : List ℕ) {r : List ℕ} (p : (same (take 3 l) (57 ∷ 49 ∷ 49 ∷ []) ≡ true) × (r ≡ drop 3 l) × (length r + 3 ≡ length l)) where
+  behind : l ≡ 57 ∷ 49 ∷ 49 ∷ r
+  behind = sym (take-append-drop 3 l) ∙ rw (same_true (take 3 l) (57 ∷ 49 ∷ 49 ∷ []) p.0, sym p.1)
 
-module _ (l : List ℕ) {e : ℕ} (p : e ≡ find_from 0x2c l 0) where
-  pub mark_item : e ≤ length l
-  mark_item = omega (arith, p, find_high 0x2c l 0 (omega arith))
-
-  pub mark_is : {x : Bool} → x ≡ same (take (e - 0) (drop 0 l)) (57 ∷ 49 ∷ 49 ∷ []) → x ≡ is_mark l
+  pub mark_alone : length r < 1 → true ≡ is_mark l
   unfolding is_mark t911
-  mark_is q = q ∙ sym (ap (λ (x : List (List ℕ)). same (first_of x) (57 ∷ 49 ∷ 49 ∷ [])) (items_all l ∙ item_cut l 0 (omega arith) p))
+  mark_alone h = go r behind h
+    where
+      go : (r : List ℕ) → l ≡ 57 ∷ 49 ∷ 49 ∷ r → length r < 1 → true ≡ same (first_of (items_of l)) (57 ∷ 49 ∷ 49 ∷ [])
+      go [] e h = rw e
+      go (a ∷ r) e h = absurd (omega arith)
 
-pub ruleset mark_laws = (mark_first, mark_item, mark_is)
+  pub mark_longer : 1 ≤ length r → eqb (get_or r 0 0) 44 ≡ is_mark l
+  unfolding is_mark t911
+  mark_longer h = go r behind h
+    where
+      go : (r : List ℕ) → l ≡ 57 ∷ 49 ∷ 49 ∷ r → 1 ≤ length r → eqb (get_or r 0 0) 44 ≡ same (first_of (items_of l)) (57 ∷ 49 ∷ 49 ∷ [])
+      go [] e h = absurd (omega arith)
+      go (a ∷ r) e h = by (eqb a 44) refl ∙ sym (ap (λ (x : List ℕ). same (first_of (items_of x)) (57 ∷ 49 ∷ 49 ∷ [])) e)
+        where
+          by : (b : Bool) → eqb a 44 ≡ b → b ≡ same (first_of (cons_item 57 (cons_item 49 (cons_item 49 (cond b ([] ∷ items_of r) (cons_item a (items_of r))))))) (57 ∷ 49 ∷ 49 ∷ [])
+          by true q = refl
+          by false q = more (items_of r)
+            where
+              more : (x : List (List ℕ)) → false ≡ same (first_of (cons_item 57 (cons_item 49 (cons_item 49 (cons_item a x))))) (57 ∷ 49 ∷ 49 ∷ [])
+              more [] = refl
+              more (h ∷ t) = refl
 
--- ---- n and k
+pub ruleset mark_laws = (mark_other, mark_alone, mark_longer)
 
-pub short_none : (l : List ℕ) {n : ℕ} → n ≡ short_value l → 999 < n → number l ≡ none
-unfolding short_value
-short_none l {n} e h = go (number l) refl
-  where
-    go : (o : Option ℕ) → number l ≡ o → o ≡ none
-    go none q = refl
-    go (some m) q = let z : or_thousand (number l) ≡ m = ap or_thousand q in absurd (omega (arith, e, z, (number_length l m q).1))
+-- ---- an item, and what follows its comma
 
-pub short_some : (l : List ℕ) {n : ℕ} → n ≡ short_value l → n ≤ 999 → number l ≡ some n
-unfolding short_value
-short_some l {n} e h = go (number l) refl
-  where
-    go : (o : Option ℕ) → number l ≡ o → o ≡ some n
-    go none q = let z : or_thousand (number l) ≡ 1000 = ap or_thousand q in absurd (omega (arith, e, z))
-    go (some m) q = let z : or_thousand (number l) ≡ m = ap or_thousand q in ap some (sym (e ∙ z))
+-- a line is cut as the library cuts a slice
+items_split : (l : List ℕ) → items_of l ≡ slice_split is_comma l
+items_split l = refl
 
-none_both : (b : Bool) → cond {A = Option Mark} b none none ≡ none
-none_both true = refl
-none_both false = refl
+module _ (l : List ℕ) {o : Option ℕ} (p : o ≡ position is_comma l) where
+  place : ℕ
+  place = position_or_len is_comma l
 
-module _ (l : List ℕ) {at c : ℕ} (h : at ≤ length l) (p : c ≡ find_from 0x2c l at) where
-  pub n_low : at ≤ c
-  n_low = omega (arith, p, find_low 0x2c l at)
+  one_item : o ≡ None → items_of l ≡ l ∷ []
+  unfolding place
+  one_item q = go (ltb place (length l)) refl
+    where
+      go : (b : Bool) → ltb place (length l) ≡ b → items_of l ≡ l ∷ []
+      go true e = let z : Some place ≡ None = sym (p ∙ rw e) ∙ q in cc
+      go false e = slice_split_none is_comma l (λ k d h. fails_before_first is_comma l k d (omega (arith, ltb-false place (length l) e)))
 
-  pub n_high : c ≤ length l
-  n_high = omega (arith, p, find_high 0x2c l at h)
+  item_more : {n : ℕ} → o ≡ Some n → (n < length l) × ItemThen l (take n l) (drop (n + 1) l)
+  unfolding place
+  item_more {n} q = go (ltb place (length l)) refl
+    where
+      go : (b : Bool) → ltb place (length l) ≡ b → (n < length l) × ItemThen l (take n l) (drop (n + 1) l)
+      go true e =
+          let z : Some place ≡ Some n = sym (p ∙ rw e) ∙ q in
+          let m : place ≡ n = cc in
+          let h : place < length l = ltb-true place (length l) e in
+          let c : get_or l place 0 ≡ 44 = eqb-true (get_or l place 0) 44 (passes_at_first is_comma l 0 h) in
+          let s : l ≡ take place l ++ (44 ∷ drop (place + 1) l) = split_at_first is_comma l 0 h ∙ ap (λ (x : ℕ). take place l ++ (x ∷ drop (place + 1) l)) c in
+          subst (λ (k : ℕ). (k < length l) × ItemThen l (take k l) (drop (k + 1) l)) m (h, record { is = s; items = slice_split_first is_comma l 0 h })
+      go false e = let z : None ≡ Some n = sym (p ∙ rw e) ∙ q in cc
 
-  unread : ((a i : List ℕ) → mark_of (a ∷ i ∷ items_from l at) ≡ none) → NumbersIs l at Unread
-  unread f = record { is = λ a i. f a i ∙ sym (none_both (same a t911 && valid_id i)); most = tt }
+  pub item_none : {r : Option (Bor (List ℕ) × Bor (List ℕ))} → o ≡ None → r ≡ None → ItemIs l r
+  item_none q e = rw e (one_item q)
 
-  cut_n : items_from l at ≡ part l at c ∷ items_from l (c + 1)
-  cut_n = item_cut l at h p
+  pub item_some : {n : ℕ} → o ≡ Some n → ItemThen l (take n l) (take (length l - (n + 1)) (drop (n + 1) l))
+  item_some {n} q = rw rest_all (item_more q).1
 
-  pub numbers_one : length l ≤ c → NumbersIs l at Unread
-  numbers_one q =
-      unread (λ a i. ap (λ (x : List (List ℕ)). mark_of (a ∷ i ∷ x)) (cut_n ∙ ap (λ (x : List (List ℕ)). part l at c ∷ x) (items_out l (c + 1) (omega arith))))
+  pub item_inside : {n : ℕ} → o ≡ Some n → n < length l
+  item_inside q = (item_more q).0
 
-  module _ (q : c < length l) {d : ℕ} (r : d ≡ find_from 0x2c l (c + 1)) where
-    pub k_low : c + 1 ≤ d
-    k_low = omega (arith, r, find_low 0x2c l (c + 1))
-
-    pub k_high : d ≤ length l
-    k_high = omega (arith, r, find_high 0x2c l (c + 1) (omega arith))
-
-    cut_k : items_from l at ≡ part l at c ∷ part l (c + 1) d ∷ items_from l (d + 1)
-    cut_k = cut_n ∙ ap (λ (x : List (List ℕ)). part l at c ∷ x) (item_cut l (c + 1) (omega arith) r)
-
-    pub numbers_more : d < length l → NumbersIs l at Unread
-    numbers_more t =
-        unread (λ a i. ap (λ (x : List (List ℕ)). mark_of (a ∷ i ∷ x)) (cut_k ∙ ap (λ (x : List (List ℕ)). part l at c ∷ part l (c + 1) d ∷ x) (items_from_lem l (d + 1) (omega arith))))
-
-    module _ (t : length l ≤ d) where
-      four : (a i : List ℕ)
-          → mark_of (a ∷ i ∷ items_from l at) ≡ cond (same a t911 && valid_id i) (marked i (number (part l at c)) (number (part l (c + 1) d))) none
-      four a i =
-          ap (λ (x : List (List ℕ)). mark_of (a ∷ i ∷ x)) (cut_k ∙ ap (λ (x : List (List ℕ)). part l at c ∷ part l (c + 1) d ∷ x) (items_out l (d + 1) (omega arith)))
-
-      module _ {n : ℕ} (u : n ≡ short_value (take (c - at) (drop at l))) where
-        pub numbers_n : 999 < n → NumbersIs l at Unread
-        numbers_n v = record { is = λ a i. four a i ∙ rw (short_none (part l at c) u v); most = tt }
-
-        module _ (v : n ≤ 999) {k : ℕ} (w₀ : k ≡ short_value (take (length l - (c + 1)) (drop (c + 1) l))) where
-          w : k ≡ short_value (part l (c + 1) d)
-          w = let z : length l ≡ d = omega (arith, k_high, t) in w₀ ∙ ap (λ (x : ℕ). short_value (part l (c + 1) x)) z
-
-          pub numbers-k : 999 < k → NumbersIs l at Unread
-          numbers-k x = record { is = λ a i. four a i ∙ rw (short_some (part l at c) u v, short_none (part l (c + 1) d) w x); most = tt }
-
-          pub numbers-read : k ≤ 999 → NumbersIs l at (Read n k)
-          numbers-read x = record { is = λ a i. four a i ∙ rw (short_some (part l at c) u v, short_some (part l (c + 1) d) w x); most = (v, x) }
-
-pub ruleset numbers_laws = (n_low, n_high, numbers_one, k_low, k_high, numbers_more, numbers_n, numbers-k, numbers-read)
+pub ruleset item_laws = (item_none, item_some, item_inside)
 
 -- ---- a record 911
 
-mark_other : (a : List ℕ) (ss : List (List ℕ)) → same a t911 ≡ false → mark_of (a ∷ ss) ≡ none
-mark_other a [] e = refl
-mark_other a (i ∷ []) e = refl
-mark_other a (i ∷ n ∷ []) e = refl
-mark_other a (i ∷ n ∷ k ∷ []) e = rw e
-mark_other a (i ∷ n ∷ k ∷ x ∷ xs) e = refl
+not_mark : (a : List ℕ) (ss : List (List ℕ)) → same a t911 ≡ false → mark_of (a ∷ ss) ≡ None
+not_mark a [] e = refl
+not_mark a (i ∷ []) e = refl
+not_mark a (i ∷ n ∷ []) e = refl
+not_mark a (i ∷ n ∷ k ∷ []) e = rw e
+not_mark a (i ∷ n ∷ k ∷ x ∷ xs) e = refl
 
-mark_no_id : (a i : List ℕ) (ss : List (List ℕ)) → same a t911 ≡ true → valid_id i ≡ false → mark_of (a ∷ i ∷ ss) ≡ none
-mark_no_id a i [] p e = refl
-mark_no_id a i (n ∷ []) p e = refl
-mark_no_id a i (n ∷ k ∷ []) p e = rw (p, e)
-mark_no_id a i (n ∷ k ∷ x ∷ xs) p e = refl
+no_id : (a i : List ℕ) (ss : List (List ℕ)) → same a t911 ≡ true → valid_id i ≡ false → mark_of (a ∷ i ∷ ss) ≡ None
+no_id a i [] p e = refl
+no_id a i (n ∷ []) p e = refl
+no_id a i (n ∷ k ∷ []) p e = rw (p, e)
+no_id a i (n ∷ k ∷ x ∷ xs) p e = refl
 
-module _ (l : List ℕ) {a : ℕ} (p : a ≡ find_from 0x2c l 0) where
-  lost : mark_of (items_of l) ≡ none → MarkIs l Unread
+-- bytes with a comma are no number
+no_number : (k h t : List ℕ) → k ≡ h ++ 44 ∷ t → number k ≡ None
+unfolding number
+no_number k h t e = rw (ap (all is_digit) e ∙ all_append is_digit h (44 ∷ t)) (go (leb 1 (length k)) (leb (length k) 3) (all is_digit h))
+  where
+    go : (x y z : Bool) → cond (x && (y && (z && false))) (Some (value 0 k)) None ≡ None
+    go true true true = refl
+    go true true false = refl
+    go true false z = refl
+    go false y z = refl
+
+unmarked : (i : List ℕ) (n : Option ℕ) → marked i n None ≡ None
+unmarked i None = refl
+unmarked i (Some n) = refl
+
+none_both : (b : Bool) → cond {A = Option Mark} b None None ≡ None
+none_both true = refl
+none_both false = refl
+
+-- the last item may have a comma
+four : (a i n k : List ℕ) → mark_of (a ∷ i ∷ n ∷ items_of k) ≡ cond (same a t911 && valid_id i) (marked i (number n) (number k)) None
+four a i n k = go (position is_comma k) refl
+  where
+    go : (o : Option ℕ) → position is_comma k ≡ o → mark_of (a ∷ i ∷ n ∷ items_of k) ≡ cond (same a t911 && valid_id i) (marked i (number n) (number k)) None
+    go None q = ap (λ (x : List (List ℕ)). mark_of (a ∷ i ∷ n ∷ x)) (one_item k refl q)
+    go (Some m) q =
+        let x : ItemThen k (take m k) (drop (m + 1) k) = (item_more k refl q).1 in
+        ap (λ (x : List (List ℕ)). mark_of (a ∷ i ∷ n ∷ x)) x.items ∙ five (take m k) (drop (m + 1) k)
+        ∙ sym (ap (λ (x : Option ℕ). cond (same a t911 && valid_id i) (marked i (number n) x) None) (no_number k (take m k) (drop (m + 1) k) x.is)
+        ∙ ap (λ (x : Option Mark). cond (same a t911 && valid_id i) x None) (unmarked i (number n)) ∙ none_both (same a t911 && valid_id i))
+      where
+        five : (h t : List ℕ) → mark_of (a ∷ i ∷ n ∷ h ∷ items_of t) ≡ None
+        five h [] = refl
+        five h (b ∷ t) = by (is_comma b) (items_of t)
+          where
+            by : (x : Bool) (ss : List (List ℕ)) → mark_of (a ∷ i ∷ n ∷ h ∷ cond x ([] ∷ ss) (cons_item b ss)) ≡ None
+            by true ss = refl
+            by false [] = refl
+            by false (s ∷ ss) = refl
+
+module _ {l : List ℕ} where
+  lost : {m : Option Numbers} → m ≡ None → mark_of (items_of l) ≡ None → MarkIs l m
   unfolding read_mark
-  lost q = record { is = q; most = tt; reaches = tt }
+  lost e q = rw e (record { is = q; most = tt; reaches = tt })
 
-  cut_a : items_of l ≡ part l 0 a ∷ items_from l (a + 1)
-  cut_a = items_all l ∙ item_cut l 0 (omega arith) p
+  pub mark_one : {m : Option Numbers} → items_of l ≡ l ∷ [] → m ≡ None → MarkIs l m
+  mark_one q e = lost e (ap mark_of q)
 
-  pub mark_one : length l ≤ a → MarkIs l Unread
-  mark_one h = lost (ap mark_of (cut_a ∙ ap (λ (x : List (List ℕ)). part l 0 a ∷ x) (items_out l (a + 1) (omega arith))))
+  module _ {a r : List ℕ} (x : ItemThen l a r) where
+    pub mark_two : {m : Option Numbers} → items_of r ≡ r ∷ [] → m ≡ None → MarkIs l m
+    mark_two q e = lost e (ap mark_of (x.items ∙ ap (λ (y : List (List ℕ)). a ∷ y) q))
 
-  module _ (h : a < length l) {x : Bool} (q : x ≡ same (take (a - 0) (drop 0 l)) (57 ∷ 49 ∷ 49 ∷ [])) where
-    first : x ≡ same (part l 0 a) t911
+    pub mark_no_911 : {w : Bool} → w ≡ not (same a (57 ∷ 49 ∷ 49 ∷ [])) → w ≡ true → MarkIs l None
     unfolding t911
-    first = q
+    mark_no_911 t f = lost refl (ap mark_of x.items ∙ not_mark a (items_of r) (not-true (same a (57 ∷ 49 ∷ 49 ∷ [])) (sym t ∙ f)))
 
-    pub mark_no_911 : not x ≡ true → MarkIs l Unread
-    mark_no_911 t = lost (ap mark_of cut_a ∙ mark_other (part l 0 a) (items_from l (a + 1)) (sym first ∙ not-true x t))
+    module _ {i s : List ℕ} (y : ItemThen r i s) where
+      cut : items_of l ≡ a ∷ i ∷ items_of s
+      cut = x.items ∙ ap (λ (z : List (List ℕ)). a ∷ z) y.items
 
-    module _ (t : not x ≡ false) {b : ℕ} (r : b ≡ find_from 0x2c l (a + 1)) where
-      pub id_low : a + 1 ≤ b
-      id_low = omega (arith, r, find_low 0x2c l (a + 1))
+      pub mark_three : {m : Option Numbers} → items_of s ≡ s ∷ [] → m ≡ None → MarkIs l m
+      mark_three q e = lost e (ap mark_of (cut ∙ ap (λ (z : List (List ℕ)). a ∷ i ∷ z) q))
 
-      pub id_high : b ≤ length l
-      id_high = omega (arith, r, find_high 0x2c l (a + 1) (omega arith))
+      module _ {w o : Bool} (t : w ≡ not (same a (57 ∷ 49 ∷ 49 ∷ []))) (f : w ≡ false) (v : o ≡ valid_id i) where
+        is_911 : same a (57 ∷ 49 ∷ 49 ∷ []) ≡ true
+        is_911 = not-false (same a (57 ∷ 49 ∷ 49 ∷ [])) (sym t ∙ f)
 
-      cut_b : items_of l ≡ part l 0 a ∷ part l (a + 1) b ∷ items_from l (b + 1)
-      cut_b = cut_a ∙ ap (λ (x : List (List ℕ)). part l 0 a ∷ x) (item_cut l (a + 1) (omega arith) r)
+        pub mark_no_id : o ≡ false → MarkIs l None
+        unfolding t911
+        mark_no_id u = lost refl (ap mark_of cut ∙ no_id a i (items_of s) is_911 (sym v ∙ u))
 
-      pub mark_two : length l ≤ b → MarkIs l Unread
-      mark_two u = lost (ap mark_of (cut_b ∙ ap (λ (x : List (List ℕ)). part l 0 a ∷ part l (a + 1) b ∷ x) (items_out l (b + 1) (omega arith))))
+        module _ (u : o ≡ true) {n k : List ℕ} (z : ItemThen s n k) where
+          read : mark_of (items_of l) ≡ marked i (number n) (number k)
+          unfolding t911
+          read = ap mark_of (cut ∙ ap (λ (w : List (List ℕ)). a ∷ i ∷ w) z.items) ∙ four a i n k ∙ rw (is_911, sym v ∙ u)
 
-      module _ (u : b < length l) {y : Bool} (v : y ≡ valid_id (take (b - (a + 1)) (drop (a + 1) l))) where
-        pub mark_id : not y ≡ true → MarkIs l Unread
-        mark_id w =
-            lost (ap mark_of cut_b ∙ mark_no_id (part l 0 a) (part l (a + 1) b) (items_from l (b + 1)) (sym first ∙ not-false x t) (sym v ∙ not-true y w))
+          pub mark_no_count : {m : Option Numbers} → None ≡ number n → m ≡ None → MarkIs l m
+          mark_no_count q e = lost e (read ∙ rw (sym q))
 
-        module _ (w : not y ≡ false) {m : Numbers} (z : NumbersIs l (b + 1) m) where
-          a-is : a ≡ 3
-          a-is =
-              omega (arith, part_length l 0 a (omega arith) (omega arith), ap length (same_true (part l 0 a) (57 ∷ 49 ∷ 49 ∷ []) (sym q ∙ not-false x t)))
+          pub mark_no_place : {m : Option Numbers} → None ≡ number k → m ≡ None → MarkIs l m
+          mark_no_place q e = lost e (read ∙ ap (marked i (number n)) (sym q) ∙ unmarked i (number n))
 
-          b-is : b ≡ 18
-          b-is = omega (arith, a-is, id_low, part_length l (a + 1) b id_low id_high, id_length (part l (a + 1) b) (sym v ∙ not-false y w))
-
-          pub mark-read : MarkIs l m
+          pub mark_read : {c p : ℕ} → Some c ≡ number n → Some p ≡ number k → MarkIs l (Some (record { count = c; place = p }))
           unfolding read_mark
-          mark-read =
-              let g : same (part l 0 a) t911 ≡ true = sym first ∙ not-false x t in
-              let i : valid_id (part l (a + 1) b) ≡ true = sym v ∙ not-false y w in
-              let s : part l (a + 1) b ≡ part l 4 18 = ap₂ (λ (x y : ℕ). part l (x + 1) y) a-is b-is in
+          mark_read {c} {p} q h =
+              let e : 14 ≡ length i = sym (id_length i (sym v ∙ u)) in
+              let w : l ≡ 57 ∷ 49 ∷ 49 ∷ 44 ∷ (i ++ 44 ∷ s) =
+              x.is ∙ ap₂ (λ (b c : List ℕ). b ++ 44 ∷ c) (same_true a (57 ∷ 49 ∷ 49 ∷ []) is_911) y.is in
+              let d : part l 4 18 ≡ i = ap (λ (b : List ℕ). part b 4 18) w ∙ take_at i (44 ∷ s) 14 (sym e) in
               record {
-                is = ap mark_of cut_b ∙ (z.is (part l 0 a) (part l (a + 1) b) ∙ rw (g, i) (ap (λ (x : List ℕ). as_mark x m) s));
-                most = z.most;
-                reaches = go m;
+                is = read ∙ rw (sym q, sym h) (ap (λ (b : List ℕ). Some (record { ident = b; count = c; place = p })) (sym d));
+                most = ((number_length n c (sym q)).1, (number_length k p (sym h)).1);
+                reaches = omega (arith, ap length w, length-append i (44 ∷ s));
               }
-            where
-              go : (m : Numbers) → Reaches l m
-              go (Read n k) = omega (arith, b-is)
-              go Unread = tt
-
-pub ruleset read_laws = (mark_item, mark_one, mark_no_911, id_low, id_high, mark_two, mark_id, mark-read)

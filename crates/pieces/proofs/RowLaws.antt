@@ -1,27 +1,28 @@
 -- The row at a position, and the ways through the tests of a row's kind. Assumes nothing.
 use Prim.Native.Nat.{ℕ, suc, ◌+◌, ◌-◌, ◌≤◌, ◌<◌}
 use mathlib.Core.Path.{◌≡◌, refl, sym, ap, ap₂, ◌∙◌}
-use mathlib.Core.Bool.{Bool, true, false, cond}
+use mathlib.Core.Bool.{Bool, true, false, cond, ◌&&◌, false≢true}
 use mathlib.Core.List.{List, [], ◌∷◌, ◌++◌}
 use native.Mathlib.Omega.{arith}
-use borrow.Author.Tests.{eq-eqb, ne_eqb}
+use borrow.Author.Tests.{eq-eqb}
 use lib.Dec.{eqb}
-use lib.ListN.{length, take, drop, get_or, length-drop}
+use lib.ListN.{length, take, drop, length-drop}
 use lib.Seq.{drop-drop, take_all}
+use Rattle.std.proofs.Common.{take-append-drop}
 use Rattle.lists.specs.Lists.{bytes, same, up_to, is}
 use Rattle.lists.specs.Searching.{find_from}
+use Rattle.lists.proofs.Tests.{same_true}
 use Rattle.lists.proofs.Cuts.{drop_end, rest_all, up_to_le, up_to_split}
 use Rattle.lists.proofs.Loops.{find_high}
 use Rattle.characters.specs.Text.{is_stop, text}
 use Rattle.characters.specs.Rows.{cons_row, rows, line_end, is_line, end_mark}
 use Rattle.records.specs.Records.{header}
 use Rattle.notebook.specs.Canonical.{head_row}
-use Rattle.heading.specs.declared.Heading.{Heading}
-use Rattle.heading.specs.declared.Heading.TheVariants.{Line1, Other}
+use Rattle.std.specs.Prelude.{Option, Some, None}
 use Rattle.heading.specs.Reading.{heading_of}
 use Rattle.heading.proofs.Laws.{heading_is, heading_not}
 use Rattle.pieces.specs.declared.Row.TheVariants.{Head, EndHead, Body, End, Broken}
-use Rattle.division.specs.Pieces.{RowKind, head, end_head, body, end, broken, kind_of}
+use Rattle.division.specs.Pieces.{RowKind, head, end_head, end, broken, kind_of}
 use Rattle.pieces.specs.Answers.{RowAt, KindIs}
 
 -- ---- the first row, by where the first 0Ah stands
@@ -86,8 +87,6 @@ module _ (s : List ℕ) {at i : ℕ} (h : at < length s) (p : i ≡ find_from 0x
         cut = rest_is (drop at s) (omega (arith, length-drop at s)) (omega (arith, by_length, length-drop at s)) ∙ rw (t, q);
       }
 
-pub ruleset row_laws = (row_feed, row_rest)
-
 -- ---- a line: its text, and 0Dh 0Ah
 
 same_behind : (t x y : List ℕ) → same (t ++ x) (t ++ y) ≡ same x y
@@ -110,84 +109,70 @@ pub ruleset line_laws = (line_start, line_end_lem)
 
 -- ---- kinds
 
--- a row that is no line 1 and no line
-abbrev no_line : List ℕ → RowKind
-no_line r =
-    cond (same r end_mark) end
-    (cond (same r (0x1a ∷ head_row true)) (end_head true) (cond (same r (0x1a ∷ head_row false)) (end_head false) broken))
-
--- what a 1Ah is followed by
+-- a row that begins with a 1Ah, by what follows it
 abbrev behind_mark : List ℕ → RowKind
 behind_mark t = cond (same t (head_row true)) (end_head true) (cond (same t (head_row false)) (end_head false) broken)
+
+mark_kind : (t : List ℕ) → kind_of (0x1a ∷ t) ≡ cond (same t []) end (behind_mark t)
+unfolding kind_of is_line header bytes
+mark_kind t = refl
+
+module _ (r : List ℕ) {t : List ℕ} (p : (same (take 1 r) (0x1a ∷ []) ≡ true) × (t ≡ drop 1 r) × (length t + 1 ≡ length r)) where
+  marked : r ≡ 0x1a ∷ t
+  marked = sym (take-append-drop 1 r) ∙ rw (same_true (take 1 r) (0x1a ∷ []) p.0, sym p.1)
+
+  after-mark : kind_of r ≡ cond (same t []) end (behind_mark t)
+  after-mark = ap kind_of marked ∙ mark_kind t
+
+  pub kind_end : length t < 1 → KindIs r End
+  kind_end h = record { is = after-mark ∙ go t h }
+    where
+      go : (t : List ℕ) → length t < 1 → cond (same t []) end (behind_mark t) ≡ end
+      go [] h = refl
+      go (a ∷ t) h = absurd (omega arith)
+
+  module _ {x : Option Bool} (h : x ≡ heading_of t) where
+    pub kind_end_head : {d : Bool} → x ≡ Some d → KindIs r (EndHead d)
+    unfolding header bytes
+    kind_end_head {d} q = record { is = after-mark ∙ ap (λ (t : List ℕ). cond (same t []) end (behind_mark t)) (heading_is t h q) ∙ by d }
+      where
+        by : (d : Bool) → cond (same (head_row d) []) end (behind_mark (head_row d)) ≡ end_head d
+        by true = refl
+        by false = refl
+
+    pub kind_no_end : 1 ≤ length t → x ≡ None → KindIs r Broken
+    kind_no_end l q = record { is = after-mark ∙ rw (longer t l, heading_not t h q true, heading_not t h q false) }
+      where
+        longer : (t : List ℕ) → 1 ≤ length t → same t [] ≡ false
+        longer [] l = absurd (omega arith)
+        longer (a ∷ t) l = refl
 
 head_kind : (d : Bool) → kind_of (head_row d) ≡ head d
 unfolding kind_of header bytes
 head_kind true = refl
 head_kind false = refl
 
-behind_kind : (d : Bool) → behind_mark (head_row d) ≡ end_head d
-unfolding header bytes
-behind_kind true = refl
-behind_kind false = refl
+module _ (r : List ℕ) {x : Option Bool} (h : x ≡ heading_of r) where
+  pub kind_head : {d : Bool} → x ≡ Some d → KindIs r (Head d)
+  kind_head {d} q = record { is = ap kind_of (heading_is r h q) ∙ head_kind d }
 
-module _ (r : List ℕ) {x : Heading} (p : x ≡ heading_of r) where
-  pub kind_head : {d : Bool} → x ≡ Line1 d → KindIs r (Head d)
-  kind_head {d} q = record { is = ap kind_of (heading_is r p q) ∙ head_kind d }
-
-  module _ (q : x ≡ Other) where
-    no_head : kind_of r ≡ cond (is_line r) body (no_line r)
+  module _ (q : x ≡ None) {z : Bool} (w : z ≡ is_line r) where
+    pub kind_body : z ≡ true → KindIs r Body
     unfolding kind_of
-    no_head = rw (heading_not r p q true, heading_not r p q false)
+    kind_body v = record { is = rw (heading_not r h q true, heading_not r h q false, sym w ∙ v) }
 
-    module _ {z : Bool} (w : z ≡ is_line r) where
-      pub kind_body : z ≡ true → KindIs r Body
-      kind_body v = record { is = no_head ∙ rw (sym w ∙ v) }
-
-      module _ (v : z ≡ false) where
-        no_line_lem : kind_of r ≡ no_line r
-        no_line_lem = no_head ∙ rw (sym w ∙ v)
-
-        pub kind_empty : length r ≡ 0 → KindIs r Broken
-        kind_empty h = record { is = no_line_lem ∙ go r h }
+    pub kind_broken : same (take 1 r) (0x1a ∷ []) ≡ false → z ≡ false → KindIs r Broken
+    unfolding kind_of
+    kind_broken p v = record { is = rw (heading_not r h q true, heading_not r h q false, sym w ∙ v) (go r p) }
+      where
+        go : (r : List ℕ) → same (take 1 r) (0x1a ∷ []) ≡ false
+            → cond (same r end_mark) end (cond (same r (0x1a ∷ head_row true)) (end_head true) (cond (same r (0x1a ∷ head_row false)) (end_head false) broken)) ≡ broken
+        go [] p = refl
+        go (a ∷ r) p = by (eqb a 0x1a) p
           where
-            go : (r : List ℕ) → length r ≡ 0 → no_line r ≡ broken
-            go [] h = refl
-            go (a ∷ r) h = absurd (omega arith)
+            by : (b : Bool) → (b && true) ≡ false
+                → cond (b && same r []) end (cond (b && same r (head_row true)) (end_head true) (cond (b && same r (head_row false)) (end_head false) broken)) ≡ broken
+            by true p = absurd (false≢true (sym p))
+            by false p = refl
 
-        pub kind_other : (length r ≡ 0 → ⊥) → (get_or r 0 0 ≡ 0x1a → ⊥) → KindIs r Broken
-        kind_other h g = record { is = no_line_lem ∙ go r h g }
-          where
-            go : (r : List ℕ) → (length r ≡ 0 → ⊥) → (get_or r 0 0 ≡ 0x1a → ⊥)
-                → no_line r ≡ broken
-            go [] h g = absurd (h refl)
-            go (a ∷ r) h g = rw (ne_eqb a 0x1a g)
-
-        module _ (g : get_or r 0 0 ≡ 0x1a) where
-          pub kind_end : length r ≡ 1 → KindIs r End
-          kind_end h = record { is = no_line_lem ∙ go r g h }
-            where
-              go : (r : List ℕ) → get_or r 0 0 ≡ 0x1a → length r ≡ 1
-                  → no_line r ≡ end
-              go [] g h = absurd (omega arith)
-              go (a ∷ []) g h = rw (eq-eqb a 0x1a g)
-              go (a ∷ b ∷ r) g h = absurd (omega arith)
-
-          module _ (n : length r ≡ 0 → ⊥) (h : length r ≡ 1 → ⊥) where
-            after-mark : kind_of r ≡ behind_mark (take (length r - 1) (drop 1 r))
-            after-mark = no_line_lem ∙ go r g n h
-              where
-                go : (r : List ℕ) → get_or r 0 0 ≡ 0x1a → (length r ≡ 0 → ⊥) → (length r ≡ 1 → ⊥)
-                    → no_line r
-                    ≡ behind_mark (take (length r - 1) (drop 1 r))
-                go [] g n h = absurd (n refl)
-                go (a ∷ []) g n h = absurd (h refl)
-                go (a ∷ b ∷ r) g n h = rw (eq-eqb a 0x1a g, rest_all 1 (a ∷ b ∷ r))
-
-            module _ {c : Heading} (i : c ≡ heading_of (take (length r - 1) (drop 1 r))) where
-              pub kind_end_head : {d : Bool} → c ≡ Line1 d → KindIs r (EndHead d)
-              kind_end_head {d} j = record { is = after-mark ∙ ap behind_mark (heading_is (take (length r - 1) (drop 1 r)) i j) ∙ behind_kind d }
-
-              pub kind-broken : c ≡ Other → KindIs r Broken
-              kind-broken j = record { is = after-mark ∙ rw (heading_not (take (length r - 1) (drop 1 r)) i j true, heading_not (take (length r - 1) (drop 1 r)) i j false) }
-
-pub ruleset kind_laws = (kind_head, kind_body, kind_empty, kind_other, kind_end, kind_end_head, kind-broken)
+pub ruleset kind_laws = (kind_end, kind_end_head, kind_no_end, kind_head, kind_body, kind_broken)

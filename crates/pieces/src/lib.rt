@@ -3,116 +3,95 @@
 // specs/Pieces.antt; what the code answers, in their words: specs/Answers.antt.
 #![tactic(auto)]
 
-ghost use Rattle.std.specs.Prelude.{◌≡◌, ◌+◌, ◌≤◌, ◌<◌, length, drop};
-ghost use Rattle.characters.specs.Text.{text};
+ghost use Rattle.std.specs.Prelude.{◌≡◌, ◌==◌, ◌+◌, ◌≤◌, ◌<◌, ◌&&◌, true, length, drop, position, nat_lt};
+ghost use Rattle.std.specs.List.{fold};
+ghost use Rattle.characters.specs.Text.{is_stop, text};
 ghost use Rattle.characters.specs.Rows.{is_line};
 ghost use Rattle.records.specs.Records.{is_mark};
 ghost use Rattle.division.specs.Marks.{valid_id};
-ghost use Rattle.pieces.specs.Answers.{RowAt, KindIs, RowIs, PlainWhere, Skipped, NumbersIs, MarkIs};
+ghost use Rattle.pieces.specs.Answers.{RowAt, KindIs, RowIs, Skipped, ItemIs, MarkIs};
 
 // "A valid ID is 14 digits and nothing else."
+#[tactic(auto, unfolding(division::specs::Marks::valid_id))]
 pub fn valid_id(id: &[u8]) -> bool
     ensures { result ≡ valid_id id.now }
 {
-    if id.len() != 14 {
-        return false;
-    }
-    digits::all_digits(id)
+    id.len() == 14 && digits::all_digits(id)
 }
 
+// The number of a record 911.
+const NUMBER: &[u8] = b"911";
+
 // "A record 911 is a line that is 911 or begins with 911 and a comma."
+#[tactic(auto, using(crate::proofs::MarkReading::mark_laws))]
 pub fn is_mark(line: &[u8]) -> bool
     ensures { result ≡ is_mark line.now }
 {
-    if lists::byte_at(line, 0) != 0x39 {
-        return false;
+    match line.strip_prefix(NUMBER) {
+        Some([]) => true,
+        Some([next, ..]) => *next == b',',
+        None => false,
     }
-    let e = lists::find_byte(line, 0, 0x2c);
-    let number = b"911";
-    lists::same_bytes(&line[0..e], number)
 }
 
-// n and k of a record 911.
-#[derive(Clone, Copy)]
-pub enum Numbers {
-    Read(usize, usize),
-    Unread,
-}
-
-// n and k, from after the ID on.
-fn read_numbers(line: &[u8], at: usize) -> Numbers
-    requires { at ≤ length line.now }
-    ensures { NumbersIs line.now at result }
+// Where the first comma of a line stands, if it has one.
+fn comma_of(line: &[u8]) -> Option<usize>
+    ensures { result ≡ position (λ b. b == 0x2c) line.now }
 {
-    let c = lists::find_byte(line, at, 0x2c);
-    if line.len() <= c {
-        return Numbers::Unread;
-    }
-    let p = c + 1;
-    let d = lists::find_byte(line, p, 0x2c);
-    if d < line.len() {
-        return Numbers::Unread;
-    }
-    let n = digits::short_value(&line[at..c]);
-    if 999 < n {
-        return Numbers::Unread;
-    }
-    let k = digits::short_value(&line[p..]);
-    if 999 < k {
-        return Numbers::Unread;
-    }
-    Numbers::Read(n as usize, k as usize)
+    line.iter().position(|b| *b == b',')
+}
+
+// The first item of a line with a comma, and what follows the comma.
+#[tactic(auto, using(crate::proofs::MarkReading::item_laws))]
+fn split_item(line: &[u8]) -> Option<(&[u8], &[u8])>
+    ensures { ItemIs line.now result }
+{
+    let comma = comma_of(line)?;
+    Some((&line[..comma], &line[comma + 1..]))
+}
+
+// n and k of a record 911: how many pieces there are, and which of them this is.
+#[derive(Clone, Copy)]
+pub struct Mark {
+    pub count: usize,
+    pub place: usize,
 }
 
 // A record 911 of an ID, n and k, by its four items.
-pub fn read_mark(line: &[u8]) -> Numbers
+pub fn read_mark(line: &[u8]) -> Option<Mark>
     ensures { MarkIs line.now result }
 {
-    let a = lists::find_byte(line, 0, 0x2c);
-    if line.len() <= a {
-        return Numbers::Unread;
+    let (number, rest) = split_item(line)?;
+    if number != NUMBER {
+        return None;
     }
-    let number = b"911";
-    if !lists::same_bytes(&line[0..a], number) {
-        return Numbers::Unread;
+    let (id, rest) = split_item(rest)?;
+    if !valid_id(id) {
+        return None;
     }
-    let i = a + 1;
-    let b = lists::find_byte(line, i, 0x2c);
-    if line.len() <= b {
-        return Numbers::Unread;
-    }
-    if !valid_id(&line[i..b]) {
-        return Numbers::Unread;
-    }
-    let j = b + 1;
-    read_numbers(line, j)
+    let (count, place) = split_item(rest)?;
+    Some(Mark {
+        count: digits::short_value(count)? as usize,
+        place: digits::short_value(place)? as usize,
+    })
 }
 
-// Whether eight bytes are all above 1Ah, so that none ends a text. The loop has no way out, so that the compiler compares them at once.
-fn eight_plain(s: &[u8], at: usize) -> bool
-    requires { at + 8 ≤ length s.now }
-    ensures { PlainWhere s.now at 8 result }
+// Whether eight bytes are all above 1Ah, so that none ends a text. No way out of the fold, so that the compiler compares them at once.
+fn all_plain(eight: &[u8; 8]) -> bool
+    ensures { result ≡ fold (λ plain b. plain && nat_lt 0x1a b) true eight.now }
 {
-    let mut plain = true;
-    let mut j = 0;
-    while j < 8 {
-        if s[at + j] <= 0x1a {
-            plain = false;
-        }
-        j += 1;
-    }
-    plain
+    eight.iter().fold(true, |plain, b| plain & (0x1a < *b))
 }
 
-// Behind as many eights of such bytes as follow a position.
+// Behind as many eights of such bytes as follow a position. Not by chunks_exact, with which a byte costs a sixth more.
 fn skip_plain(s: &[u8], at: usize) -> usize
     requires { at ≤ length s.now }
     ensures { Skipped s.now at result }
 {
     let mut i = at;
-    while 8 <= s.len() - i {
-        if !eight_plain(s, i) {
-            return i;
+    while let Some(eight) = s[i..].first_chunk::<8>() {
+        if !all_plain(eight) {
+            break;
         }
         i += 8;
     }
@@ -124,12 +103,15 @@ pub fn row_end(s: &[u8], at: usize) -> usize
     requires { at < length s.now }
     ensures { RowAt s.now at result }
 {
-    let p = skip_plain(s, at);
-    let i = lists::find_byte(s, p, 0x0a);
-    if i < s.len() {
-        return i + 1;
-    }
-    i
+    let i = lists::find_byte(s, skip_plain(s, at), b'\n');
+    if i < s.len() { i + 1 } else { i }
+}
+
+// Whether a byte ends a text.
+fn is_stop(b: u8) -> bool
+    ensures { result ≡ is_stop b }
+{
+    matches!(b, b'\r' | b'\n' | 0x1a)
 }
 
 // Where the text from a position on ends: at the first 0Dh, 0Ah or 1Ah, or at the end.
@@ -137,30 +119,18 @@ fn text_end(s: &[u8], at: usize) -> usize
     requires { at ≤ length s.now }
     ensures { result ≡ at + length (text (drop at s.now)) }
 {
-    let mut i = skip_plain(s, at);
-    while i < s.len() {
-        let b = s[i];
-        if b == 0x0d {
-            return i;
-        }
-        if b == 0x0a {
-            return i;
-        }
-        if b == 0x1a {
-            return i;
-        }
-        i += 1;
-    }
-    i
+    let from = skip_plain(s, at);
+    (from..s.len()).find(|i| is_stop(s[*i])).unwrap_or(s.len())
 }
 
+const LINE_END: &[u8] = b"\r\n";
+
 // Whether a row is a line with its line end.
+#[tactic(auto, using(crate::proofs::RowLaws::line_laws))]
 fn is_line(r: &[u8]) -> bool
     ensures { result ≡ is_line r.now }
 {
-    let e = text_end(r, 0);
-    let end = b"\r\n";
-    lists::same_bytes(&r[e..], end)
+    &r[text_end(r, 0)..] == LINE_END
 }
 
 // The kinds of rows; true: the direction is 1.
@@ -173,27 +143,23 @@ pub enum Row {
     Broken,
 }
 
+const END_MARK: &[u8] = b"\x1a";
+
+#[tactic(auto, using(crate::proofs::RowLaws::kind_laws))]
 fn row_kind(r: &[u8]) -> Row
     ensures { KindIs r.now result }
 {
-    if let heading::Heading::Line1(provider) = heading::read_heading(r) {
-        return Row::Head(provider);
-    }
-    if is_line(r) {
-        return Row::Body;
-    }
-    if r.len() == 0 {
-        return Row::Broken;
-    }
-    if r[0] != 0x1a {
-        return Row::Broken;
-    }
-    if r.len() == 1 {
-        return Row::End;
-    }
-    match heading::read_heading(&r[1..]) {
-        heading::Heading::Line1(provider) => Row::EndHead(provider),
-        heading::Heading::Other => Row::Broken,
+    match r.strip_prefix(END_MARK) {
+        Some([]) => Row::End,
+        Some(rest) => match heading::read_heading(rest) {
+            Some(provider) => Row::EndHead(provider),
+            None => Row::Broken,
+        },
+        None => match heading::read_heading(r) {
+            Some(provider) => Row::Head(provider),
+            None if is_line(r) => Row::Body,
+            None => Row::Broken,
+        },
     }
 }
 
@@ -209,41 +175,29 @@ fn any_row(s: &[u8], at: usize) -> RowRead
     requires { at < length s.now }
     ensures { RowIs s.now at result }
 {
-    let e = row_end(s, at);
+    let end = row_end(s, at);
     RowRead {
-        end: e,
-        kind: row_kind(&s[at..e]),
+        end,
+        kind: row_kind(&s[at..end]),
     }
 }
 
 // The same. Most rows are a text with its line end, which the text's end tells: they are looked at once. Of these only a row as long as
 // a line 1 that begins with its J is compared with it.
+#[tactic(auto, using(crate::proofs::ScanLaws::text_laws))]
 pub fn row_at(s: &[u8], at: usize) -> RowRead
     requires { at < length s.now }
     ensures { RowIs s.now at result }
 {
     let i = text_end(s, at);
-    if s.len() - i < 2 {
+    if !s[i..].starts_with(LINE_END) {
         return any_row(s, at);
     }
-    let j = i + 1;
-    if s[i] != 0x0d {
-        return any_row(s, at);
-    }
-    if s[j] != 0x0a {
-        return any_row(s, at);
-    }
-    let e = i + 2;
-    if e - at == 13 {
-        if s[at] == 0x4a {
-            return RowRead {
-                end: e,
-                kind: row_kind(&s[at..e]),
-            };
-        }
-    }
-    RowRead {
-        end: e,
-        kind: Row::Body,
-    }
+    let end = i + 2;
+    let kind = if end - at == 13 && s[at] == b'J' {
+        row_kind(&s[at..end])
+    } else {
+        Row::Body
+    };
+    RowRead { end, kind }
 }

@@ -1,5 +1,5 @@
-pub mod Refusals
 pub mod Replies
+pub mod Refusals
 pub mod Results
 pub mod Examples
 pub mod CallContracts

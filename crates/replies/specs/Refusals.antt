@@ -1,9 +1,12 @@
--- Definitions, to be believed.
--- Document 01's number of each refusal, in the order of its table; and of an answer that is a refusal or none. A fault is such a number, 0 for none
--- (lists, specs/Lists.antt), in every definition that finds one.
+-- Vocabulary of the code.
+-- Document 01's number of each refusal that the code names, in the order of its table; and what the code's answers say in these numbers. A fault is
+-- such a number, 0 for none (lists, specs/Lists.antt), in every definition that finds one.
 use Rattle.std.specs.Prelude.{ℕ, Result, Ok, Err}
+use Rattle.replies.specs.declared.reply.Values.{Values}
+use Rattle.replies.specs.declared.refusal.Refused.{Refused as RefusedAt}
 use Rattle.replies.specs.declared.refusal.Refusal.{Refusal}
 use Rattle.replies.specs.declared.refusal.Refusal.TheVariants.{Large, LineEnd, Version, Character, Record, Piece, Items, Empty, Long, Edge, Form, Pair, Place, Missing, Rp, DateOrder, Id, NoCutting, Set, Short, Used}
+use Rattle.replies.specs.Replies.{Answer, Done, Refused}
 
 abbrev pub number_of : Refusal → ℕ
 number_of Large = 1
@@ -32,3 +35,8 @@ number_of Used = 24
 abbrev pub fault_in : {A : Type 0} → Result A Refusal → ℕ
 fault_in (Ok x) = 0
 fault_in (Err r) = number_of r
+
+-- the values of a call's result; or its refusal's number and line
+abbrev pub answer : Result Values RefusedAt → Answer
+answer (Ok v) = Done v.a v.b v.c
+answer (Err r) = Refused (number_of r.refusal) r.line

@@ -25,7 +25,8 @@ pub struct Reply {
 
 impl From<Answer> for Reply {
     ghost use Rattle.std.specs.Prelude.{◌≡◌};
-    ghost use Rattle.replies.specs.Replies.{reply_of, answer};
+    ghost use Rattle.replies.specs.Replies.{reply_of};
+    ghost use Rattle.replies.specs.Refusals.{answer};
 
     ghost from_gives = { λ a r. r ≡ reply_of (answer a) };
 

@@ -1,30 +1,37 @@
--- The ways through `line_at`, each with what stands there. Assumes nothing.
+-- The ways through `line_at`, each with what stands there, and which of two rows is left where no line is. Assumes nothing.
 use Prim.Native.Nat.{ℕ, ◌+◌, ◌-◌, ◌≤◌, ◌<◌}
-use mathlib.Core.Path.{◌≡◌, sym, ap, ◌∙◌, subst}
-use mathlib.Core.Logic.{inl, inr}
+use mathlib.Core.Path.{◌≡◌, refl, sym, ap, ◌∙◌, subst}
+use mathlib.Core.Logic.{◌⊎◌, inl, inr}
+use mathlib.Core.Bool.{Bool, true, false}
+use lib.Dec.{leb}
+use borrow.Author.Tests.{leb-true, leb-false}
 use mathlib.Core.List.{List, [], ◌∷◌}
 use native.Mathlib.Omega.{arith}
-use lib.ListN.{length, take, drop, get_or, length-drop}
+use lib.ListN.{length, drop, get_or, length-drop}
 use lib.Seq.{get_or-drop}
-use Rattle.std.specs.Prelude.{Option, Some, None, Result, Ok, Err}
+use Rattle.std.specs.Prelude.{Some, None, Ok, Err}
 use Rattle.lists.specs.Searching.{part}
 use Rattle.lists.proofs.Cuts.{drop_end, last_on, rest_all, up_to_le}
 use Rattle.scanning.specs.declared.lines.Scan.{Scan}
-use Rattle.scanning.specs.declared.lines.Broken.{Broken}
 use Rattle.characters.specs.Text.{is_stop, text}
 use Rattle.characters.specs.Scanning.{comma_count}
-use Rattle.characters.specs.Rows.{rows}
-use Rattle.scanning.specs.Scans.{Stops, Sixteen, ScanOf, LineOf}
+use Rattle.characters.specs.Rows.{rows, end_mark}
+use Rattle.scanning.specs.Scans.{Stops, Sixteen, ScanOf, Over, LineOf}
 use Rattle.characters.proofs.RowLaws.{broken, text_part, whole_at}
+
+-- where no line is left, one of two is true of the rows
+pub over_rows : {s : List ℕ} {at : ℕ} → Over s at → (rows (drop at s) ≡ []) ⊎ (rows (drop at s) ≡ end_mark ∷ [])
+over_rows {s} {at} o = go (leb (length s) at) refl
+  where
+    go : (b : Bool) → leb (length s) at ≡ b → (rows (drop at s) ≡ []) ⊎ (rows (drop at s) ≡ end_mark ∷ [])
+    go true e = inl (o.nothing (leb-true (length s) at e))
+    go false e = inr (o.mark (leb-false (length s) at e))
 
 module _ (s : List ℕ) (at : ℕ) (stops : List ℕ) where
   pub line_over : Sixteen stops → length s ≤ at → LineOf s at stops (Ok None)
-  line_over z h = record { means = inl (ap rows (drop_end s at h)); size = z }
+  line_over z h = record { means = record { nothing = λ _. ap rows (drop_end s at h); mark = λ k. absurd (omega arith) }; size = z }
 
   module _ {r : Scan} (k : at < length s) (v : ScanOf s at stops r) where
-    e_low : at ≤ r.end
-    e_low = omega (arith, v.ends)
-
     pub line_range : r.end ≤ length s
     line_range = omega (arith, v.ends, up_to_le is_stop (drop at s), length-drop at s)
 
@@ -64,7 +71,10 @@ module _ (s : List ℕ) (at : ℕ) (stops : List ℕ) where
     module _ (h : length (part s r.end (length s)) < 2) where
       pub line_mark : 1 ≤ length (part s r.end (length s)) → get_or (part s r.end (length s)) 0 0 ≡ 0x1a → r.end ≡ at → LineOf s at stops (Ok None)
       line_mark l b x = record {
-        means = inr (ap rows (last_on s at 0 k (omega (arith, rest_length)) ∙ ap (λ (j : ℕ). get_or s j 0 ∷ []) (sym x) ∙ ap (λ (j : ℕ). j ∷ []) (sym rest_first ∙ b)));
+        means = record {
+          nothing = λ n. absurd (omega arith);
+          mark = λ _. ap rows (last_on s at 0 k (omega (arith, rest_length)) ∙ ap (λ (j : ℕ). get_or s j 0 ∷ []) (sym x) ∙ ap (λ (j : ℕ). j ∷ []) (sym rest_first ∙ b));
+        };
         size = v.size;
       }
 

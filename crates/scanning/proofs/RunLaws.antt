@@ -11,13 +11,13 @@ use native.Mathlib.Omega.{arith}
 use borrow.Author.Tests.{ne_eqb, eq-eqb}
 use lib.Dec.{eqb}
 use lib.ListN.{length, take, drop, get_or, set, length-append, take-append-drop}
-use Rattle.std.specs.Prelude.{Option, Some, None, is_some}
+use Rattle.std.specs.Prelude.{Option, Some, None}
 use Rattle.std.proofs.lemmas.List.{take_all}
 use lib.Seq.{drop-drop}
 use Rattle.lists.specs.Searching.{part}
 use Rattle.lists.proofs.Tests.{below, below_at}
 use Rattle.lists.proofs.Parts.{part_length, part_none, part_join}
-use Rattle.lists.proofs.Cuts.{drop_step, drop_end, two_on, last_on}
+use Rattle.lists.proofs.Cuts.{drop_step, two_on, last_on}
 use Rattle.characters.specs.Cells.{full_row, part_row, allowed, cell_script, is_one, trail_script, pair_script, is_char, is_one_byte}
 use Rattle.characters.specs.declared.Char.{Char}
 use Rattle.characters.specs.declared.Char.TheVariants.{One, Hiragana, Katakana, Either, Other, Bad}
@@ -26,7 +26,7 @@ use Rattle.characters.specs.Scanning.{is_pair, clean, char_of, char_at, bytes_of
 use Rattle.scanning.specs.declared.runs.Scripts.{Scripts}
 use Rattle.scanning.specs.declared.runs.Run.{Run}
 use Rattle.scanning.specs.Scans.{ScanOf, RunOf, RunEnds, Bytes, SumFits, sum_of, Counted, Finished, ToldOf}
-use Rattle.characters.proofs.BytesLaws.{one_first, bytes_on, bytes_most}
+use Rattle.characters.proofs.BytesLaws.{bytes_on, bytes_most}
 use Rattle.scanning.proofs.TextLaws.{one_char, no_comma, lead_from_81, trail_from_40, lead_no_one, kept, Scanned, scan_start, scan_comma, scan_more, scan_stop, scan_bad, scan_end}
 use Rattle.characters.proofs.CharLaws.{chars_clean, pair_parts}
 use Rattle.characters.proofs.ScriptLaws.{never_one, beq_is}
@@ -65,38 +65,56 @@ text_on (a ∷ x) y e = go (is_stop a) refl (text_on x y) e
     go true p i e = absurd (false≢true e)
     go false p i e = rw p (ap (λ (l : List ℕ). a ∷ l) (i e))
 
+-- ---- characters from a place to another, commas too
+
+record CharsAt (s : List ℕ) (a e : ℕ) : Type 0 where
+  low : a ≤ e
+  high : e ≤ length s
+  chars : all_chars (part s a e) ≡ true
+
+chars_join : {s : List ℕ} {a b e : ℕ} → CharsAt s a b → CharsAt s b e → CharsAt s a e
+chars_join {s} {a} {b} {e} v w = record {
+  low = omega (arith, v.low, w.low);
+  high = w.high;
+  chars = ap all_chars (sym (part_join s a b e v.low w.low)) ∙ chars_on (part s a b) (part s b e) v.chars ∙ w.chars;
+}
+
 -- ---- runs
+
+run_chars : {s : List ℕ} {a e : ℕ} → RunOf s a e → CharsAt s a e
+run_chars v = record { low = v.low; high = v.high; chars = v.chars }
 
 pub run_none : (s : List ℕ) (a : ℕ) → a ≤ length s → RunOf s a a
 run_none s a h = record { low = omega arith; high = h; chars = ap all_chars (part_none s a); plain = ap comma_count (part_none s a) }
 
 pub run_join : {s : List ℕ} {a b e : ℕ} → RunOf s a b → RunOf s b e → RunOf s a e
 run_join {s} {a} {b} {e} v w =
-    let j : part s a b ++ part s b e ≡ part s a e = part_join s a b e v.low w.low in
+    let c : CharsAt s a e = chars_join (run_chars v) (run_chars w) in
     record {
-      low = omega (arith, v.low, w.low);
-      high = w.high;
-      chars = ap all_chars (sym j) ∙ chars_on (part s a b) (part s b e) v.chars ∙ w.chars;
-      plain = ap comma_count (sym j) ∙ omega (arith, count_on (part s a b) (part s b e), v.plain, w.plain);
+      low = c.low;
+      high = c.high;
+      chars = c.chars;
+      plain = ap comma_count (sym (part_join s a b e v.low w.low)) ∙ omega (arith, count_on (part s a b) (part s b e), v.plain, w.plain);
     }
 
 -- a character of one byte, and one of two
-pub run_byte : {s : List ℕ} {a i : ℕ} → RunOf s a i → i < length s → is_one (get_or s i 0) ≡ true → eqb (get_or s i 0) 0x2c ≡ false → RunOf s a (i + 1)
-run_byte {s} {a} {i} v h o e =
-    let z : i + 1 - i ≡ 1 = omega arith in
-    let p : part s i (i + 1) ≡ get_or s i 0 ∷ [] = rw (z, drop_step s i 0 h) in
-    run_join v (record { low = omega arith; high = omega arith; chars = rw p o; plain = rw p (simp e) })
+part_one : (s : List ℕ) (i : ℕ) → i < length s → part s i (i + 1) ≡ get_or s i 0 ∷ []
+part_one s i h = let z : i + 1 - i ≡ 1 = omega arith in rw (z, drop_step s i 0 h) refl
 
-run_pair : {s : List ℕ} {a i : ℕ} → RunOf s a i → i + 1 < length s → is_pair (get_or s i 0) (get_or s (i + 1) 0) ≡ true → RunOf s a (i + 2)
+part_two : (s : List ℕ) (i : ℕ) → i + 1 < length s → part s i (i + 2) ≡ get_or s i 0 ∷ get_or s (i + 1) 0 ∷ []
+part_two s i h = let z : i + 2 - i ≡ 2 = omega arith in rw (z, drop_step s i 0 (omega arith), drop_step s (i + 1) 0 h) refl
+
+pub run_byte : {s : List ℕ} {a i : ℕ} → RunOf s a i → i < length s → is_one (get_or s i 0) ≡ true → eqb (get_or s i 0) 0x2c ≡ false → RunOf s a (i + 1)
+run_byte {s} {a} {i} v h o e = run_join v (record { low = omega arith; high = omega arith; chars = rw (part_one s i h) o; plain = rw (part_one s i h) (simp e) })
+
+pub run_pair : {s : List ℕ} {a i : ℕ} → RunOf s a i → i + 1 < length s → is_pair (get_or s i 0) (get_or s (i + 1) 0) ≡ true → RunOf s a (i + 2)
 run_pair {s} {a} {i} v h o =
-    let z : i + 2 - i ≡ 2 = omega arith in
-    let p : part s i (i + 2) ≡ get_or s i 0 ∷ get_or s (i + 1) 0 ∷ [] = rw (z, drop_step s i 0 (omega arith), drop_step s (i + 1) 0 h) in
     let q = pair_parts (get_or s i 0) (get_or s (i + 1) 0) o in
     run_join v (record {
       low = omega arith;
       high = omega arith;
-      chars = rw p (simp (lead_no_one (get_or s i 0) q.0, o));
-      plain = rw p (simp (no_comma (get_or s i 0) (omega (arith, lead_from_81 (get_or s i 0) q.0)), no_comma (get_or s (i + 1) 0) (trail_from_40 (get_or s (i + 1) 0) q.1)));
+      chars = rw (part_two s i h) (simp (lead_no_one (get_or s i 0) q.0, o));
+      plain = rw (part_two s i h) (simp (no_comma (get_or s i 0) (omega (arith, lead_from_81 (get_or s i 0) q.0)), no_comma (get_or s (i + 1) 0) (trail_from_40 (get_or s (i + 1) 0) q.1)));
     })
 
 -- ---- one character more
@@ -116,33 +134,7 @@ two_is a b c n e = go (is_one a) refl e
     go true p e = absurd (n e)
     go false p e = (p, e)
 
--- ---- characters from a place to another, commas too
-
-record CharsAt (s : List ℕ) (a e : ℕ) : Type 0 where
-  low : a ≤ e
-  high : e ≤ length s
-  chars : all_chars (part s a e) ≡ true
-
-run_chars : {s : List ℕ} {a e : ℕ} → RunOf s a e → CharsAt s a e
-run_chars v = record { low = v.low; high = v.high; chars = v.chars }
-
-chars_none : (s : List ℕ) (a : ℕ) → a ≤ length s → CharsAt s a a
-chars_none s a h = run_chars (run_none s a h)
-
-chars_join : {s : List ℕ} {a b e : ℕ} → CharsAt s a b → CharsAt s b e → CharsAt s a e
-chars_join {s} {a} {b} {e} v w = record {
-  low = omega (arith, v.low, w.low);
-  high = w.high;
-  chars = ap all_chars (sym (part_join s a b e v.low w.low)) ∙ chars_on (part s a b) (part s b e) v.chars ∙ w.chars;
-}
-
-part_one : (s : List ℕ) (i : ℕ) → i < length s → part s i (i + 1) ≡ get_or s i 0 ∷ []
-part_one s i h = let z : i + 1 - i ≡ 1 = omega arith in rw (z, drop_step s i 0 h) refl
-
-part_two : (s : List ℕ) (i : ℕ) → i + 1 < length s → part s i (i + 2) ≡ get_or s i 0 ∷ get_or s (i + 1) 0 ∷ []
-part_two s i h = let z : i + 2 - i ≡ 2 = omega arith in rw (z, drop_step s i 0 (omega arith), drop_step s (i + 1) 0 h) refl
-
--- the bytes that the characters of a script take
+-- the bytes that the characters of a script take, with those of a run or of a character more
 bytes_join : (p : Char → Bool) {s : List ℕ} {a b e : ℕ} → CharsAt s a b → b ≤ e → bytes_of p (part s a e) ≡ bytes_of p (part s a b) + bytes_of p (part s b e)
 bytes_join p {s} {a} {b} {e} v h = ap (bytes_of p) (sym (part_join s a b e v.low h)) ∙ bytes_on p (part s a b) (part s b e) v.chars
 

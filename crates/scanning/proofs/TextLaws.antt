@@ -250,5 +250,3 @@ module _ {s : List ℕ} {at : ℕ} {a₀ a : List ℕ} {i : ℕ} {good : Bool} {
             one-go₂ : (x : Bool) → cond x One (pair_script a b) ≡ Bad → x ≡ false
             one-go₂ true e = cc
             one-go₂ false e = refl
-
-pub ruleset scan_laws = (scan_start, scan_comma, scan_more, scan_stop, scan_bad, scan_end)

@@ -46,7 +46,11 @@ pub record Bytes (l : List ℕ) (k : Scripts) : Type 0 where
   pub katakana : k.katakana ≡ bytes_of is_own_katakana l
   pub either : k.either ≡ bytes_of is_either l
 
--- two such counts whose sums fit, and the sums
+-- and from a to e
+abbrev pub Counted : List ℕ → ℕ → ℕ → Scripts → Type 0
+Counted s a e k = Bytes (part s a e) k
+
+-- counts whose sums fit, and the sums
 pub record SumFits (a b : Scripts) : Type 0 where
   pub one : a.one + b.one < 2 ^ 64
   pub hiragana : a.hiragana + b.hiragana < 2 ^ 64
@@ -55,10 +59,6 @@ pub record SumFits (a b : Scripts) : Type 0 where
 
 abbrev pub sum_of : Scripts → Scripts → Scripts
 sum_of a b = record { one = a.one + b.one; hiragana = a.hiragana + b.hiragana; katakana = a.katakana + b.katakana; either = a.either + b.either }
-
--- and from a to e
-abbrev pub Counted : List ℕ → ℕ → ℕ → Scripts → Type 0
-Counted s a e k = Bytes (part s a e) k
 
 -- a run up to i, which is the last byte's place or past it, with the scripts k, is the run r
 pub record Finished (s : List ℕ) (i : ℕ) (k : Scripts) (r : Run) : Type 0 where
@@ -75,10 +75,15 @@ pub record ScannedLine (s : List ℕ) (at : ℕ) (stops : List ℕ) (e : ℕ) (g
   pub commas : n ≡ comma_count (part s at e)
   pub places : Stops (part s at e) stops
 
--- the line that begins at a position; none, where no row is left but the end mark; or the first row is broken
+-- no line is left from a position on: nothing at the end of the bytes, before it 1Ah alone
+pub record Over (s : List ℕ) (at : ℕ) : Type 0 where
+  pub nothing : length s ≤ at → rows (drop at s) ≡ []
+  pub mark : at < length s → rows (drop at s) ≡ end_mark ∷ []
+
+-- the line that begins at a position; none, where no line is left; or the first row is broken
 abbrev pub LineMeans : List ℕ → ℕ → List ℕ → Result (Option Scan) Broken → Type 0
 LineMeans s at stops (Ok (Some r)) = ScannedLine s at stops r.end r.good r.commas
-LineMeans s at stops (Ok None) = (rows (drop at s) ≡ []) ⊎ (rows (drop at s) ≡ end_mark ∷ [])
+LineMeans s at stops (Ok None) = Over s at
 LineMeans s at stops (Err e) = BrokenRow (rows (drop at s))
 
 pub record LineOf (s : List ℕ) (at : ℕ) (stops : List ℕ) (r : Result (Option Scan) Broken) : Type 0 where

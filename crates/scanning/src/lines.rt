@@ -60,6 +60,7 @@ pub struct Broken;
 
 // The line that begins at a position: its text, which 0Dh 0Ah follow, with the places of its commas, from its beginning; or none, where nothing
 // is left, or 1Ah alone.
+#[tactic(auto, using(crate::proofs::LineLaws::line_laws))]
 pub fn line_at(stops: &mut [usize; 16], s: &[u8], at: usize) -> Result<Option<Scan>, Broken>
     ensures { LineOf s.now at stops.new result }
 {
@@ -67,7 +68,8 @@ pub fn line_at(stops: &mut [usize; 16], s: &[u8], at: usize) -> Result<Option<Sc
         return Ok(None);
     }
     let text = scan_text(stops, s, at);
-    match &s[text.end..] {
+    let after = &s[text.end..];
+    match after {
         [0x0d, 0x0a, ..] => Ok(Some(text)),
         [0x1a] if text.end == at => Ok(None),
         _ => Err(Broken),

@@ -1,4 +1,4 @@
-// Characters one after another.
+// Characters one after another, and the bytes that those of each script take.
 ghost use Rattle.std.specs.Prelude.{◌≡◌, ◌&&◌, ◌+◌, ◌≤◌, eqb, length};
 ghost use Rattle.characters.specs.Text.{all_chars};
 ghost use Rattle.scanning.specs.Scans.{RunOf, RunEnds, SumFits, sum_of, Counted, Finished, ToldOf};

@@ -3,8 +3,8 @@ use Rattle.checking.proofs.CheckLaws.{Reading}
 use Rattle.index.proofs.FillLaws.{Filling}
 use Rattle.index.proofs.read_batch.Given as goal
 
-abbrev pub invariant-loop-reader : goal.invariant-loop-reader
-invariant-loop-reader l = Reading l.initial.from.st l.s l.initial.from.at l.reader.st l.reader.at × Filling l.initial.from l.s l.reader l.entries l.next
+abbrev pub invariant-loop-next : goal.invariant-loop-next
+invariant-loop-next l = Reading l.initial.reader.st l.s l.initial.reader.at l.reader.st l.reader.at × Filling l.initial.reader l.s l.reader l.entries l.next
 
-abbrev pub decreases-loop-reader : goal.decreases-loop-reader
-decreases-loop-reader l = length l.s - l.reader.at
+abbrev pub decreases-loop-next : goal.decreases-loop-next
+decreases-loop-next l = length l.s - l.reader.at

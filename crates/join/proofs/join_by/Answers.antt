@@ -1,19 +1,20 @@
 use Rattle.std.proofs.Common.{rules}
-use Rattle.join.proofs.JoinLaws.{join_laws}
+use Rattle.std.proofs.lemmas.Result.{err_from_is_err_and}
+use Rattle.join.proofs.CallLaws.{join_laws}
 use Rattle.join.proofs.join_by.Goals as goal
 
-pub returns-then-out-t : goal.returns-then-out-t
-returns-then-out-t c = search (rules, join_laws)
+pub returns-in_err-end : goal.returns-in_err-end
+returns-in_err-end c =
+    let p = err_from_is_err_and c.from_residual.result c.from_residual.ensures.1 in
+    rw (p.1, p.2) (search (rules, join_laws, c.in_err-end.ensures))
 
-pub returns-in-No : goal.returns-in-No
-returns-in-No c = search (rules, join_laws)
+pub returns-in_err-check : goal.returns-in_err-check
+returns-in_err-check c =
+    let p = err_from_is_err_and c.from_residual-in_err-check.result c.from_residual-in_err-check.ensures.1 in
+    rw (p.1, p.2) (search (rules, join_laws, c.in_ok-end.ensures, c.in_err-check.ensures))
 
-pub returns-in-Large : goal.returns-in-Large
-returns-in-Large c = search (rules, join_laws)
+pub returns-then-out-end : goal.returns-then-out-end
+returns-then-out-end c = search (rules, join_laws, c.in_ok-end.ensures, c.in_ok-check.ensures)
 
-pub returns-in-Refused : goal.returns-in-Refused
-returns-in-Refused c = search (rules, join_laws)
-
--- OLD: join_written _ c.requires c.join_into.ensures c.t-1.given.1 c.check.ensures _ c.enum_told-in-Done-1.given.1 c.put_all_lem.ensures
-pub returns-else-out-t : goal.returns-else-out-t
-returns-else-out-t c = search (rules, join_laws)
+pub returns : goal.returns
+returns c = search (rules, join_laws, c.in_ok-end.ensures, c.in_ok-check.ensures)

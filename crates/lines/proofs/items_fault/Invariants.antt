@@ -1,9 +1,7 @@
-use Prim.Native.Nat.{◌-◌}
+use Rattle.records.specs.Split.{items_of}
+use Rattle.lines.specs.Items.{text_of}
 use Rattle.lines.proofs.WalkLaws.{Walk}
 use Rattle.lines.proofs.items_fault.Given as goal
 
-abbrev pub invariant-loop-k : goal.invariant-loop-k
-invariant-loop-k l = Walk l.codes l.provider l.place l.s l.n l.end l.k l.j
-
-abbrev pub decreases-loop-k : goal.decreases-loop-k
-decreases-loop-k l = l.end - l.k
+abbrev pub invariant-loop-j : goal.invariant-loop-j
+invariant-loop-j l = Walk l.provider l.row (items_of (text_of l.items)) l.j

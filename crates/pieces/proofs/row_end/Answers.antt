@@ -5,5 +5,5 @@ use Rattle.pieces.proofs.row_end.Goals as goal
 pub returns-then-i-s : goal.returns-then-i-s
 returns-then-i-s c = search (rules, feed_laws)
 
-pub returns : goal.returns
-returns c = search (rules, feed_laws)
+pub returns-else-i-s : goal.returns-else-i-s
+returns-else-i-s c = search (rules, feed_laws)

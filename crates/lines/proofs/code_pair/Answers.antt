@@ -1,6 +1,0 @@
-use Rattle.std.proofs.Common.{rules}
-use Rattle.lines.proofs.PairLaws.{code_is}
-use Rattle.lines.proofs.code_pair.Goals as goal
-
-pub returns : goal.returns
-returns c = search (rules, code_is)
