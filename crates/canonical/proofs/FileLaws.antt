@@ -10,18 +10,18 @@ use mir.Val.{Fits}
 use mir.Syntax.{w32}
 use lib.Dec.{eqb}
 use lib.ListN.{length, take, drop, length-append}
-use lib.Seq.{sets, length-sets, drop-drop, drop_at}
-use Rattle.std.specs.Prelude.{Option, Some, None, Result, Ok, Err}
+use lib.Seq.{sets, drop-drop, drop_at}
+use Rattle.std.specs.Prelude.{Some, None, Ok, Err}
 use Rattle.lists.specs.Lists.{Res, ok, refused}
 use Rattle.lists.specs.Searching.{part}
 use Rattle.lists.proofs.Parts.{part_length}
 use Rattle.characters.specs.Rows.{rows, flat, line_end}
 use Rattle.characters.specs.Scanning.{WholeLine}
 use Rattle.characters.proofs.RowLaws.{flat_rows}
-use Rattle.records.specs.Records.{Record, record_of, line_fault, write}
+use Rattle.records.specs.Records.{Record, record_of, write}
 use Rattle.records.proofs.LineLaws.{line_good}
 use Rattle.order.specs.declared.State.{State}
-use Rattle.order.specs.State.{Step, Fault, On, start, finish_of}
+use Rattle.order.specs.State.{On, start, finish_of}
 use Rattle.replies.specs.declared.refusal.Refusal.{Refusal as Word}
 use Rattle.replies.specs.declared.refusal.Refused.{Refused as RefusedAtLine}
 use Rattle.replies.specs.Refusals.{number_of}
@@ -34,7 +34,6 @@ use Rattle.notebook.specs.Canonical.{record_row, record_rows}
 use Rattle.notebook.proofs.Placing.{Placed, placed, place_number}
 use Rattle.lines.specs.Line.{LineIn}
 use Rattle.checking.specs.Walking.{Closing}
-use Rattle.checking.specs.Opening.{Behind}
 use Rattle.checking.specs.declared.Turn.{Turn}
 use Rattle.checking.specs.Turns.{RefusedAt, broken, faulty, TurnOf}
 use Rattle.checking.proofs.LineFacts.{whole_line, whole_length, records_over, records_broken, records_on}
@@ -155,7 +154,7 @@ module _ {provider : Bool} {s : List ℕ} {from : ℕ} {d : List ℕ} {st : Stat
     running_stopped {x} w = refusal (go w.means.0 ∙ ap (refused (number_of x.refusal)) (sym w.means.1))
       where
         go : RefusedAt st s at stops (number_of x.refusal) → records_from st (rows (drop at s)) ≡ refused (number_of x.refusal) (st.line + 1)
-        go (broken b l e) = records_broken st l ∙ ap (λ (j : ℕ). refused j (st.line + 1)) (sym e)
+        go (broken l e) = records_broken st l ∙ ap (λ (j : ℕ). refused j (st.line + 1)) (sym e)
         go (faulty e k y) = records_on y.line st ∙ rw (← y.step)
 
     module _ {t : Turn} (w : TurnOf st s at stops (Ok (Some t))) where

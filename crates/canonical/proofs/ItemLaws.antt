@@ -1,5 +1,5 @@
 -- An item in its one spelling: what is written for each kind. Assumes nothing.
-use Prim.Native.Nat.{ℕ, ◌+◌, ◌-◌, ◌≤◌, ◌<◌}
+use Prim.Native.Nat.{ℕ, ◌-◌, ◌≤◌, ◌<◌}
 use native.Mathlib.Omega.{arith}
 use mathlib.Core.Path.{◌≡◌, refl, sym, ap, ◌∙◌}
 use mathlib.Core.Bool.{Bool, true, false, cond, not, ◌&&◌, ◌||◌, false≢true}
@@ -27,7 +27,7 @@ use Rattle.items.specs.declared.kinds.Kind.TheVariants.{Text, OneWidth, Kana, Co
 use Rattle.items.specs.Kinds.{kind_of}
 use Rattle.buffers.specs.Buffers.{Room, Wrote}
 use Rattle.buffers.proofs.Runs.{then}
-use Rattle.canonical.specs.Writing.{postal_bytes, number_bytes, day_bytes, item_bytes, Spellable, one_spelling, OwnUnless, Stays}
+use Rattle.canonical.specs.Writing.{postal_bytes, number_bytes, day_bytes, item_bytes, Spellable, one_spelling, OwnUnless}
 use Rattle.calendar.proofs.EraForm.{not_date, form_is}
 use Rattle.calendar.proofs.Steps.{none_else}
 

@@ -1,13 +1,13 @@
 -- A line in its one spelling: its number, and its items one after another. Assumes nothing.
-use Prim.Native.Nat.{ℕ, suc, ◌+◌, ◌-◌, ◌≤◌, ◌<◌}
+use Prim.Native.Nat.{ℕ, ◌+◌, ◌-◌, ◌≤◌, ◌<◌}
 use native.Mathlib.Omega.{arith}
 use mathlib.Core.Path.{◌≡◌, refl, sym, ap, ◌∙◌, subst}
 use mathlib.Core.Bool.{Bool, true, false}
 use mathlib.Core.List.{List, [], ◌∷◌, ◌++◌, map, append-nil}
-use lib.ListN.{length, get_or, take, drop, length-append, length-map}
+use lib.ListN.{length, get_or, take, drop, length-append}
 use lib.Dec.{leb}
 use lib.Seq.{sets, length-sets}
-use borrow.Author.Tests.{leb-true}
+use borrow.Author.Tests.{le-leb, leb-true}
 use Rattle.std.specs.Prelude.{unwrap_or}
 use Rattle.lists.specs.Searching.{part}
 use Rattle.lists.proofs.Tests.{or_zero_lem}
@@ -15,7 +15,7 @@ use Rattle.lists.proofs.Cuts.{drop_step, drop_end}
 use Rattle.lists.proofs.Parts.{part_length, part_part}
 use Rattle.digits.specs.Short.{plain_number}
 use Rattle.characters.specs.Scanning.{comma_count}
-use Rattle.records.specs.Table.{Kind, Item, table}
+use Rattle.records.specs.Table.{Kind, Item, Row, table}
 use Rattle.records.specs.Split.{items_of, joined}
 use Rattle.records.specs.Items.{write_value}
 use Rattle.records.specs.Records.{item_value, item_fault, items_fault, items_value, table_row, record_from, record_of, write}
@@ -23,9 +23,10 @@ use Rattle.records.proofs.LineLaws.{row_spelled, Good, line_good}
 use Rattle.items.specs.declared.kinds.Kind.{Kind as CodeKind}
 use Rattle.items.specs.Kinds.{kind_of}
 use Rattle.table.specs.Rows.{paper_row}
+use Rattle.table.proofs.TableLaws.{all_rows, row_of_number, listed_row}
 use Rattle.lines.specs.Line.{comma_at, LineIn, item_at}
 use Rattle.lines.proofs.SplitLaws.{items_count, comma_le, comma_last, number_part}
-use Rattle.lines.proofs.RowLaws.{row_of_number, row_number, few_items}
+use Rattle.lines.proofs.RowLaws.{paper_number}
 use Rattle.buffers.specs.Buffers.{Room, Wrote}
 use Rattle.buffers.proofs.Runs.{carry}
 use Rattle.canonical.specs.declared.Run.{Run}
@@ -201,6 +202,17 @@ values_tail h [] ss = sym (append-nil h)
 values_tail h (i ∷ is) [] = sym (append-nil h)
 values_tail h (i ∷ is) (s ∷ ss) = ap (λ (x : List ℕ). h ++ 0x2c ∷ x) (values_tail (write_value (item_value i s)) is ss)
 
+few_row : Row → Bool
+few_row r = leb (length r.items) 15
+
+few_rows : all_rows few_row table ≡ true
+unfolding all_rows table few_row
+few_rows = refl
+
+few_items : (n : ℕ) → 1 ≤ (paper_row n).number → length (paper_row n).items ≤ 15
+unfolding few_row
+few_items n l = leb-true _ _ (listed_row few_row table n few_rows (le-leb 1 _ l))
+
 -- a line without a fault by its first item and its record's row
 record Parts (number : ℕ) (s : List ℕ) : Type 0 where
   head : List ℕ
@@ -219,7 +231,7 @@ parts {number} {s} v =
     let m : ℕ = unwrap_or (plain_number h) 0 in
     let t : table_row h ≡ paper_row m = row_of_number h in
     let l : 1 ≤ (paper_row m).number = leb-true 1 _ (ap (λ x. leb 1 x.number) (sym t) ∙ g.sound.listed) in
-    let n : number ≡ m = v.number ∙ ap (λ (x : List (List ℕ)). (record_from x).number) g.cut ∙ ap (λ x. x.number) t ∙ row_number m l in
+    let n : number ≡ m = v.number ∙ ap (λ (x : List (List ℕ)). (record_from x).number) g.cut ∙ ap (λ x. x.number) t ∙ paper_number m l in
     let i : (table_row h).items ≡ (paper_row number).items = ap (λ x. x.items) t ∙ ap (λ (x : ℕ). (paper_row x).items) (sym n) in
     record {
       head = h;

@@ -11,7 +11,6 @@ use Rattle.lists.specs.Searching.{part}
 use Rattle.lists.proofs.Parts.{part_length, part_none, part_more, part_join, part_part}
 use Rattle.characters.specs.Scanning.{comma_count}
 use Rattle.records.specs.Table.{Kind}
-use Rattle.records.specs.Split.{items_of}
 use Rattle.lines.specs.Line.{comma_at, LineIn, item_at, ItemAt}
 use Rattle.lines.proofs.SplitLaws.{comma_le, comma_next, item_part, comma_in}
 use Rattle.canonical.specs.declared.Run.{Run}

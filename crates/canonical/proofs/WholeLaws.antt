@@ -6,7 +6,7 @@ use mathlib.Core.Bool.{Bool}
 use mathlib.Core.List.{List, ◌++◌}
 use lib.ListN.{length, take, drop}
 use lib.Seq.{sets, length-sets, length-take-le}
-use Rattle.std.specs.Prelude.{Result, Ok, Err}
+use Rattle.std.specs.Prelude.{Ok, Err}
 use Rattle.lists.specs.Lists.{Res, ok, refused, map_res}
 use Rattle.lists.specs.Searching.{part}
 use Rattle.characters.specs.Rows.{rows, flat}
@@ -14,7 +14,7 @@ use Rattle.records.specs.Records.{Record}
 use Rattle.order.specs.State.{start}
 use Rattle.replies.specs.declared.refusal.Refused.{Refused as RefusedAtLine}
 use Rattle.replies.specs.Refusals.{number_of}
-use Rattle.replies.specs.Replies.{Answer, Done, Refused, answer}
+use Rattle.replies.specs.Replies.{Answer, Done, Refused}
 use Rattle.replies.specs.Results.{writes}
 use Rattle.replies.specs.CallContracts.{Gives}
 use Rattle.replies.proofs.Results.{gives_refusal, gives_20, gives_written}
@@ -26,7 +26,7 @@ use Rattle.notebook.proofs.Arranging.{arrange_as_is}
 use Rattle.checking.specs.declared.Opening.{Opening}
 use Rattle.checking.specs.Opening.{OpensAt, OpeningOf}
 use Rattle.checking.proofs.OpenLaws.{opening_behind}
-use Rattle.canonical.specs.Writing.{Output, poured, Poured, MadeMeans, MadeOf, Holds}
+use Rattle.canonical.specs.Writing.{Output, poured, Poured, MadeOf, Holds}
 
 -- ---- the array
 

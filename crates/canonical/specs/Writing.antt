@@ -1,7 +1,7 @@
 -- Vocabulary of the code.
 -- The canonical file as the code writes it: runs of kept bytes and the items between them that are spelled anew, and what is left of a
 -- file from a row on.
-use Rattle.std.specs.Prelude.{ℕ, ◌+◌, ◌-◌, ◌≤◌, ◌≡◌, Bool, cond, true, false, List, [], ◌∷◌, ◌++◌, eqb, length, get_or, take, map}
+use Rattle.std.specs.Prelude.{ℕ, ◌+◌, ◌-◌, ◌≤◌, ◌≡◌, Bool, cond, true, false, List, [], ◌∷◌, ◌++◌, eqb, length, get_or, take}
 use Rattle.std.proofs.lemmas.List.Edits.{sets}
 use Rattle.lists.specs.Lists.{empty, Res, ok, refused}
 use Rattle.lists.specs.Searching.{part}

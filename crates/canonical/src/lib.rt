@@ -16,7 +16,7 @@ ghost use Rattle.notebook.specs.Notebook.{records_from};
 ghost use Rattle.notebook.specs.Canonical.{canonical_file, canonical_result};
 ghost use Rattle.checking.specs.Opening.{Behind};
 ghost use Rattle.checking.specs.Walking.{Closing};
-ghost use Rattle.replies.specs.Replies.{answer};
+ghost use Rattle.replies.specs.Refusals.{answer};
 ghost use Rattle.replies.specs.CallContracts.{Gives};
 ghost use Rattle.canonical.specs.Writing.{postal_bytes, number_bytes, day_bytes, item_bytes, Spellable, OwnUnless, Stays, Lies, Ready, Passed};
 ghost use Rattle.canonical.specs.Writing.{spots_of, spot_of, Sound, ItemOf, begins, ends, bytes_of, poured, Poured, closing, Holds, MadeOf};
