@@ -76,10 +76,6 @@ pub ruleset prefecture_laws = (prefecture_none, prefecture_some)
 
 -- ---- W and Q
 
-pub fraction_none : (f : ℕ) (s : List ℕ) → length s ≡ 0 → true ≡ fraction f s
-fraction_none f [] h = refl
-fraction_none f (b ∷ s) h = absurd (omega arith)
-
 pub fraction_some : (f : ℕ) (s : List ℕ) {r : Bool} → (length s ≡ 0 → ⊥) → r ≡ fraction_part f (take (length s - 1) (drop 1 s)) → r ≡ fraction f s
 fraction_some f [] h e = absurd (h refl)
 fraction_some f (b ∷ s) h e = e ∙ ap (fraction_part f) (rest_all 1 (b ∷ s))

@@ -10,7 +10,6 @@ use borrow.Author.Tests.{ne_eqb, eq-eqb, eqb-true, eqb-false, leb-true}
 use lib.Dec.{leb, eqb}
 use lib.ListN.{length, get_or, take, drop, take-append-drop}
 use Rattle.lists.specs.Lists.{last}
-use Rattle.lists.specs.Searching.{part}
 use Rattle.lists.proofs.Tests.{both, not_true'}
 use Rattle.lists.proofs.Cuts.{drop_end, two_on}
 use Rattle.characters.specs.Cells.{full_row, part_row, allowed, cell_script, is_one, trail_script, pair_script, is_char, is_one_byte, is_two_byte, is_hiragana, is_katakana}
@@ -109,32 +108,7 @@ pub kana_fault : {k : Kind} (m : ℕ) (s : List ℕ) {x : Bool} {r : ℕ} → k 
 unfolding fault
 kana_fault m s e p q = q ∙ ap (sized m s) p ∙ ap (λ (x : Kind). fault (kind_of x) s) (sym e)
 
--- ---- the last character is 8140h
-
--- y and z are the last two bytes, at the places that the code computes
-module _ (s : List ℕ) {u m w y z : ℕ} (a : u ≡ length s - 1) (b : m ≡ u - 1) (p : y ≡ get_or s m 0) (c : w ≡ length s - 1) (q : z ≡ get_or s w 0) where
-  before_two : m ≡ length s - 2
-  before_two = omega (arith, a, b)
-
-  last_two : (eqb y 0x81 && eqb z 0x40) ≡ (eqb (get_or s (length s - 2) 0) 0x81 && eqb (get_or s (length s - 1) 0) 0x40)
-  last_two = ap₂ (λ (i j : ℕ). eqb i 0x81 && eqb j 0x40) (p ∙ ap (λ (k : ℕ). get_or s k 0) before_two) (q ∙ ap (λ (k : ℕ). get_or s k 0) c)
-
-  -- x: what is_blank_pair said of them
-  pub wide_no : {x : Bool} → x ≡ (eqb y 0x81 && eqb z 0x40) → x ≡ false → false ≡ ends_wide s
-  wide_no o n = go (eqb (get_or s (length s - 2) 0) 0x81) (eqb (get_or s (length s - 1) 0) 0x40) (sym last_two ∙ sym o ∙ n)
-    where
-      go : (i j : Bool) → (i && j) ≡ false → false ≡ (i && (j && all_chars (take (length s - 2) s)))
-      go true true e = absurd (true≢false e)
-      go true false e = refl
-      go false j e = refl
-
-  pub wide_yes : {x r : Bool} → x ≡ (eqb y 0x81 && eqb z 0x40) → x ≡ true → r ≡ all_chars (part s 0 m) → r ≡ ends_wide s
-  wide_yes o n f =
-      let d = both (eqb (get_or s (length s - 2) 0) 0x81) (eqb (get_or s (length s - 1) 0) 0x40) (sym last_two ∙ sym o ∙ n) in
-      let k : m - 0 ≡ length s - 2 = omega (arith, before_two) in
-      f ∙ ap (λ (k : ℕ). all_chars (take k s)) k ∙ sym (simp (d.0, d.1))
-
--- ---- shortcuts
+-- ---- edges: shortcuts
 
 -- 8140h is of both kana scripts
 blank_first : (r : List ℕ) → bytes_of is_either (0x81 ∷ 0x40 ∷ r) ≡ 2 + bytes_of is_either r

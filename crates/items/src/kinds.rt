@@ -15,7 +15,7 @@ pub enum Need {
 
 impl Need {
     /// Whether the item may not be empty; provider: the file is from provider to patient.
-    pub fn is_required(self, provider: bool) -> bool
+    pub(crate) fn is_required(self, provider: bool) -> bool
         ensures { result ≡ required provider (need_of self) }
     {
         match self {
@@ -49,7 +49,7 @@ pub enum Values {
 
 impl Values {
     /// Whether a number is one of the values.
-    pub fn contains(self, n: u32) -> bool
+    pub(crate) fn contains(self, n: u32) -> bool
         ensures { result ≡ member (values_of self) n }
     {
         match self {

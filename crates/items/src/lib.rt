@@ -27,7 +27,8 @@ type Verdict = Result<(), Refusal>;
 fn is_code(b: u8) -> bool
     ensures { result ≡ is_code b }
 {
-    matches!(b, b'A'..=b'Z' | b'a'..=b'z' | b'0'..=b'9' | b'.' | b'-')
+    // digits first: most bytes of codes are
+    digits::is_digit(b) || matches!(b, b'A'..=b'Z' | b'a'..=b'z' | b'.' | b'-')
 }
 
 fn all_code(s: &[u8]) -> bool
@@ -363,12 +364,12 @@ fn code_item(most: u16, need: Need, provider: bool, s: &[u8], from: usize) -> Op
 
 // Any other kind: its bytes are those of a code (digits, a period, a hyphen, an era's letter), so that the run of these is looked at.
 #[tactic(auto, using(crate::proofs::EndLaws::other_item_laws))]
-fn other_item(item: Item, provider: bool, s: &[u8], from: usize) -> Option<usize>
+fn other_item(kind: Kind, need: Need, provider: bool, s: &[u8], from: usize) -> Option<usize>
     requires { from ≤ length s.now }
-    ensures { EndOf provider (item_of item) s.now from result }
+    ensures { EndOf provider (record { kind = kind_of kind; need = need_of need }) s.now from result }
 {
     let end = code_end(s, from);
-    match item_fault(item, provider, &s[from..end]) {
+    match item_fault(Item { kind, need }, provider, &s[from..end]) {
         Ok(()) => Some(end),
         Err(_) => None,
     }
@@ -402,18 +403,19 @@ fn digit_fits(kind: Kind, d: u32) -> bool
     }
 }
 
-// The kinds of which most items are one digit.
+// The kinds of which most items are one digit. It is compiled into each arm of `item_end`, where the kind is a constant.
+#[inline(always)]
 #[tactic(auto, using(crate::proofs::EndLaws::end_digit))]
-fn digit_item(item: Item, provider: bool, s: &[u8], from: usize) -> Option<usize>
+fn digit_item(kind: Kind, need: Need, provider: bool, s: &[u8], from: usize) -> Option<usize>
     requires { from ≤ length s.now }
-    ensures { EndOf provider (item_of item) s.now from result }
+    ensures { EndOf provider (record { kind = kind_of kind; need = need_of need }) s.now from result }
 {
     if let Some(d) = digit_at(s, from)
-        && digit_fits(item.kind, d)
+        && digit_fits(kind, d)
     {
         return Some(from + 1);
     }
-    other_item(item, provider, s, from)
+    other_item(kind, need, provider, s, from)
 }
 
 /// One to three digits from a position on: where they end, and their value.
@@ -463,8 +465,7 @@ fn number_item(need: Need, provider: bool, s: &[u8], from: usize) -> Option<usiz
     {
         return Some(number.end);
     }
-    let kind = Kind::Number;
-    other_item(Item { kind, need }, provider, s, from)
+    other_item(Kind::Number, need, provider, s, from)
 }
 
 /// Where the item that begins at a position ends, if it has no fault. None says nothing of the item: the line that it stands in is then read another
@@ -474,17 +475,20 @@ pub fn item_end(item: Item, provider: bool, s: &[u8], from: usize) -> Option<usi
     ensures { EndOf provider (item_of item) s.now from result }
 {
     let need = item.need;
+    // Each arm names its kind again: an item that is handed on whole is copied to memory, whatever its kind.
     match item.kind {
         Kind::Text(most) => text_item(most, need, provider, s, from),
         Kind::Code(most) => code_item(most, need, provider, s, from),
         Kind::Number => number_item(need, provider, s, from),
         Kind::OneWidth(most) => uniform_item(Uniform::Width, most, need, provider, s, from),
         Kind::Kana(most) => uniform_item(Uniform::Script, most, need, provider, s, from),
-        Kind::Author | Kind::Weight | Kind::Dose | Kind::Among(_) => {
-            digit_item(item, provider, s, from)
-        }
-        Kind::Prefecture | Kind::SevenDigits | Kind::PostalCode | Kind::Date => {
-            other_item(item, provider, s, from)
-        }
+        Kind::Author => digit_item(Kind::Author, need, provider, s, from),
+        Kind::Weight => digit_item(Kind::Weight, need, provider, s, from),
+        Kind::Dose => digit_item(Kind::Dose, need, provider, s, from),
+        Kind::Among(values) => digit_item(Kind::Among(values), need, provider, s, from),
+        Kind::Prefecture => other_item(Kind::Prefecture, need, provider, s, from),
+        Kind::SevenDigits => other_item(Kind::SevenDigits, need, provider, s, from),
+        Kind::PostalCode => other_item(Kind::PostalCode, need, provider, s, from),
+        Kind::Date => other_item(Kind::Date, need, provider, s, from),
     }
 }
