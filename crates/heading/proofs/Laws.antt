@@ -1,10 +1,13 @@
 -- Line 1: the ways through the code, and what its answer says of a row. Assumes nothing.
 use Prim.Native.Nat.{ℕ}
-use mathlib.Core.Path.{◌≡◌, refl, sym, ap, ◌∙◌}
+use mathlib.Core.Path.{◌≡◌, refl, sym, ap, ap₂, ◌∙◌}
 use mathlib.Core.Bool.{Bool, true, false, cond}
 use mathlib.Core.List.{List, [], ◌∷◌}
+use lib.ListN.{length}
+use Rattle.std.specs.Array.{IsWholeChunk}
 use Rattle.lists.specs.Lists.{bytes, same}
 use Rattle.lists.proofs.Tests.{same_true}
+use Rattle.lists.proofs.Loops.{same_length}
 use Rattle.records.specs.Records.{header}
 use Rattle.notebook.specs.Canonical.{head_row}
 use Rattle.std.specs.Prelude.{Option, Some, None}
@@ -31,17 +34,24 @@ pub ruleset row_laws = (row_provider, row_patient)
 
 -- ---- the ways through read_heading
 
-module _ (row : List ℕ) {x : Bool} {a l : List ℕ} (i : a ≡ l) (o : l ≡ head_row true) (p : x ≡ same row a) where
+pub heading_length : (row : List ℕ) {r : Option Bool} → (length row ≡ 13 → ⊥) → r ≡ None → r ≡ heading_of row
+unfolding heading_of
+heading_length row {r} h q = q ∙ rw (other true, other false)
+  where
+    other : (d : Bool) → same row (head_row d) ≡ false
+    other d = sym (same_length row (head_row d) (λ e. h (e ∙ ap length (heading_bytes d))))
+
+module _ {row a l : List ℕ} {x : Bool} (w : IsWholeChunk row a 13) (o : l ≡ head_row true) (p : x ≡ same a l) where
   first : same row (head_row true) ≡ x
-  first = ap (same row) (sym (i ∙ o)) ∙ sym p
+  first = ap₂ same (sym w.same) (sym o) ∙ sym p
 
   pub heading_provider : x ≡ true → Some true ≡ heading_of row
   unfolding heading_of
   heading_provider q = rw (first ∙ q)
 
-  module _ (q : x ≡ false) {y : Bool} {b m : List ℕ} (j : b ≡ m) (u : m ≡ head_row false) (r : y ≡ same row b) where
+  module _ (q : x ≡ false) {m : List ℕ} {y : Bool} (u : m ≡ head_row false) (r : y ≡ same a m) where
     second : same row (head_row false) ≡ y
-    second = ap (same row) (sym (j ∙ u)) ∙ sym r
+    second = ap₂ same (sym w.same) (sym u) ∙ sym r
 
     pub heading_patient : y ≡ true → Some false ≡ heading_of row
     unfolding heading_of
@@ -50,8 +60,6 @@ module _ (row : List ℕ) {x : Bool} {a l : List ℕ} (i : a ≡ l) (o : l ≡ h
     pub heading_other : y ≡ false → None ≡ heading_of row
     unfolding heading_of
     heading_other t = rw (first ∙ q, second ∙ t)
-
-pub ruleset heading_laws = (heading_provider, heading_patient, heading_other)
 
 -- ---- what is read says of a row
 

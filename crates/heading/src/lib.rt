@@ -23,10 +23,11 @@ pub fn heading_row(provider: bool) -> [u8; 13]
 pub fn read_heading(row: &[u8]) -> Option<bool>
     ensures { result ≡ heading_of row.now }
 {
-    if row == heading_row(true).as_slice() {
+    let row = row.as_array::<13>()?;
+    if *row == heading_row(true) {
         return Some(true);
     }
-    if row == heading_row(false).as_slice() {
+    if *row == heading_row(false) {
         return Some(false);
     }
     None
