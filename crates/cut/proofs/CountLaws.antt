@@ -5,7 +5,8 @@ use native.Mathlib.Omega.{arith}
 use native.Mathlib.Numerals.{add-one}
 use mathlib.Core.Path.{◌≡◌, refl, sym, ap, ◌∙◌}
 use mathlib.Core.Bool.{Bool, true, false, ◌&&◌}
-use mathlib.Core.Option.{Option, none, some, map}
+use Rattle.std.specs.Prelude.{Option, Some, None}
+use Rattle.std.specs.Option.{option_map}
 use mathlib.Core.List.{List, [], ◌∷◌, append-nil}
 use borrow.Author.Tests.{leb-true, leb-false}
 use lib.Dec.{eqb, leb}
@@ -20,7 +21,6 @@ use Rattle.digits.proofs.Numbers.{count_most, count_up}
 use Rattle.packing.specs.Widths.{Plan, over, serves, or_next, tries}
 use Rattle.packing.proofs.Packing.{Holds, pack_last, pack_stuck, pack_run, pack_more}
 use Rattle.packing.proofs.Widths.{over_up, serves_digits}
-use Rattle.cut.specs.declared.Chosen.TheVariants.{Count, NoWidth}
 use Rattle.cut.specs.Loops.{OverOf, first_length, RunAt, runs_at, past_last, ends, overheads, chosen_by, chosen_from, chosen, Small}
 use Rattle.cut.proofs.RowLaws.{rows_done, part_length, rows_total}
 
@@ -34,7 +34,7 @@ pub serves_is : (w n : ℕ) {x : ℕ} → x ≡ digit_count n → (eqb x w && le
 unfolding serves
 serves_is w n p = rw p
 
-pub no_some : {A : Type 0} {a : A} → ◌≡◌ {A = Option A} none (some a) → ⊥
+pub no_some : {A : Type 0} {a : A} → ◌≡◌ {A = Option A} None (Some a) → ⊥
 no_some {A} {a} e = let z : ◌≡◌ {A = ℕ} 0 1 = cc in omega arith
 
 -- ---- one piece: its run is the last, a next one follows, or no row fits it
@@ -43,11 +43,11 @@ module _ (s : List ℕ) (c w k i e : ℕ) (x : RunAt s i (over w k) c e) where
   taken_total : total length (rows (part s i e)) ≡ e - i
   taken_total = rows_total (part s i e) ∙ part_length s i e x.inside x.low
 
-  pub runs_last : length s ≤ e → runs_at s c w k i ≡ some (rows (part s i e) ∷ [])
+  pub runs_last : length s ≤ e → runs_at s c w k i ≡ Some (rows (part s i e) ∷ [])
   unfolding runs_at pack
   runs_last h = go (leb e i) refl
     where
-      go : (b : Bool) → leb e i ≡ b → pack length (over w) c k (over w k) (rows (drop i s)) ≡ some (rows (part s i e) ∷ [])
+      go : (b : Bool) → leb e i ≡ b → pack length (over w) c k (over w k) (rows (drop i s)) ≡ Some (rows (part s i e) ∷ [])
       go true q =
           let l : e ≤ i = leb-true _ _ q in
           let z : e - i ≡ 0 = omega arith in
@@ -63,14 +63,14 @@ module _ (s : List ℕ) (c w k i e : ℕ) (x : RunAt s i (over w k) c e) where
     next_long : c < over w k + (e - i) + suc (length next_row.more)
     next_long = omega (arith, x.next h, ap first_length next_row.cut)
 
-    pub runs_next : i < e → runs_at s c w k i ≡ map (λ xs. rows (part s i e) ∷ xs) (runs_at s c w (k + 1) e)
+    pub runs_next : i < e → runs_at s c w k i ≡ option_map (λ xs. rows (part s i e) ∷ xs) (runs_at s c w (k + 1) e)
     unfolding runs_at
     runs_next g =
         rw (x.cut, next_row.cut, add-one k)
         (pack_run length (over w) c (over_up w) k (over w k) (rows (part s i e)) (next_row.byte ∷ next_row.more) next_row.others
         (omega (arith, taken_total, x.fits g)) (omega (arith, taken_total, next_long)))
 
-    pub runs_stuck : e ≤ i → runs_at s c w k i ≡ none
+    pub runs_stuck : e ≤ i → runs_at s c w k i ≡ None
     unfolding runs_at
     runs_stuck g =
         let q : e ≡ i = omega (arith, x.low) in
@@ -81,26 +81,26 @@ module _ (s : List ℕ) (c w k i e : ℕ) (x : RunAt s i (over w k) c e) where
     unfolding ends
     ends_next g = ap (past_last k) (runs_next g) ∙ go (runs_at s c w (k + 1) e)
       where
-        go : (m : Option (List (List (List ℕ)))) → past_last k (map (λ xs. rows (part s i e) ∷ xs) m) ≡ past_last (k + 1) m
-        go none = refl
-        go (some xs) = ap some (omega arith)
+        go : (m : Option (List (List (List ℕ)))) → past_last k (option_map (λ xs. rows (part s i e) ∷ xs) m) ≡ past_last (k + 1) m
+        go None = refl
+        go (Some xs) = ap Some (omega arith)
 
-    pub ends_stuck : e ≤ i → ends s c w k i ≡ none
+    pub ends_stuck : e ≤ i → ends s c w k i ≡ None
     unfolding ends
     ends_stuck g = ap (past_last k) (runs_stuck g)
 
-  pub ends_last : length s ≤ e → ends s c w k i ≡ some (k + 1)
+  pub ends_last : length s ≤ e → ends s c w k i ≡ Some (k + 1)
   unfolding ends
   ends_last h = ap (past_last k) (runs_last h)
 
 -- there is a piece from piece k on
-pub ends_from : (s : List ℕ) (c w k i n : ℕ) → ends s c w k i ≡ some n → k < n
+pub ends_from : (s : List ℕ) (c w k i n : ℕ) → ends s c w k i ≡ Some n → k < n
 unfolding ends runs_at
 ends_from s c w k i n e = go (runs_at s c w k i) (pack_more length (over w) c k (over w k) (rows (drop i s))) e
   where
-    go : (m : Option (List (List (List ℕ)))) → Holds (λ xs. 0 < length xs) m → past_last k m ≡ some n → k < n
-    go none h e = absurd (no_some e)
-    go (some xs) h e = let q : k + length xs ≡ n = cc in omega arith
+    go : (m : Option (List (List (List ℕ)))) → Holds (λ xs. 0 < length xs) m → past_last k m ≡ Some n → k < n
+    go None h e = absurd (no_some e)
+    go (Some xs) h e = let q : k + length xs ≡ n = cc in omega arith
 
 -- a count of more digits does not serve
 never : (w n : ℕ) → w < digit_count n → serves w n ≡ false
@@ -114,20 +114,20 @@ never w n h = go (serves w n) refl
 
 -- n is the count, where n + 1 is after the last piece
 module _ (w n : ℕ) (next : Plan (List ℕ)) where
-  plan_none : (m : Option (List (List (List ℕ)))) → past_last 1 m ≡ none → or_next w next m ≡ next
-  plan_none none e = refl
-  plan_none (some xs) e = absurd (no_some (sym e))
+  plan_none : (m : Option (List (List (List ℕ)))) → past_last 1 m ≡ None → or_next w next m ≡ next
+  plan_none None e = refl
+  plan_none (Some xs) e = absurd (no_some (sym e))
 
-  plan_other : (m : Option (List (List (List ℕ)))) → past_last 1 m ≡ some (n + 1) → serves w n ≡ false → or_next w next m ≡ next
-  plan_other none e d = refl
-  plan_other (some xs) e d =
+  plan_other : (m : Option (List (List (List ℕ)))) → past_last 1 m ≡ Some (n + 1) → serves w n ≡ false → or_next w next m ≡ next
+  plan_other None e d = refl
+  plan_other (Some xs) e d =
       let q : 1 + length xs ≡ n + 1 = cc in
       let l : length xs ≡ n = omega arith in
       rw (l, d)
 
-  plan_found : (m : Option (List (List (List ℕ)))) → past_last 1 m ≡ some (n + 1) → serves w n ≡ true → chosen_by (or_next w next m) ≡ Count w n (overheads w n)
-  plan_found none e d = absurd (no_some e)
-  plan_found (some xs) e d =
+  plan_found : (m : Option (List (List (List ℕ)))) → past_last 1 m ≡ Some (n + 1) → serves w n ≡ true → chosen_by (or_next w next m) ≡ Some (record { width = w; count = n; overhead = (overheads w n) })
+  plan_found None e d = absurd (no_some e)
+  plan_found (Some xs) e d =
       let q : 1 + length xs ≡ n + 1 = cc in
       let l : length xs ≡ n = omega arith in
       rw (l, d) (rw (l, (serves_digits w n d).0))
@@ -138,19 +138,19 @@ module _ (s : List ℕ) (c w : ℕ) (h : w ≤ 3) where
   unfolding chosen_from tries runs_at
   step = let q : 4 - w ≡ suc (4 - (w + 1)) = omega arith in rw (q, tries, ← add-one w)
 
-  pub from_none : ends s c w 1 13 ≡ none → chosen_from s c w ≡ chosen_from s c (w + 1)
+  pub from_none : ends s c w 1 13 ≡ None → chosen_from s c w ≡ chosen_from s c (w + 1)
   unfolding chosen_from ends
   from_none e = step ∙ ap chosen_by (plan_none w 0 (tries length c (4 - (w + 1)) (w + 1) (rows (drop 13 s))) (runs_at s c w 1 13) e)
 
-  pub from_other : (n : ℕ) → ends s c w 1 13 ≡ some (n + 1) → serves w n ≡ false → chosen_from s c w ≡ chosen_from s c (w + 1)
+  pub from_other : (n : ℕ) → ends s c w 1 13 ≡ Some (n + 1) → serves w n ≡ false → chosen_from s c w ≡ chosen_from s c (w + 1)
   unfolding chosen_from ends
   from_other n e d = step ∙ ap chosen_by (plan_other w n (tries length c (4 - (w + 1)) (w + 1) (rows (drop 13 s))) (runs_at s c w 1 13) e d)
 
-  pub from_found : (n : ℕ) → ends s c w 1 13 ≡ some (n + 1) → serves w n ≡ true → chosen_from s c w ≡ Count w n (overheads w n)
+  pub from_found : (n : ℕ) → ends s c w 1 13 ≡ Some (n + 1) → serves w n ≡ true → chosen_from s c w ≡ Some (record { width = w; count = n; overhead = (overheads w n) })
   unfolding chosen_from ends
   from_found n e d = step ∙ plan_found w n (tries length c (4 - (w + 1)) (w + 1) (rows (drop 13 s))) (runs_at s c w 1 13) e d
 
-pub from_last : (s : List ℕ) (c w : ℕ) → 3 < w → chosen_from s c w ≡ NoWidth
+pub from_last : (s : List ℕ) (c w : ℕ) → 3 < w → chosen_from s c w ≡ None
 unfolding chosen_from tries
 from_last s c w h = let q : 4 - w ≡ 0 = omega arith in rw q
 
@@ -179,7 +179,7 @@ pub try_start : (s : List ℕ) (c : ℕ) → Small s c → Trying s c 1
 unfolding chosen
 try_start s c h = record { small = h; low = omega arith; high = omega arith; same = refl }
 
-pub try_out : (s : List ℕ) (c w : ℕ) → Trying s c w → 3 < w → NoWidth ≡ chosen s c
+pub try_out : (s : List ℕ) (c w : ℕ) → Trying s c w → 3 < w → None ≡ chosen s c
 try_out s c w v h = sym (v.same ∙ from_last s c w h)
 
 pub pack_first : (s : List ℕ) (c w u : ℕ) → Trying s c w → w ≤ 3 → OverOf w 1 u → Packing s c w w u 1 u 13
@@ -204,14 +204,14 @@ module _ (s : List ℕ) (c w₀ w t k u i : ℕ) (v : Packing s c w₀ w t k u i
     run : RunAt s i (over w k) c e
     run = rw v.used.is at r
 
-    pub try_found : {x : Bool} → length s ≤ e → x ≡ serves w k → x ≡ true → Count w k t ≡ chosen s c
+    pub try_found : {x : Bool} → length s ≤ e → x ≡ serves w k → x ≡ true → Some (record { width = w; count = k; overhead = t }) ≡ chosen s c
     try_found h p q =
-        let y : ends s c w 1 13 ≡ some (k + 1) = sym v.same ∙ ends_last s c w k i e run h in
+        let y : ends s c w 1 13 ≡ Some (k + 1) = sym v.same ∙ ends_last s c w k i e run h in
         sym (v.trying.same ∙ (from_found s c w v.wide k y (sym p ∙ q) ∙ rw v.sum))
 
     pub try_other : {x : Bool} → length s ≤ e → x ≡ serves w k → x ≡ false → Trying s c (w + 1)
     try_other h p q =
-        let y : ends s c w 1 13 ≡ some (k + 1) = sym v.same ∙ ends_last s c w k i e run h in
+        let y : ends s c w 1 13 ≡ Some (k + 1) = sym v.same ∙ ends_last s c w k i e run h in
         again (from_other s c w v.wide k y (sym p ∙ q))
 
     module _ (h : e < length s) where
@@ -227,11 +227,11 @@ module _ (s : List ℕ) (c w₀ w t k u i : ℕ) (v : Packing s c w₀ w t k u i
         try_many {d} y l = go (ends s c w 1 13) refl
           where
             go : (m : Option ℕ) → ends s c w 1 13 ≡ m → Trying s c (w + 1)
-            go none q = again (from_none s c w v.wide q)
-            go (some n) q =
+            go None q = again (from_none s c w v.wide q)
+            go (Some n) q =
                 let a : k + 1 < n = ends_from s c w (k + 1) e n (onward ∙ q) in
                 let b : n ≡ n - 1 + 1 = omega arith in
-                again (from_other s c w v.wide (n - 1) (q ∙ ap some b) (never w (n - 1) (omega (arith, y, count_up (k + 1) (n - 1) (omega arith)))))
+                again (from_other s c w v.wide (n - 1) (q ∙ ap Some b) (never w (n - 1) (omega (arith, y, count_up (k + 1) (n - 1) (omega arith)))))
 
         pub piece_opens : {o : ℕ} → OverOf w (k + 1) o → Packing s c w₀ w (t + o) (k + 1) o e
         unfolding overheads

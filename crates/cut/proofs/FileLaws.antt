@@ -1,15 +1,14 @@
 -- The call: the pieces of a notebook are those of its canonical bytes, and the answer by the way through the code. Assumes nothing.
-use Prim.Native.Nat.{ℕ, suc, ◌-◌, ◌≤◌}
+use Prim.Native.Nat.{ℕ, suc, ◌≤◌}
 use native.Mathlib.Omega.{arith}
 use mathlib.Core.Path.{◌≡◌, refl, sym, ap, ◌∙◌, subst}
 use mathlib.Core.Bool.{Bool, true, false, not}
-use mathlib.Core.Option.{some}
+use Rattle.std.specs.Prelude.{Some}
 use mathlib.Core.List.{List, [], ◌∷◌, ◌++◌}
 use borrow.Author.Tests.{eqb-true}
 use lib.Dec.{eqb}
 use lib.ListN.{length, take}
 use Rattle.lists.specs.Lists.{all, Res, ok, refused, map_res, and_then}
-use Rattle.lists.specs.Searching.{part}
 use Rattle.lists.proofs.Tests.{both, not_true', not_false'}
 use Rattle.digits.specs.Digits.{is_digit}
 use Rattle.characters.specs.Rows.{flat}
@@ -43,7 +42,7 @@ module _ (f : List ℕ) (b : Notebook) (e : read_file f ≡ ok b) (id : List ℕ
   unfolding canonical_bytes
   planned_as_lem in_one = refl
   planned_as_lem (in_runs xs) =
-      ap (λ (h : List ℕ). some (numbered_as h id (length xs) 1 xs)) (canonical_head f b e) ∙ ap some (numbered_as_lem (arrange b).provider id (length xs) 1 xs)
+      ap (λ (h : List ℕ). Some (numbered_as h id (length xs) 1 xs)) (canonical_head f b e) ∙ ap Some (numbered_as_lem (arrange b).provider id (length xs) 1 xs)
   planned_as_lem no_plan = refl
 
   pub cutting_as : (c : ℕ) → cutting_of id c (canonical_bytes b) ≡ cutting id c (arrange b)
@@ -88,9 +87,9 @@ module _ (f : List ℕ) (c : ℕ) (id used d : List ℕ) {buf : List ℕ} {l : �
     pub cut_inside : t ≤ length buf
     cut_inside = means.1
 
-    made : Made f (part buf 0 t)
+    made : Made f (take t buf)
     unfolding canonical_file
-    made = let z : t - 0 ≡ t = omega arith in made_of f (part buf 0 t) (read_file f) refl (rw z means.0)
+    made = made_of f (take t buf) (read_file f) refl means.0
 
     -- x, y: what the tests of the ID said
     module _ {x : Bool} (q : x ≡ valid_id id) where
@@ -109,7 +108,7 @@ module _ (f : List ℕ) (c : ℕ) (id used d : List ℕ) {buf : List ℕ} {l : �
         pub cut_long : length id ≡ 14
         cut_long = id_length id (sym digits)
 
-        pub cut_given : Given (part buf 0 t) id
+        pub cut_given : Given (take t buf) id
         cut_given = record {
           bytes = rw (← made.bytes) (canonical_small f made.book made.read);
           header = rw (← made.bytes) (canonical_long f made.book made.read);
@@ -122,12 +121,12 @@ module _ (f : List ℕ) (c : ℕ) (id used d : List ℕ) {buf : List ℕ} {l : �
           cut-used w = gives_refusal d (ap (map_res writes_pieces) (list_is true false digits (sym (not_true' y w) ∙ p₁)))
 
           module _ (w : not y ≡ false) where
-            pieces_are : cut_list f c id used ≡ listed (cutting_of id c (part buf 0 t))
+            pieces_are : cut_list f c id used ≡ listed (cutting_of id c (take t buf))
             pieces_are =
                 list_is true true digits (sym (not_false' y w) ∙ p₁)
                 ∙ ap listed (sym (cutting_as f made.book made.read id c) ∙ ap (cutting_of id c) made.bytes)
 
-            pub cut-gives : {d' : List ℕ} {r : Answer} → Gives (cut_of_bytes (part buf 0 t) c id) d d' r → Gives (cut_result f c id used) d d' r
+            pub cut-gives : {d' : List ℕ} {r : Answer} → Gives (cut_of_bytes (take t buf) c id) d d' r → Gives (cut_result f c id used) d d' r
             unfolding cut_result cut_of_bytes
             cut-gives {d'} {r} v = subst (λ (x : Res Result). Gives x d d' r) (ap (map_res writes_pieces) (sym pieces_are)) v
 

@@ -3,7 +3,7 @@ use Prim.Native.Nat.{ℕ, zero, suc, ◌+◌, ◌-◌, ◌*◌, ◌≤◌, ◌<�
 use native.Mathlib.Omega.{arith}
 use mathlib.Core.Path.{◌≡◌, refl, sym, ap, ◌∙◌}
 use mathlib.Core.Bool.{Bool, true, false}
-use mathlib.Core.Option.{Option, none, some}
+use Rattle.std.specs.Prelude.{Option, Some, None}
 use mathlib.Core.List.{List, [], ◌∷◌, ◌++◌}
 use borrow.Author.Tests.{lt-leb}
 use lib.ListN.{length, drop, length-append, length-drop}
@@ -16,7 +16,7 @@ use Rattle.digits.proofs.Numbers.{to_999}
 use Rattle.packing.specs.Widths.{Plan, in_one, in_runs, no_plan, over, serves, tries, plan}
 use Rattle.packing.proofs.Widths.{Divides, Planned, plan_good, plan_whole, over_counts, over_most, serves_digits}
 use Rattle.division.specs.Marks.{mark_row}
-use Rattle.cut.specs.declared.Chosen.TheVariants.{Count, NoWidth}
+use Rattle.cut.specs.declared.Chosen.{Chosen}
 use Rattle.cut.specs.Loops.{runs_at, past_last, ends, overheads, chosen_by, chosen_from, chosen, numbered_as, pieces_as, poured}
 use Rattle.cut.proofs.RowLaws.{part_length, flat_total, rows_total}
 use Rattle.cut.proofs.PourLaws.{mark_length}
@@ -64,14 +64,14 @@ overheads_most w (suc n) h = omega (arith, overheads_most w n h, over_most w (su
 
 -- the runs of a plan are the packing for the width of their count
 tried : (c : ℕ) (rs : List (List ℕ)) (xs : List (List (List ℕ))) (f w : ℕ) → tries length c f w rs ≡ in_runs xs
-    → pack length (over (digit_count (length xs))) c 1 (over (digit_count (length xs)) 1) rs ≡ some xs
+    → pack length (over (digit_count (length xs))) c 1 (over (digit_count (length xs)) 1) rs ≡ Some xs
 unfolding tries
 tried c rs xs zero w e = let z : ◌≡◌ {A = ℕ} 0 1 = cc in absurd (omega arith)
 tried c rs xs (suc f) w e = go (pack length (over w) c 1 (over w 1) rs) refl (tried c rs xs f (suc w))
   where
-    at : (ys : List (List (List ℕ))) → pack length (over w) c 1 (over w 1) rs ≡ some ys → (b : Bool) → serves w (length ys) ≡ b
-        → (tries length c f (suc w) rs ≡ in_runs xs → pack length (over (digit_count (length xs))) c 1 (over (digit_count (length xs)) 1) rs ≡ some xs)
-        → pack length (over (digit_count (length xs))) c 1 (over (digit_count (length xs)) 1) rs ≡ some xs
+    at : (ys : List (List (List ℕ))) → pack length (over w) c 1 (over w 1) rs ≡ Some ys → (b : Bool) → serves w (length ys) ≡ b
+        → (tries length c f (suc w) rs ≡ in_runs xs → pack length (over (digit_count (length xs))) c 1 (over (digit_count (length xs)) 1) rs ≡ Some xs)
+        → pack length (over (digit_count (length xs))) c 1 (over (digit_count (length xs)) 1) rs ≡ Some xs
     at ys p true q ih =
         let r : in_runs ys ≡ in_runs xs = rw (tries, p, q) at e in
         let z : ys ≡ xs = cc in
@@ -80,16 +80,16 @@ tried c rs xs (suc f) w e = go (pack length (over w) c 1 (over w 1) rs) refl (tr
     at ys p false q ih = ih (rw (tries, p, q) at e)
 
     go : (m : Option (List (List (List ℕ)))) → pack length (over w) c 1 (over w 1) rs ≡ m
-        → (tries length c f (suc w) rs ≡ in_runs xs → pack length (over (digit_count (length xs))) c 1 (over (digit_count (length xs)) 1) rs ≡ some xs)
-        → pack length (over (digit_count (length xs))) c 1 (over (digit_count (length xs)) 1) rs ≡ some xs
-    go none p ih = ih (rw (tries, p) at e)
-    go (some ys) p ih = at ys p (serves w (length ys)) refl ih
+        → (tries length c f (suc w) rs ≡ in_runs xs → pack length (over (digit_count (length xs))) c 1 (over (digit_count (length xs)) 1) rs ≡ Some xs)
+        → pack length (over (digit_count (length xs))) c 1 (over (digit_count (length xs)) 1) rs ≡ Some xs
+    go None p ih = ih (rw (tries, p) at e)
+    go (Some ys) p ih = at ys p (serves w (length ys)) refl ih
 
 -- what a found width says
 pub record Found (s : List ℕ) (c w n t : ℕ) : Type 0 where
   pub runs : List (List (List ℕ))
   pub is : plan length c (rows (drop 13 s)) ≡ in_runs runs
-  pub packs : runs_at s c w 1 13 ≡ some runs
+  pub packs : runs_at s c w 1 13 ≡ Some runs
   pub divides : Divides length c (rows (drop 13 s)) runs
   pub count : length runs ≡ n
   pub width : digit_count n ≡ w
@@ -108,26 +108,28 @@ module _ (s : List ℕ) (c : ℕ) (h : 13 ≤ length s) where
     unfolding chosen chosen_from
     chosen_is = ap chosen_by (sym plan_is)
 
-    pub plan_fails : chosen s c ≡ NoWidth → plan length c (rows (drop 13 s)) ≡ no_plan
+    pub plan_fails : chosen s c ≡ None → plan length c (rows (drop 13 s)) ≡ no_plan
     plan_fails e = go (plan length c (rows (drop 13 s))) refl (plan_good length c (rows (drop 13 s))) (sym chosen_is ∙ e)
       where
-        go : (p : Plan (List ℕ)) → plan length c (rows (drop 13 s)) ≡ p → Planned length c (rows (drop 13 s)) p → chosen_by p ≡ NoWidth
+        go : (p : Plan (List ℕ)) → plan length c (rows (drop 13 s)) ≡ p → Planned length c (rows (drop 13 s)) p → chosen_by p ≡ None
             → plan length c (rows (drop 13 s)) ≡ no_plan
         go in_one q f z = absurd (omega (arith, file_total s h))
         go (in_runs xs) q f z = let y : ◌≡◌ {A = ℕ} 0 1 = cc in absurd (omega arith)
         go no_plan q f z = q
 
-    pub plan_found : (w n t : ℕ) → chosen s c ≡ Count w n t → Found s c w n t
+    pub plan_found : (w n t : ℕ) → chosen s c ≡ Some (record { width = w; count = n; overhead = t }) → Found s c w n t
     unfolding runs_at
     plan_found w n t e = go (plan length c (rows (drop 13 s))) refl (plan_good length c (rows (drop 13 s))) (sym chosen_is ∙ e)
       where
-        go : (p : Plan (List ℕ)) → plan length c (rows (drop 13 s)) ≡ p → Planned length c (rows (drop 13 s)) p → chosen_by p ≡ Count w n t
+        go : (p : Plan (List ℕ)) → plan length c (rows (drop 13 s)) ≡ p → Planned length c (rows (drop 13 s)) p → chosen_by p ≡ Some (record { width = w; count = n; overhead = t })
             → Found s c w n t
         go in_one q f z = let y : ◌≡◌ {A = ℕ} 0 1 = cc in absurd (omega arith)
         go (in_runs xs) q f z =
-            let a : digit_count (length xs) ≡ w = cc in
-            let b : length xs ≡ n = cc in
-            let d : overheads (digit_count (length xs)) (length xs) ≡ t = cc in
+            let r : ◌≡◌ {A = Chosen} (record { width = digit_count (length xs); count = length xs; overhead = overheads (digit_count (length xs)) (length xs) })
+            (record { width = w; count = n; overhead = t }) = cc in
+            let a : digit_count (length xs) ≡ w = ap (λ (y : Chosen). y.width) r in
+            let b : length xs ≡ n = ap (λ (y : Chosen). y.count) r in
+            let d : overheads (digit_count (length xs)) (length xs) ≡ t = ap (λ (y : Chosen). y.overhead) r in
             record {
               runs = xs;
               is = q;
@@ -148,9 +150,9 @@ module _ {s : List ℕ} {c w n t : ℕ} (f : Found s c w n t) where
   pub found_wide : w ≤ 3
   found_wide = omega (arith, f.width, to_999 n (omega (arith, found_few)))
 
-  pub found_ends : ends s c w 1 13 ≡ some (n + 1)
+  pub found_ends : ends s c w 1 13 ≡ Some (n + 1)
   unfolding ends
-  found_ends = ap (past_last 1) f.packs ∙ ap some (omega (arith, f.count))
+  found_ends = ap (past_last 1) f.packs ∙ ap Some (omega (arith, f.count))
 
   pub found_bytes : (id : List ℕ) → flat (numbered_as (part s 0 13) id n 1 f.runs) ≡ poured s c w id n 1 13
   unfolding poured

@@ -5,7 +5,8 @@ use native.Mathlib.Omega.{arith}
 use native.Mathlib.Numerals.{add-one}
 use mathlib.Core.Path.{◌≡◌, refl, sym, ap, ◌∙◌}
 use mathlib.Core.Bool.{Bool, true, false}
-use mathlib.Core.Option.{Option, none, some, map}
+use Rattle.std.specs.Prelude.{Option, Some, None}
+use Rattle.std.specs.Option.{option_map}
 use mathlib.Core.List.{List, [], ◌∷◌, ◌++◌, append_assoc, append-nil}
 use borrow.Author.Tests.{leb-true, leb-false}
 use mir.Val.{Fits}
@@ -91,22 +92,22 @@ module _ (s : List ℕ) (c w : ℕ) (id : List ℕ) (n k i e : ℕ) (x : RunAt s
   poured_last h =
       ap (pieces_as (part s 0 13) id n k) (runs_last s c w k i e x h) ∙ rw rows_are (append-nil (part s 0 13 ++ (part s i e ++ mark_row id n k)))
 
-  poured_next : e < length s → i < e → (m : ℕ) → ends s c w (k + 1) e ≡ some m → poured s c w id n k i ≡ piece_as s id n k i e ++ poured s c w id n (k + 1) e
+  poured_next : e < length s → i < e → (m : ℕ) → ends s c w (k + 1) e ≡ Some m → poured s c w id n k i ≡ piece_as s id n k i e ++ poured s c w id n (k + 1) e
   unfolding poured piece_as numbered_as ends
   poured_next h g m q = ap (pieces_as (part s 0 13) id n k) (runs_next s c w k i e x h g) ∙ go (runs_at s c w (k + 1) e) q
     where
-      go : (y : Option (List (List (List ℕ)))) → past_last (k + 1) y ≡ some m
-          → pieces_as (part s 0 13) id n k (map (λ xs. rows (part s i e) ∷ xs) y)
+      go : (y : Option (List (List (List ℕ)))) → past_last (k + 1) y ≡ Some m
+          → pieces_as (part s 0 13) id n k (option_map (λ xs. rows (part s i e) ∷ xs) y)
           ≡ (part s 0 13 ++ (part s i e ++ mark_row id n k)) ++ pieces_as (part s 0 13) id n (k + 1) y
-      go none e = absurd (no_some e)
-      go (some xs) e = rw (rows_are, add-one k)
+      go None e = absurd (no_some e)
+      go (Some xs) e = rw (rows_are, add-one k)
 
 -- ---- the loop
 
 pub record Pouring (d₀ d s : List ℕ) (c w n : ℕ) (id : List ℕ) (o k i : ℕ) : Type 0 where
   pub ready : Ready d₀ s c w n id
   pub inside : i ≤ length s
-  pub count : ends s c w k i ≡ some (n + 1)
+  pub count : ends s c w k i ≡ Some (n + 1)
   pub size : length d ≡ length d₀
   pub room : o + length (poured s c w id n k i) ≡ length (poured s c w id n 1 13)
   pub list : sets d o (poured s c w id n k i) ≡ sets d₀ 0 (poured s c w id n 1 13)
@@ -140,7 +141,7 @@ module _ {d₀ d s : List ℕ} {c w n : ℕ} {id : List ℕ} {o k i : ℕ} (v : 
       pub pour_less : length s - e < length s - i
       pour_less = omega (arith, more)
 
-      next_count : ends s c w (k + 1) e ≡ some (n + 1)
+      next_count : ends s c w (k + 1) e ≡ Some (n + 1)
       next_count = sym (ends_next s c w k i e run h more) ∙ v.count
 
       next_is : poured s c w id n k i ≡ piece_as s id n k i e ++ poured s c w id n (k + 1) e

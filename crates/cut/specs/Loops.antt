@@ -3,7 +3,7 @@
 -- or `tries` (packing, specs/) at the loop's place: piece k begins with the row at i. Cut.antt says the same of notebooks;
 -- proofs/FileLaws.antt joins the two.
 use Rattle.std.specs.Prelude.{ℕ, zero, suc, ◌+◌, ◌-◌, ◌≤◌, ◌<◌, ◌≡◌, List, [], ◌∷◌, ◌++◌, length, drop}
-use Rattle.std.proofs.Math.Option.{Option, none, some}
+use Rattle.std.specs.Prelude.{Option, Some, None}
 use Rattle.lists.specs.Lists.{Res, map_res}
 use Rattle.lists.specs.Searching.{part}
 use Rattle.digits.specs.Digits.{spell, digit_count}
@@ -14,7 +14,6 @@ use Rattle.division.specs.Marks.{mark_row}
 use Rattle.division.specs.Cut.{listed, writes_pieces}
 use Rattle.replies.specs.Results.{Result}
 use Rattle.cut.specs.declared.Chosen.{Chosen}
-use Rattle.cut.specs.declared.Chosen.TheVariants.{Count, NoWidth}
 
 -- ---- the count
 
@@ -42,8 +41,8 @@ runs_at s c w k i = pack length (over w) c k (over w k) (rows (drop i s))
 
 -- the number after the last piece's, where the first is k
 abbrev pub past_last : ℕ → Option (List (List (List ℕ))) → Option ℕ
-past_last k none = none
-past_last k (some xs) = some (k + length xs)
+past_last k None = None
+past_last k (Some xs) = Some (k + length xs)
 
 unfoldable pub ends : List ℕ → ℕ → ℕ → ℕ → ℕ → Option ℕ
 ends s c w k i = past_last k (runs_at s c w k i)
@@ -54,16 +53,17 @@ overheads w zero = 0
 overheads w (suc k) = overheads w k + over w (suc k)
 
 -- the width, the count, and what the pieces hold besides their records
-abbrev pub chosen_by : Plan (List ℕ) → Chosen
-chosen_by in_one = NoWidth
-chosen_by (in_runs xs) = Count (digit_count (length xs)) (length xs) (overheads (digit_count (length xs)) (length xs))
-chosen_by no_plan = NoWidth
+abbrev pub chosen_by : Plan (List ℕ) → Option Chosen
+chosen_by in_one = None
+chosen_by (in_runs xs) =
+    Some (record { width = digit_count (length xs); count = length xs; overhead = overheads (digit_count (length xs)) (length xs) })
+chosen_by no_plan = None
 
 -- the widths from w on
-unfoldable pub chosen_from : List ℕ → ℕ → ℕ → Chosen
+unfoldable pub chosen_from : List ℕ → ℕ → ℕ → Option Chosen
 chosen_from s c w = chosen_by (tries length c (4 - w) w (rows (drop 13 s)))
 
-unfoldable pub chosen : List ℕ → ℕ → Chosen
+unfoldable pub chosen : List ℕ → ℕ → Option Chosen
 chosen s c = chosen_from s c 1
 
 -- a file that is longer than the capacity
@@ -81,8 +81,8 @@ numbered_as head id n k (x ∷ xs) = (head ++ (flat x ++ mark_row id n k)) ∷ n
 
 -- the same one after another
 abbrev pub pieces_as : List ℕ → List ℕ → ℕ → ℕ → Option (List (List (List ℕ))) → List ℕ
-pieces_as head id n k none = []
-pieces_as head id n k (some xs) = flat (numbered_as head id n k xs)
+pieces_as head id n k None = []
+pieces_as head id n k (Some xs) = flat (numbered_as head id n k xs)
 
 -- the pieces from piece k on, whose rows begin at i
 unfoldable pub poured : List ℕ → ℕ → ℕ → List ℕ → ℕ → ℕ → ℕ → List ℕ
@@ -112,15 +112,15 @@ pub record Ready (d s : List ℕ) (c w n : ℕ) (id : List ℕ) : Type 0 where
   pub small : Small s c
   pub wide : w ≤ 3
   pub few : n < 1000
-  pub count : ends s c w 1 13 ≡ some (n + 1)
+  pub count : ends s c w 1 13 ≡ Some (n + 1)
   pub room : length (poured s c w id n 1 13) ≤ length d
 
 -- ---- the answer for canonical bytes
 
 abbrev pub planned_as : List ℕ → List ℕ → Plan (List ℕ) → Option (List (List ℕ))
-planned_as id s in_one = some (s ∷ [])
-planned_as id s (in_runs xs) = some (numbered_as (part s 0 13) id (length xs) 1 xs)
-planned_as id s no_plan = none
+planned_as id s in_one = Some (s ∷ [])
+planned_as id s (in_runs xs) = Some (numbered_as (part s 0 13) id (length xs) 1 xs)
+planned_as id s no_plan = None
 
 unfoldable pub cutting_of : List ℕ → ℕ → List ℕ → Option (List (List ℕ))
 cutting_of id c s = planned_as id s (plan length c (rows (drop 13 s)))

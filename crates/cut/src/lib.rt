@@ -12,32 +12,22 @@ ghost use Rattle.packing.specs.Widths.{serves};
 ghost use Rattle.canonical.specs.Writing.{Holds};
 ghost use Rattle.division.specs.Marks.{mark_row};
 ghost use Rattle.division.specs.Cut.{cut_result};
+ghost use Rattle.replies.specs.Refusals.{answer};
 ghost use Rattle.replies.specs.CallContracts.{Gives};
 ghost use Rattle.cut.specs.Loops.{OverOf, RunAt, Small, chosen, MarkRoom, piece_as, PieceRoom, poured, Ready, Given, cut_of_bytes};
 
-use replies::Answer;
-
-// The width of the count, the count, and the bytes that the pieces hold besides their records; or no width serves.
-#[derive(Clone, Copy)]
-pub enum Chosen {
-    Count(usize, u32, usize),
-    NoWidth,
-}
+use replies::{Answer, Refusal, Values};
 
 // The digits of a number below 1,000; 4 for any above.
 fn digits_of(n: u32) -> usize
     ensures { result ≡ digit_count n }
 {
-    if n <= 9 {
-        return 1;
+    match n {
+        0..=9 => 1,
+        10..=99 => 2,
+        100..=999 => 3,
+        _ => 4,
     }
-    if n <= 99 {
-        return 2;
-    }
-    if n <= 999 {
-        return 3;
-    }
-    4
 }
 
 // What piece k holds besides its records, where the count has w digits.
@@ -79,8 +69,16 @@ fn run_end(s: &[u8], i: usize, u: usize, c: usize) -> usize
     e
 }
 
-// The first width that serves.
-fn first_width(s: &[u8], c: usize) -> Chosen
+// The width of the count, the count, and the bytes that the pieces hold besides their records.
+#[derive(Clone, Copy)]
+pub struct Chosen {
+    pub width: usize,
+    pub count: u32,
+    pub overhead: usize,
+}
+
+// The first width that serves, if one does.
+fn first_width(s: &[u8], c: usize) -> Option<Chosen>
     requires { Small s.now c }
     ensures { result ≡ chosen s.now c }
 {
@@ -88,7 +86,7 @@ fn first_width(s: &[u8], c: usize) -> Chosen
     let mut t: usize = 0;
     let count = 'widths: loop {
         if 3 < w {
-            return Chosen::NoWidth;
+            return None;
         }
         let mut k: u32 = 1;
         let mut u = overhead(w, k);
@@ -117,7 +115,11 @@ fn first_width(s: &[u8], c: usize) -> Chosen
             t += u;
         }
     };
-    Chosen::Count(w, count, t)
+    Some(Chosen {
+        width: w,
+        count,
+        overhead: t,
+    })
 }
 
 // The row 911,ID,n,k.
@@ -178,26 +180,34 @@ fn pour_pieces(out: &mut [u8], s: &[u8], c: usize, w: usize, n: u32, id: &[u8]) 
 // Cuts the bytes of a canonical file, for a valid ID. Where the file does not fit, the capacity is below 65,536.
 fn cut_bytes(s: &[u8], capacity: u64, id: &[u8], out: &mut [u8]) -> Answer
     requires { Given s.now id.now }
-    ensures { Gives (cut_of_bytes s.now capacity id.now) out.old out.new result }
+    ensures { Gives (cut_of_bytes s.now capacity id.now) out.old out.new (answer result) }
 {
     let c = capacity as usize;
     let len = s.len();
     if len <= c {
         if out.len() < len {
-            return Answer::Refused(20, 0);
+            return Err(Refusal::Short.at(0));
         }
         buffers::put_all(out, 0, s);
-        return Answer::Done(1, len as u32, 0);
+        return Ok(Values {
+            a: 1,
+            b: len as u32,
+            c: 0,
+        });
     }
     match first_width(s, c) {
-        Chosen::NoWidth => Answer::Refused(18, 0),
-        Chosen::Count(w, n, t) => {
-            let total = t + (len - 13);
+        None => Err(Refusal::NoCutting.at(0)),
+        Some(chosen) => {
+            let total = chosen.overhead + (len - 13);
             if out.len() < total {
-                return Answer::Refused(20, 0);
+                return Err(Refusal::Short.at(0));
             }
-            pour_pieces(out, s, c, w, n, id);
-            Answer::Done(n, total as u32, 0)
+            pour_pieces(out, s, c, chosen.width, chosen.count, id);
+            Ok(Values {
+                a: chosen.count,
+                b: total as u32,
+                c: 0,
+            })
         }
     }
 }
@@ -213,37 +223,25 @@ fn cut_by(
     out: &mut [u8],
 ) -> Answer
     requires { Holds file.now bytes.old }
-    ensures { Gives (cut_result file.now capacity id.now used.now) out.old out.new result }
+    ensures { Gives (cut_result file.now capacity id.now used.now) out.old out.new (answer result) }
 {
-    match canonical::canonical_into(file, bytes) {
-        Answer::Refused(number, line) => Answer::Refused(number, line),
-        Answer::Done(count, _, _) => {
-            if !pieces::valid_id(id) {
-                return Answer::Refused(17, 0);
-            }
-            if !used::is_unused(id, used) {
-                return Answer::Refused(24, 0);
-            }
-            let start = 0;
-            let end = count as usize;
-            cut_bytes(&bytes[start..end], capacity, id, out)
-        }
+    let end = canonical::canonical_into(file, bytes)?.a as usize;
+    if !pieces::valid_id(id) {
+        return Err(Refusal::Id.at(0));
     }
+    if !used::is_unused(id, used) {
+        return Err(Refusal::Used.at(0));
+    }
+    cut_bytes(&bytes[..end], capacity, id, out)
 }
 
 // The same with an array of its own.
 pub fn cut(file: &[u8], capacity: u64, id: &[u8], used: &[u8], out: &mut [u8]) -> Answer
-    ensures { Gives (cut_result file.now capacity id.now used.now) out.old out.new result }
+    ensures { Gives (cut_result file.now capacity id.now used.now) out.old out.new (answer result) }
 {
-    let len = file.len();
-    if len <= buffers::SHORT {
-        let mut bytes = [0u8; buffers::SHORT];
-        return cut_by(file, &mut bytes, capacity, id, used, out);
-    }
-    if len <= buffers::MIDDLING {
-        let mut bytes = [0u8; buffers::MIDDLING];
-        return cut_by(file, &mut bytes, capacity, id, used, out);
-    }
-    let mut bytes = [0u8; buffers::ANY];
-    cut_by(file, &mut bytes, capacity, id, used, out)
+    buffers::with_room(
+        file.len(),
+        out,
+        |bytes, out| cut_by(file, bytes, capacity, id, used, out),
+    )
 }
