@@ -14,8 +14,8 @@ Prints each difference with its file and what is expected there; exit status 1 i
 nothing is a fault, so that no place is left out in silence. Run it from anywhere: python3 tests/agree.py
 
 Not read: other sentences than those in SENTENCES and the header's on the refusals of a call (docs/OPERATING.md and docs/PROMISES.md have the
-numbers by call in words of their own); rules in code, as in ordinary/order.rs, which the cases try; crates/codes, which the prover holds to
-the table.
+numbers by call in words of their own); rules in code, as in ordinary/order.rs, which the cases try; crates/table, which the prover holds to
+the table of records.
 """
 
 import collections
