@@ -18,7 +18,7 @@ use Rattle.characters.proofs.RowLaws.{First, first_row}
 use Rattle.packing.specs.Packing.{total, pack}
 use Rattle.digits.specs.Digits.{digit_count}
 use Rattle.digits.proofs.Numbers.{count_most, count_up}
-use Rattle.packing.specs.Widths.{Plan, over, serves, or_next, tries}
+use Rattle.packing.specs.Widths.{Plan as Runs, over, serves, or_next, tries}
 use Rattle.packing.proofs.Packing.{Holds, pack_last, pack_stuck, pack_run, pack_more}
 use Rattle.packing.proofs.Widths.{over_up, serves_digits}
 use Rattle.cut.specs.Loops.{OverOf, first_length, RunAt, runs_at, past_last, ends, overheads, chosen_by, chosen_from, chosen, Small}
@@ -113,7 +113,7 @@ never w n h = go (serves w n) refl
 -- ---- the widths
 
 -- n is the count, where n + 1 is after the last piece
-module _ (w n : ℕ) (next : Plan (List ℕ)) where
+module _ (w n : ℕ) (next : Runs (List ℕ)) where
   plan_none : (m : Option (List (List (List ℕ)))) → past_last 1 m ≡ None → or_next w next m ≡ next
   plan_none None e = refl
   plan_none (Some xs) e = absurd (no_some (sym e))
@@ -125,7 +125,7 @@ module _ (w n : ℕ) (next : Plan (List ℕ)) where
       let l : length xs ≡ n = omega arith in
       rw (l, d)
 
-  plan_found : (m : Option (List (List (List ℕ)))) → past_last 1 m ≡ Some (n + 1) → serves w n ≡ true → chosen_by (or_next w next m) ≡ Some (record { width = w; count = n; overhead = (overheads w n) })
+  plan_found : (m : Option (List (List (List ℕ)))) → past_last 1 m ≡ Some (n + 1) → serves w n ≡ true → chosen_by (or_next w next m) ≡ Some (record { width = w; count = n; bytes = overheads w n })
   plan_found None e d = absurd (no_some e)
   plan_found (Some xs) e d =
       let q : 1 + length xs ≡ n + 1 = cc in
@@ -146,7 +146,7 @@ module _ (s : List ℕ) (c w : ℕ) (h : w ≤ 3) where
   unfolding chosen_from ends
   from_other n e d = step ∙ ap chosen_by (plan_other w n (tries length c (4 - (w + 1)) (w + 1) (rows (drop 13 s))) (runs_at s c w 1 13) e d)
 
-  pub from_found : (n : ℕ) → ends s c w 1 13 ≡ Some (n + 1) → serves w n ≡ true → chosen_from s c w ≡ Some (record { width = w; count = n; overhead = (overheads w n) })
+  pub from_found : (n : ℕ) → ends s c w 1 13 ≡ Some (n + 1) → serves w n ≡ true → chosen_from s c w ≡ Some (record { width = w; count = n; bytes = overheads w n })
   unfolding chosen_from ends
   from_found n e d = step ∙ plan_found w n (tries length c (4 - (w + 1)) (w + 1) (rows (drop 13 s))) (runs_at s c w 1 13) e d
 
@@ -204,7 +204,7 @@ module _ (s : List ℕ) (c w₀ w t k u i : ℕ) (v : Packing s c w₀ w t k u i
     run : RunAt s i (over w k) c e
     run = rw v.used.is at r
 
-    pub try_found : {x : Bool} → length s ≤ e → x ≡ serves w k → x ≡ true → Some (record { width = w; count = k; overhead = t }) ≡ chosen s c
+    pub try_found : {x : Bool} → length s ≤ e → x ≡ serves w k → x ≡ true → Some (record { width = w; count = k; bytes = t }) ≡ chosen s c
     try_found h p q =
         let y : ends s c w 1 13 ≡ Some (k + 1) = sym v.same ∙ ends_last s c w k i e run h in
         sym (v.trying.same ∙ (from_found s c w v.wide k y (sym p ∙ q) ∙ rw v.sum))

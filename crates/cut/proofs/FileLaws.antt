@@ -1,26 +1,26 @@
 -- The call: the pieces of a notebook are those of its canonical bytes, and the answer by the way through the code. Assumes nothing.
 use Prim.Native.Nat.{ℕ, suc, ◌≤◌}
-use native.Mathlib.Omega.{arith}
 use mathlib.Core.Path.{◌≡◌, refl, sym, ap, ◌∙◌, subst}
 use mathlib.Core.Bool.{Bool, true, false, not}
-use Rattle.std.specs.Prelude.{Some}
 use mathlib.Core.List.{List, [], ◌∷◌, ◌++◌}
 use borrow.Author.Tests.{eqb-true}
 use lib.Dec.{eqb}
 use lib.ListN.{length, take}
+use Rattle.std.specs.Prelude.{Some}
 use Rattle.lists.specs.Lists.{all, Res, ok, refused, map_res, and_then}
 use Rattle.lists.proofs.Tests.{both, not_true', not_false'}
 use Rattle.digits.specs.Digits.{is_digit}
 use Rattle.characters.specs.Rows.{flat}
 use Rattle.notebook.specs.Notebook.{Notebook, read_file}
 use Rattle.notebook.specs.Same.{arrange}
-use Rattle.replies.specs.Replies.{Answer}
-use Rattle.replies.specs.Replies.{Done, Refused}
+use Rattle.replies.specs.declared.refusal.Refused.{Refused as RefusedAtLine}
+use Rattle.replies.specs.Refusals.{number_of}
+use Rattle.replies.specs.Replies.{Answer, Done, Refused}
 use Rattle.replies.specs.Results.{Result}
 use Rattle.replies.specs.CallContracts.{Gives}
 use Rattle.replies.proofs.Results.{gives_refusal}
 use Rattle.notebook.specs.Canonical.{head_row, record_rows, canonical_bytes, canonical_file}
-use Rattle.canonical.specs.Writing.{MadeMeans, MadeOf}
+use Rattle.canonical.specs.Writing.{MadeOf}
 use Rattle.notebook.proofs.CanonicalLaws.{canonical_head, canonical_rows, canonical_small, canonical_long}
 use Rattle.packing.specs.Widths.{Plan, in_one, in_runs, no_plan, plan}
 use Rattle.ids.specs.Used.{unused}
@@ -61,10 +61,10 @@ record Made (f s : List ℕ) : Type 0 where
 
 made_of : (f s : List ℕ) (r : Res Notebook) → read_file f ≡ r → map_res canonical_bytes r ≡ ok s → Made f s
 made_of f s (ok b) q e = record { book = b; read = q; bytes = cc }
-made_of f s (refused n line) q e = let z : ◌≡◌ {A = ℕ} 0 1 = cc in absurd (omega arith)
+made_of f s (refused n line) q e = cc
 
 refused_of : (n line : ℕ) (r : Res Notebook) → map_res canonical_bytes r ≡ refused n line → r ≡ refused n line
-refused_of n line (ok b) e = let z : ◌≡◌ {A = ℕ} 0 1 = cc in absurd (omega arith)
+refused_of n line (ok b) e = cc
 refused_of n line (refused m l) e = cc
 
 id_length : (id : List ℕ) → valid_id id ≡ true → length id ≡ 14
@@ -73,23 +73,20 @@ id_length id e = eqb-true (length id) 14 (both (eqb (length id) 14) (all is_digi
 
 -- ---- the ways through cut_by
 
-module _ (f : List ℕ) (c : ℕ) (id used d : List ℕ) {buf : List ℕ} {l : ℕ} {m : Answer} (p : MadeOf l (canonical_file f) buf m) where
-  pub cut_refused : {n line : ℕ} → m ≡ Refused n line → Gives (cut_result f c id used) d d (Refused n line)
+module _ (f : List ℕ) (c : ℕ) (id used d : List ℕ) {buf : List ℕ} {l : ℕ} where
+  pub cut_refused : (x : RefusedAtLine) → MadeOf l (canonical_file f) buf (Refused (number_of x.refusal) x.line) → Gives (cut_result f c id used) d d (Refused (number_of x.refusal) x.line)
   unfolding canonical_file cut_result cut_list
-  cut_refused {n} {line} e =
-      let q : read_file f ≡ refused n line = refused_of n line (read_file f) (subst (MadeMeans (map_res canonical_bytes (read_file f)) buf) e p.means) in
+  cut_refused x p =
+      let q : read_file f ≡ refused (number_of x.refusal) x.line = refused_of (number_of x.refusal) x.line (read_file f) p.means in
       gives_refusal d (ap (λ (r : Res Notebook). map_res writes_pieces (and_then r (list_for id used c))) q)
 
-  module _ {t i j : ℕ} (e : m ≡ Done t i j) where
-    means : (canonical_file f ≡ ok (take t buf)) × (t ≤ length buf)
-    means = subst (MadeMeans (canonical_file f) buf) e p.means
-
+  module _ {t i j : ℕ} (p : MadeOf l (canonical_file f) buf (Done t i j)) where
     pub cut_inside : t ≤ length buf
-    cut_inside = means.1
+    cut_inside = p.means.1
 
     made : Made f (take t buf)
     unfolding canonical_file
-    made = made_of f (take t buf) (read_file f) refl means.0
+    made = made_of f (take t buf) (read_file f) refl p.means.0
 
     -- x, y: what the tests of the ID said
     module _ {x : Bool} (q : x ≡ valid_id id) where
@@ -130,4 +127,4 @@ module _ (f : List ℕ) (c : ℕ) (id used d : List ℕ) {buf : List ℕ} {l : �
             unfolding cut_result cut_of_bytes
             cut-gives {d'} {r} v = subst (λ (x : Res Result). Gives x d d' r) (ap (map_res writes_pieces) (sym pieces_are)) v
 
-pub ruleset cut_laws = (cut_refused, cut_inside, cut_no_id, cut_long, cut-used, cut_given, cut-gives)
+pub ruleset cut_laws = (cut_inside, cut_no_id, cut_long, cut-used, cut_given, cut-gives)

@@ -1,7 +1,7 @@
 -- What the first width that serves says of the plan, and the total length of the pieces. Assumes nothing.
 use Prim.Native.Nat.{ℕ, zero, suc, ◌+◌, ◌-◌, ◌*◌, ◌≤◌, ◌<◌}
 use native.Mathlib.Omega.{arith}
-use mathlib.Core.Path.{◌≡◌, refl, sym, ap, ◌∙◌}
+use mathlib.Core.Path.{◌≡◌, refl, sym, ap, ◌∙◌, subst}
 use mathlib.Core.Bool.{Bool, true, false}
 use Rattle.std.specs.Prelude.{Option, Some, None}
 use mathlib.Core.List.{List, [], ◌∷◌, ◌++◌}
@@ -13,11 +13,11 @@ use Rattle.packing.specs.Packing.{total, pack}
 use Rattle.packing.specs.Divisions.{concat}
 use Rattle.digits.specs.Digits.{digit_count}
 use Rattle.digits.proofs.Numbers.{to_999}
-use Rattle.packing.specs.Widths.{Plan, in_one, in_runs, no_plan, over, serves, tries, plan}
+use Rattle.packing.specs.Widths.{Plan as Runs, in_one, in_runs, no_plan, over, serves, tries, plan}
 use Rattle.packing.proofs.Widths.{Divides, Planned, plan_good, plan_whole, over_counts, over_most, serves_digits}
 use Rattle.division.specs.Marks.{mark_row}
-use Rattle.cut.specs.declared.Chosen.{Chosen}
-use Rattle.cut.specs.Loops.{runs_at, past_last, ends, overheads, chosen_by, chosen_from, chosen, numbered_as, pieces_as, poured}
+use Rattle.cut.specs.declared.Plan.{Plan}
+use Rattle.cut.specs.Loops.{runs_at, past_last, ends, overheads, plan_of, chosen_by, chosen_from, chosen, numbered_as, pieces_as, poured}
 use Rattle.cut.proofs.RowLaws.{part_length, flat_total, rows_total}
 use Rattle.cut.proofs.PourLaws.{mark_length}
 
@@ -85,15 +85,15 @@ tried c rs xs (suc f) w e = go (pack length (over w) c 1 (over w 1) rs) refl (tr
     go None p ih = ih (rw (tries, p) at e)
     go (Some ys) p ih = at ys p (serves w (length ys)) refl ih
 
--- what a found width says
-pub record Found (s : List ℕ) (c w n t : ℕ) : Type 0 where
+-- what a found plan says
+pub record Found (s : List ℕ) (c : ℕ) (p : Plan) : Type 0 where
   pub runs : List (List (List ℕ))
   pub is : plan length c (rows (drop 13 s)) ≡ in_runs runs
-  pub packs : runs_at s c w 1 13 ≡ Some runs
+  pub packs : runs_at s c p.width 1 13 ≡ Some runs
   pub divides : Divides length c (rows (drop 13 s)) runs
-  pub count : length runs ≡ n
-  pub width : digit_count n ≡ w
-  pub sum : t ≡ overheads w n
+  pub count : length runs ≡ p.count
+  pub width : digit_count p.count ≡ p.width
+  pub sum : p.bytes ≡ overheads p.width p.count
 
 module _ (s : List ℕ) (c : ℕ) (h : 13 ≤ length s) where
   pub plan_fits : length s ≤ c → plan length c (rows (drop 13 s)) ≡ in_one
@@ -111,63 +111,59 @@ module _ (s : List ℕ) (c : ℕ) (h : 13 ≤ length s) where
     pub plan_fails : chosen s c ≡ None → plan length c (rows (drop 13 s)) ≡ no_plan
     plan_fails e = go (plan length c (rows (drop 13 s))) refl (plan_good length c (rows (drop 13 s))) (sym chosen_is ∙ e)
       where
-        go : (p : Plan (List ℕ)) → plan length c (rows (drop 13 s)) ≡ p → Planned length c (rows (drop 13 s)) p → chosen_by p ≡ None
+        go : (p : Runs (List ℕ)) → plan length c (rows (drop 13 s)) ≡ p → Planned length c (rows (drop 13 s)) p → chosen_by p ≡ None
             → plan length c (rows (drop 13 s)) ≡ no_plan
         go in_one q f z = absurd (omega (arith, file_total s h))
-        go (in_runs xs) q f z = let y : ◌≡◌ {A = ℕ} 0 1 = cc in absurd (omega arith)
+        go (in_runs xs) q f z = cc
         go no_plan q f z = q
 
-    pub plan_found : (w n t : ℕ) → chosen s c ≡ Some (record { width = w; count = n; overhead = t }) → Found s c w n t
+    pub plan_found : {p : Plan} → chosen s c ≡ Some p → Found s c p
     unfolding runs_at
-    plan_found w n t e = go (plan length c (rows (drop 13 s))) refl (plan_good length c (rows (drop 13 s))) (sym chosen_is ∙ e)
+    plan_found {p} e = go (plan length c (rows (drop 13 s))) refl (plan_good length c (rows (drop 13 s))) (sym chosen_is ∙ e)
       where
-        go : (p : Plan (List ℕ)) → plan length c (rows (drop 13 s)) ≡ p → Planned length c (rows (drop 13 s)) p → chosen_by p ≡ Some (record { width = w; count = n; overhead = t })
-            → Found s c w n t
-        go in_one q f z = let y : ◌≡◌ {A = ℕ} 0 1 = cc in absurd (omega arith)
+        go : (r : Runs (List ℕ)) → plan length c (rows (drop 13 s)) ≡ r → Planned length c (rows (drop 13 s)) r → chosen_by r ≡ Some p
+            → Found s c p
+        go in_one q f z = cc
         go (in_runs xs) q f z =
-            let r : ◌≡◌ {A = Chosen} (record { width = digit_count (length xs); count = length xs; overhead = overheads (digit_count (length xs)) (length xs) })
-            (record { width = w; count = n; overhead = t }) = cc in
-            let a : digit_count (length xs) ≡ w = ap (λ (y : Chosen). y.width) r in
-            let b : length xs ≡ n = ap (λ (y : Chosen). y.count) r in
-            let d : overheads (digit_count (length xs)) (length xs) ≡ t = ap (λ (y : Chosen). y.overhead) r in
-            record {
+            let y : plan_of xs ≡ p = cc in
+            subst (Found s c) y (record {
               runs = xs;
               is = q;
-              packs = rw a at (tried c (rows (drop 13 s)) xs 3 1 (sym plan_is ∙ q));
+              packs = tried c (rows (drop 13 s)) xs 3 1 (sym plan_is ∙ q);
               divides = f;
-              count = b;
-              width = rw b at a;
-              sum = sym (rw (a, b) at d);
-            }
-        go no_plan q f z = let y : ◌≡◌ {A = ℕ} 0 1 = cc in absurd (omega arith)
+              count = refl;
+              width = refl;
+              sum = refl;
+            })
+        go no_plan q f z = cc
 
--- ---- what a found width gives the writer
+-- ---- what a found plan gives the writer
 
-module _ {s : List ℕ} {c w n t : ℕ} (f : Found s c w n t) where
-  pub found_few : n < 1000
+module _ {s : List ℕ} {c : ℕ} {p : Plan} (f : Found s c p) where
+  pub found_few : p.count < 1000
   found_few = omega (arith, f.divides.most, f.count)
 
-  pub found_wide : w ≤ 3
-  found_wide = omega (arith, f.width, to_999 n (omega (arith, found_few)))
+  pub found_wide : p.width ≤ 3
+  found_wide = omega (arith, f.width, to_999 p.count (omega (arith, found_few)))
 
-  pub found_ends : ends s c w 1 13 ≡ Some (n + 1)
+  pub found_ends : ends s c p.width 1 13 ≡ Some (p.count + 1)
   unfolding ends
   found_ends = ap (past_last 1) f.packs ∙ ap Some (omega (arith, f.count))
 
-  pub found_bytes : (id : List ℕ) → flat (numbered_as (part s 0 13) id n 1 f.runs) ≡ poured s c w id n 1 13
+  pub found_bytes : (id : List ℕ) → flat (numbered_as (part s 0 13) id p.count 1 f.runs) ≡ poured s c p.width id p.count 1 13
   unfolding poured
-  found_bytes id = sym (ap (pieces_as (part s 0 13) id n 1) f.packs)
+  found_bytes id = sym (ap (pieces_as (part s 0 13) id p.count 1) f.packs)
 
-  pub found_length : (id : List ℕ) → 13 ≤ length s → length id ≡ 14 → t + (length s - 13) ≡ length (flat (numbered_as (part s 0 13) id n 1 f.runs))
+  pub found_length : (id : List ℕ) → 13 ≤ length s → length id ≡ 14 → p.bytes + (length s - 13) ≡ length (flat (numbered_as (part s 0 13) id p.count 1 f.runs))
   unfolding overheads
   found_length id h g =
       let hd : length (part s 0 13) ≡ 13 = part_length s 0 13 h (omega arith) in
-      let q : 0 + length f.runs ≡ n = omega (arith, f.count) in
+      let q : 0 + length f.runs ≡ p.count = omega (arith, f.count) in
       omega (
         arith,
         f.sum,
-        numbered_length w (part s 0 13) id n hd g found_few f.width f.runs 0 (omega (arith, found_few)),
-        ap (overheads w) q,
+        numbered_length p.width (part s 0 13) id p.count hd g found_few f.width f.runs 0 (omega (arith, found_few)),
+        ap (overheads p.width) q,
         ap (total length) f.divides.all,
         file_total s h,
       )

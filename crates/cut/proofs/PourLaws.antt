@@ -24,7 +24,7 @@ use Rattle.buffers.specs.Buffers.{Room, Wrote}
 use Rattle.buffers.proofs.Runs.{then, carry}
 use Rattle.packing.specs.Widths.{over}
 use Rattle.division.specs.Marks.{mark_line, mark_row}
-use Rattle.cut.specs.Loops.{OverOf, RunAt, runs_at, past_last, ends, numbered_as, pieces_as, poured, piece_as, MarkRoom, PieceRoom, Ready}
+use Rattle.cut.specs.Loops.{OverOf, RunAt, runs_at, past_last, ends, numbered_as, pieces_as, poured, piece_as, MarkRoom, PieceRoom, Planned}
 use Rattle.cut.proofs.RowLaws.{part_length}
 use Rattle.cut.proofs.CountLaws.{no_some, runs_last, runs_next, ends_next, ends_stuck, ends_from}
 
@@ -45,7 +45,7 @@ mark_wrote n k {id = id} p₁ p₂ p₃ p₄ p₅ p₆ p₇ = rw (mark_parts id 
 
 -- ---- one piece
 
-module _ {d : List ℕ} {at : ℕ} {s : List ℕ} {i e : ℕ} {id : List ℕ} {n k : ℕ} (v : PieceRoom d at s i e id n k) where
+module _ {s : List ℕ} {c w n : ℕ} (g : Planned s c w n) {d : List ℕ} {at i e : ℕ} {id : List ℕ} {k : ℕ} (v : PieceRoom d at s i e id n k) where
   sizes : at + 13 + (e - i) + length (mark_row id n k) ≤ length d
   unfolding piece_as
   sizes = omega (
@@ -53,16 +53,16 @@ module _ {d : List ℕ} {at : ℕ} {s : List ℕ} {i e : ℕ} {id : List ℕ} {n
     v.room,
     length-append (part s 0 13) (part s i e ++ mark_row id n k),
     length-append (part s i e) (mark_row id n k),
-    part_length s 0 13 v.header (omega arith),
+    part_length s 0 13 g.small.header (omega arith),
     part_length s i e v.inside v.low,
   )
 
   pub piece_head : Room d at (part s 0 13)
-  piece_head = omega (arith, sizes, part_length s 0 13 v.header (omega arith))
+  piece_head = omega (arith, sizes, part_length s 0 13 g.small.header (omega arith))
 
   module _ {d₁ : List ℕ} {a : ℕ} (p : Wrote d d₁ at a (part s 0 13)) where
     behind_head_lem : a ≡ at + 13
-    behind_head_lem = omega (arith, p.next, part_length s 0 13 v.header (omega arith))
+    behind_head_lem = omega (arith, p.next, part_length s 0 13 g.small.header (omega arith))
 
     pub piece_rows : Room d₁ a (part s i e)
     piece_rows = omega (arith, sizes, behind_head_lem, p.size, part_length s i e v.inside v.low)
@@ -70,8 +70,7 @@ module _ {d : List ℕ} {at : ℕ} {s : List ℕ} {i e : ℕ} {id : List ℕ} {n
     module _ {d₂ : List ℕ} {b : ℕ} (q : Wrote d₁ d₂ a b (part s i e)) where
       pub piece_mark : MarkRoom d₂ b id n k
       piece_mark = record {
-        few_n = v.few_n;
-        few_k = v.few_k;
+        few = v.few;
         room = omega (arith, sizes, behind_head_lem, p.size, q.size, q.next, part_length s i e v.inside v.low, mark_length id n k);
       }
 
@@ -105,22 +104,23 @@ module _ (s : List ℕ) (c w : ℕ) (id : List ℕ) (n k i e : ℕ) (x : RunAt s
 -- ---- the loop
 
 pub record Pouring (d₀ d s : List ℕ) (c w n : ℕ) (id : List ℕ) (o k i : ℕ) : Type 0 where
-  pub ready : Ready d₀ s c w n id
+  pub planned : Planned s c w n
+  pub hold : length (poured s c w id n 1 13) ≤ length d₀
   pub inside : i ≤ length s
   pub count : ends s c w k i ≡ Some (n + 1)
   pub size : length d ≡ length d₀
   pub room : o + length (poured s c w id n k i) ≡ length (poured s c w id n 1 13)
   pub list : sets d o (poured s c w id n k i) ≡ sets d₀ 0 (poured s c w id n 1 13)
 
-pub pour_start : {d s id : List ℕ} {c w n : ℕ} → Ready d s c w n id → Pouring d d s c w n id 0 1 13
-pour_start v = record { ready = v; inside = v.small.header; count = v.count; size = refl; room = omega arith; list = refl }
+pub pour_start : {d s id : List ℕ} {c w n : ℕ} → Planned s c w n → Room d 0 (poured s c w id n 1 13) → Pouring d d s c w n id 0 1 13
+pour_start v r = record { planned = v; hold = omega (arith, r); inside = v.small.header; count = v.count; size = refl; room = omega arith; list = refl }
 
 module _ {d₀ d s : List ℕ} {c w n : ℕ} {id : List ℕ} {o k i : ℕ} (v : Pouring d₀ d s c w n id o k i) where
   few : k ≤ n
   few = omega (arith, ends_from s c w k i (n + 1) v.count)
 
   pub pour_fits : Fits w32 (k + 1)
-  pour_fits = omega (arith, few, v.ready.few)
+  pour_fits = omega (arith, few, v.planned.few)
 
   module _ {u e : ℕ} (y : OverOf w k u) (r : RunAt s i u c e) where
     run : RunAt s i (over w k) c e
@@ -157,12 +157,10 @@ module _ {d₀ d s : List ℕ} {c w n : ℕ} {id : List ℕ} {o k i : ℕ} (v : 
 
     pub pour_room : PieceRoom d o s i e id n k
     pour_room = record {
-      few_n = v.ready.few;
-      few_k = omega (arith, few, v.ready.few);
-      header = v.ready.small.header;
+      few = omega (arith, few, v.planned.few);
       low = r.low;
       inside = r.inside;
-      room = omega (arith, piece_fits, v.room, v.ready.room, v.size);
+      room = omega (arith, piece_fits, v.room, v.hold, v.size);
     }
 
     module _ {d₁ : List ℕ} {o₁ : ℕ} (p : Wrote d d₁ o o₁ (piece_as s id n k i e)) where
@@ -176,7 +174,8 @@ module _ {d₀ d s : List ℕ} {c w n : ℕ} {id : List ℕ} {o k i : ℕ} (v : 
 
       pub pour_next : e < length s → Pouring d₀ d₁ s c w n id o₁ (k + 1) e
       pour_next h = record {
-        ready = v.ready;
+        planned = v.planned;
+        hold = v.hold;
         inside = r.inside;
         count = next_count h;
         size = p.size ∙ v.size;

@@ -1,7 +1,7 @@
 -- Rows at a position, and the longest run of rows that fits, which `run_end` looks for from the back. Assumes nothing.
 use Prim.Native.Nat.{ℕ, zero, suc, ◌+◌, ◌-◌, ◌≤◌, ◌<◌}
 use native.Mathlib.Omega.{arith}
-use mathlib.Core.Path.{◌≡◌, refl, sym, ap, ap₂, ◌∙◌}
+use mathlib.Core.Path.{◌≡◌, refl, sym, ap, ap₂, ◌∙◌, subst}
 use mathlib.Core.Bool.{Bool, true, false, cond}
 use mathlib.Core.List.{List, [], ◌∷◌, ◌++◌, append-nil}
 use borrow.Author.Tests.{eq-eqb, ne_eqb}
@@ -14,7 +14,9 @@ use Rattle.lists.proofs.Cuts.{drop_end, rest_all, up_to_go}
 use Rattle.characters.specs.Rows.{cons_row, rows, flat}
 use Rattle.characters.proofs.RowLaws.{first_row, flat_rows}
 use Rattle.packing.specs.Packing.{total}
-use Rattle.cut.specs.Loops.{first_length, RunAt}
+use Rattle.std.specs.Prelude.{Option, Some, None}
+use Rattle.lists.proofs.Parts.{part_at}
+use Rattle.cut.specs.Loops.{LastMeans, LastOf, first_length, RunAt}
 
 -- ---- lengths
 
@@ -69,14 +71,18 @@ row_long n (a ∷ t) h g = go n (eqb a 0x0a) h g (λ m. row_long m t)
         more [] k = absurd (omega arith)
         more (r ∷ rs) k = omega arith
 
--- ---- the loop: no 0Ah stands from e on within the capacity, of which room is left beside the u bytes
+-- ---- the ways through run_end
 
-pub record Backing (s : List ℕ) (i u c e : ℕ) : Type 0 where
-  pub used : u ≤ c
-  pub low : i ≤ e
-  pub high : e ≤ i + (c - u)
-  pub inside : i + (c - u) < length s
-  pub clear : i + (c - u) ≤ find_from 0x0a s e
+-- no 0Ah stands from e on before m
+clear_from : (s : List ℕ) (m e : ℕ) → e ≤ m → m ≤ length s → ((k : ℕ) → e ≤ k → k < m → get_or s k 0 ≡ 0x0a → ⊥) → m ≤ find_from 0x0a s e
+unfolding find_from
+clear_from s m e h l n = go (m - e) e (omega arith) h n
+  where
+    go : (d e : ℕ) → m - e ≡ d → e ≤ m → ((k : ℕ) → e ≤ k → k < m → get_or s k 0 ≡ 0x0a → ⊥) → m ≤ e + length (up_to (is 0x0a) (drop e s))
+    go zero e q h n = omega (arith, q)
+    go (suc d) e q h n =
+        let g : up_to (is 0x0a) (drop e s) ≡ get_or s e 0 ∷ up_to (is 0x0a) (drop (e + 1) s) = up_to_go (is 0x0a) s e (omega arith) (ne_eqb _ _ (n e (omega arith) (omega arith))) in
+        omega (arith, ap length g, go d (e + 1) (omega arith) (omega arith) (λ k a b. n k (omega arith) b))
 
 module _ (s : List ℕ) (i u c : ℕ) where
   same_cut : rows (drop i s) ≡ rows (part s i i) ++ rows (drop i s)
@@ -100,56 +106,54 @@ module _ (s : List ℕ) (i u c : ℕ) where
     next = λ m. absurd (omega arith);
   }
 
-  pub back_start : i ≤ length s → u ≤ c → c - u < length s - i → Backing s i u c (i + (c - u))
-  unfolding find_from
-  back_start h g l = record { used = g; low = omega arith; high = omega arith; inside = omega arith; clear = omega arith }
+  -- what fits is less than what is left, and r tells its last 0Ah
+  module _ (h : i ≤ length s) (g : u ≤ c) (l : c - u < length s - i) {r : Option ℕ} (w : LastOf (part s i (i + (c - u))) r) where
+    seen : length (part s i (i + (c - u))) ≡ c - u
+    seen = part_length s i (i + (c - u)) (omega arith) (omega arith) ∙ omega arith
 
-  module _ (e : ℕ) (v : Backing s i u c e) where
-    -- a byte that is no 0Ah
-    pub back_step : i < e → (get_or s (e - 1) 0 ≡ 0x0a → ⊥) → Backing s i u c (e - 1)
+    byte : (k : ℕ) → k < c - u → get_or (part s i (i + (c - u))) k 0 ≡ get_or s (i + k) 0
+    byte k m = part_at s i (i + (c - u)) k (omega arith)
+
+    -- a row that begins where no 0Ah follows within the capacity
+    long : (e : ℕ) → i ≤ e → e ≤ i + (c - u) → ((k : ℕ) → e ≤ k → k < i + (c - u) → get_or s k 0 ≡ 0x0a → ⊥) → i + (c - u) - e < first_length (rows (drop e s))
     unfolding find_from
-    back_step h n =
-        let q : e - 1 + 1 ≡ e = omega arith in
-        let g : up_to (is 0x0a) (drop (e - 1) s) ≡ get_or s (e - 1) 0 ∷ up_to (is 0x0a) (drop (e - 1 + 1) s) =
-        up_to_go (is 0x0a) s (e - 1) (omega (arith, v.high, v.inside)) (ne_eqb _ _ n) in
+    long e a b n =
+        row_long (i + (c - u) - e) (drop e s) (omega (arith, clear_from s (i + (c - u)) e b (omega arith) n)) (omega (arith, length-drop e s))
+
+    means : {x : Option ℕ} → r ≡ x → LastMeans (part s i (i + (c - u))) x
+    means q = subst (LastMeans (part s i (i + (c - u)))) q w.means
+
+    pub run_found : {last : ℕ} → r ≡ Some last → RunAt s i u c (i + last + 1)
+    run_found {last} q =
+        let m : LastMeans (part s i (i + (c - u))) (Some last) = means q in
+        let a : last < c - u = omega (arith, m.0, seen) in
+        let b : suc last ≡ i + last + 1 - i = omega arith in
+        let d : i + suc last ≡ i + last + 1 = omega arith in
+        let f : get_or (drop i s) last 0 ≡ 0x0a = get_or-drop i s last 0 ∙ sym (byte last a) ∙ m.1 in
+        let o : i + (c - u) - (i + last + 1) < first_length (rows (drop (i + last + 1) s)) =
+        long (i + last + 1) (omega arith) (omega arith)
+        (λ k x y z. let t : i + (k - i) ≡ k = omega arith in m.2 (k - i) (omega arith) (omega (arith, seen)) (byte (k - i) (omega arith) ∙ ap (λ (j : ℕ). get_or s j 0) t ∙ z)) in
         record {
-          used = v.used;
           low = omega arith;
-          high = omega (arith, v.high);
-          inside = v.inside;
-          clear = omega (arith, v.clear, ap length g, ap (λ (j : ℕ). length (up_to (is 0x0a) (drop j s))) q);
+          inside = omega arith;
+          cut = rows_cut last (drop i s) (omega (arith, length-drop i s)) f
+              ∙ ap₂ (λ (x y : List ℕ). rows x ++ rows y) (ap (λ (j : ℕ). take j (drop i s)) b) (drop-drop (suc last) i s ∙ ap (λ (j : ℕ). drop j s) d);
+          fits = λ _. omega arith;
+          next = λ _. omega (arith, o);
         }
 
-    long : i + (c - u) - e < first_length (rows (drop e s))
-    unfolding find_from
-    long = row_long (i + (c - u) - e) (drop e s) (omega (arith, v.clear)) (omega (arith, v.inside, v.high, length-drop e s))
-
-    -- a 0Ah, or none
-    pub back_found : i < e → get_or s (e - 1) 0 ≡ 0x0a → RunAt s i u c e
-    back_found h f =
-        let a : i + (e - 1 - i) ≡ e - 1 = omega arith in
-        let b : suc (e - 1 - i) ≡ e - i = omega arith in
-        let d : i + suc (e - 1 - i) ≡ e = omega arith in
-        let g : get_or (drop i s) (e - 1 - i) 0 ≡ 0x0a = get_or-drop i s (e - 1 - i) 0 ∙ ap (λ (j : ℕ). get_or s j 0) a ∙ f in
+    pub run_stuck : r ≡ None → RunAt s i u c i
+    run_stuck q =
+        let m : LastMeans (part s i (i + (c - u))) None = means q in
+        let o : i + (c - u) - i < first_length (rows (drop i s)) =
+        long i (omega arith) (omega arith)
+        (λ k x y z. let t : i + (k - i) ≡ k = omega arith in m (k - i) (omega (arith, seen)) (byte (k - i) (omega arith) ∙ ap (λ (j : ℕ). get_or s j 0) t ∙ z)) in
         record {
-          low = v.low;
-          inside = omega (arith, v.high, v.inside);
-          cut = rows_cut (e - 1 - i) (drop i s) (omega (arith, v.high, v.inside, length-drop i s)) g
-              ∙ ap₂ (λ (x y : List ℕ). rows x ++ rows y) (ap (λ (j : ℕ). take j (drop i s)) b)
-              (drop-drop (suc (e - 1 - i)) i s ∙ ap (λ (j : ℕ). drop j s) d);
-          fits = λ _. omega (arith, v.high, v.used);
-          next = λ _. omega (arith, long, v.high, v.used);
-        }
-
-    pub back_out : e ≤ i → RunAt s i u c e
-    back_out h =
-        let q : e ≡ i = omega (arith, v.low) in
-        record {
-          low = v.low;
-          inside = omega (arith, v.high, v.inside);
-          cut = rw q same_cut;
+          low = omega arith;
+          inside = h;
+          cut = same_cut;
           fits = λ l. absurd (omega arith);
-          next = λ _. omega (arith, long, v.high, v.used);
+          next = λ _. omega (arith, o);
         }
 
-pub ruleset run_laws = (run_none, run_all, back_start, back_step, back_found, back_out)
+pub ruleset run_laws = (run_none, run_all, run_found, run_stuck)

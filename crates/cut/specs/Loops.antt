@@ -2,18 +2,17 @@
 -- What the code of cutting follows, over the bytes s of a canonical file: 13 bytes of line 1, then rows. Each form is a function of `pack`
 -- or `tries` (packing, specs/) at the loop's place: piece k begins with the row at i. Cut.antt says the same of notebooks;
 -- proofs/FileLaws.antt joins the two.
-use Rattle.std.specs.Prelude.{ℕ, zero, suc, ◌+◌, ◌-◌, ◌≤◌, ◌<◌, ◌≡◌, List, [], ◌∷◌, ◌++◌, length, drop}
-use Rattle.std.specs.Prelude.{Option, Some, None}
+use Rattle.std.specs.Prelude.{ℕ, zero, suc, ◌+◌, ◌-◌, ◌≤◌, ◌<◌, ◌≡◌, List, [], ◌∷◌, ◌++◌, Option, Some, None, length, get_or, drop}
 use Rattle.lists.specs.Lists.{Res, map_res}
 use Rattle.lists.specs.Searching.{part}
 use Rattle.digits.specs.Digits.{spell, digit_count}
 use Rattle.characters.specs.Rows.{rows, flat}
 use Rattle.packing.specs.Packing.{pack}
-use Rattle.packing.specs.Widths.{Plan, in_one, in_runs, no_plan, over, tries, plan}
+use Rattle.packing.specs.Widths.{Plan as Runs, in_one, in_runs, no_plan, over, tries, plan}
 use Rattle.division.specs.Marks.{mark_row}
 use Rattle.division.specs.Cut.{listed, writes_pieces}
 use Rattle.replies.specs.Results.{Result}
-use Rattle.cut.specs.declared.Chosen.{Chosen}
+use Rattle.cut.specs.declared.Plan.{Plan}
 
 -- ---- the count
 
@@ -21,6 +20,14 @@ use Rattle.cut.specs.declared.Chosen.{Chosen}
 pub record OverOf (w k r : ℕ) : Type 0 where
   pub is : r ≡ over w k
   pub most : r ≤ 42
+
+-- r is where the last 0Ah stands, if there is one
+abbrev pub LastMeans : List ℕ → Option ℕ → Type 0
+LastMeans s None = (k : ℕ) → k < length s → get_or s k 0 ≡ 0x0a → ⊥
+LastMeans s (Some i) = (i < length s) × (get_or s i 0 ≡ 0x0a) × ((k : ℕ) → i < k → k < length s → get_or s k 0 ≡ 0x0a → ⊥)
+
+pub record LastOf (s : List ℕ) (r : Option ℕ) : Type 0 where
+  pub means : LastMeans s r
 
 -- the bytes of the first row
 abbrev pub first_length : List (List ℕ) → ℕ
@@ -53,17 +60,19 @@ overheads w zero = 0
 overheads w (suc k) = overheads w k + over w (suc k)
 
 -- the width, the count, and what the pieces hold besides their records
-abbrev pub chosen_by : Plan (List ℕ) → Option Chosen
+abbrev pub plan_of : List (List (List ℕ)) → Plan
+plan_of xs = record { width = digit_count (length xs); count = length xs; bytes = overheads (digit_count (length xs)) (length xs) }
+
+abbrev pub chosen_by : Runs (List ℕ) → Option Plan
 chosen_by in_one = None
-chosen_by (in_runs xs) =
-    Some (record { width = digit_count (length xs); count = length xs; overhead = overheads (digit_count (length xs)) (length xs) })
+chosen_by (in_runs xs) = Some (plan_of xs)
 chosen_by no_plan = None
 
 -- the widths from w on
-unfoldable pub chosen_from : List ℕ → ℕ → ℕ → Option Chosen
+unfoldable pub chosen_from : List ℕ → ℕ → ℕ → Option Plan
 chosen_from s c w = chosen_by (tries length c (4 - w) w (rows (drop 13 s)))
 
-unfoldable pub chosen : List ℕ → ℕ → Option Chosen
+unfoldable pub chosen : List ℕ → ℕ → Option Plan
 chosen s c = chosen_from s c 1
 
 -- a file that is longer than the capacity
@@ -92,32 +101,28 @@ poured s c w id n k i = pieces_as (part s 0 13) id n k (runs_at s c w k i)
 unfoldable pub piece_as : List ℕ → List ℕ → ℕ → ℕ → ℕ → ℕ → List ℕ
 piece_as s id n k i e = part s 0 13 ++ (part s i e ++ mark_row id n k)
 
--- a record 911 fits d from index at on
-pub record MarkRoom (d : List ℕ) (at : ℕ) (id : List ℕ) (n k : ℕ) : Type 0 where
-  pub few_n : n < 1000
-  pub few_k : k < 1000
-  pub room : at + (8 + length id + length (spell n) + length (spell k)) ≤ length d
-
--- a piece does
-pub record PieceRoom (d : List ℕ) (at : ℕ) (s : List ℕ) (i e : ℕ) (id : List ℕ) (n k : ℕ) : Type 0 where
-  pub few_n : n < 1000
-  pub few_k : k < 1000
-  pub header : 13 ≤ length s
-  pub low : i ≤ e
-  pub inside : e ≤ length s
-  pub room : at + length (piece_as s id n k i e) ≤ length d
-
--- the n pieces for a found width fit d
-pub record Ready (d s : List ℕ) (c w n : ℕ) (id : List ℕ) : Type 0 where
+-- a file that is longer than the capacity is cut by a plan of this width and count
+pub record Planned (s : List ℕ) (c w n : ℕ) : Type 0 where
   pub small : Small s c
   pub wide : w ≤ 3
   pub few : n < 1000
   pub count : ends s c w 1 13 ≡ Some (n + 1)
-  pub room : length (poured s c w id n 1 13) ≤ length d
+
+-- a record 911 fits d from index at on
+pub record MarkRoom (d : List ℕ) (at : ℕ) (id : List ℕ) (n k : ℕ) : Type 0 where
+  pub few : k < 1000
+  pub room : at + (8 + length id + length (spell n) + length (spell k)) ≤ length d
+
+-- a piece does
+pub record PieceRoom (d : List ℕ) (at : ℕ) (s : List ℕ) (i e : ℕ) (id : List ℕ) (n k : ℕ) : Type 0 where
+  pub few : k < 1000
+  pub low : i ≤ e
+  pub inside : e ≤ length s
+  pub room : at + length (piece_as s id n k i e) ≤ length d
 
 -- ---- the answer for canonical bytes
 
-abbrev pub planned_as : List ℕ → List ℕ → Plan (List ℕ) → Option (List (List ℕ))
+abbrev pub planned_as : List ℕ → List ℕ → Runs (List ℕ) → Option (List (List ℕ))
 planned_as id s in_one = Some (s ∷ [])
 planned_as id s (in_runs xs) = Some (numbered_as (part s 0 13) id (length xs) 1 xs)
 planned_as id s no_plan = None

@@ -6,7 +6,7 @@
 #![tactic(auto)]
 
 ghost use Rattle.std.specs.Prelude.{◌≡◌, ◌≤◌, length};
-ghost use Rattle.buffers.specs.Buffers.{Wrote};
+ghost use Rattle.buffers.specs.Buffers.{Room, Wrote};
 ghost use Rattle.digits.specs.Digits.{digit_count};
 ghost use Rattle.packing.specs.Widths.{serves};
 ghost use Rattle.canonical.specs.Writing.{Holds};
@@ -14,11 +14,13 @@ ghost use Rattle.division.specs.Marks.{mark_row};
 ghost use Rattle.division.specs.Cut.{cut_result};
 ghost use Rattle.replies.specs.Refusals.{answer};
 ghost use Rattle.replies.specs.CallContracts.{Gives};
-ghost use Rattle.cut.specs.Loops.{OverOf, RunAt, Small, chosen, MarkRoom, piece_as, PieceRoom, poured, Ready, Given, cut_of_bytes};
+ghost use Rattle.cut.specs.Loops.{OverOf, LastOf, RunAt, Small, chosen, Planned, MarkRoom, piece_as, PieceRoom, poured, Given, cut_of_bytes};
 
 use replies::{Answer, Refusal, Values};
+use std::ops::Range;
 
 // The digits of a number below 1,000; 4 for any above.
+#[tactic(auto, unfolding(digits::specs::Digits::digit_count))]
 fn digits_of(n: u32) -> usize
     ensures { result ≡ digit_count n }
 {
@@ -31,6 +33,7 @@ fn digits_of(n: u32) -> usize
 }
 
 // What piece k holds besides its records, where the count has w digits.
+#[tactic(auto, using(digits::proofs::Numbers::count_most), unfolding(packing::specs::Widths::over))]
 fn overhead(w: usize, k: u32) -> usize
     requires { w ≤ 3 }
     ensures { OverOf w k result }
@@ -39,10 +42,18 @@ fn overhead(w: usize, k: u32) -> usize
 }
 
 // A count of w digits, and of no single piece.
+#[tactic(auto, unfolding(packing::specs::Widths::serves))]
 fn serves_width(w: usize, n: u32) -> bool
     ensures { result ≡ serves w n }
 {
     (digits_of(n) == w) & (2 <= n)
+}
+
+// Where the last 0Ah stands.
+fn last_feed(s: &[u8]) -> Option<usize>
+    ensures { LastOf s.now result }
+{
+    s.iter().rposition(|b| *b == b'\n')
 }
 
 // Where the longest run of rows from i on ends that fits a capacity beside u bytes: the end if all fit, else after the last 0Ah that
@@ -58,27 +69,23 @@ fn run_end(s: &[u8], i: usize, u: usize, c: usize) -> usize
     if s.len() - i <= room {
         return s.len();
     }
-    let mut e = i + room;
-    while i < e {
-        let last = e - 1;
-        if s[last] == 0x0a {
-            return e;
-        }
-        e = last;
+    match last_feed(&s[i..i + room]) {
+        Some(last) => i + last + 1,
+        None => i,
     }
-    e
 }
 
 // The width of the count, the count, and the bytes that the pieces hold besides their records.
 #[derive(Clone, Copy)]
-pub struct Chosen {
+pub struct Plan {
     pub width: usize,
     pub count: u32,
-    pub overhead: usize,
+    pub bytes: usize,
 }
 
-// The first width that serves, if one does.
-fn first_width(s: &[u8], c: usize) -> Option<Chosen>
+// The first width that serves.
+#[tactic(auto, using(crate::proofs::CountLaws::count_laws))]
+fn first_width(s: &[u8], c: usize) -> Option<Plan>
     requires { Small s.now c }
     ensures { result ≡ chosen s.now c }
 {
@@ -115,65 +122,66 @@ fn first_width(s: &[u8], c: usize) -> Option<Chosen>
             t += u;
         }
     };
-    Some(Chosen {
+    Some(Plan {
         width: w,
         count,
-        overhead: t,
+        bytes: t,
     })
 }
 
-// The row 911,ID,n,k.
-fn put_mark(out: &mut [u8], at: usize, id: &[u8], n: u32, k: u32) -> usize
-    requires { MarkRoom out.old at id.now n k }
-    ensures { Wrote out.old out.new at result (mark_row id.now n k) }
-{
-    let a = buffers::put_all(out, at, b"911,");
-    let b = buffers::put_all(out, a, id);
-    let c = buffers::put_byte(out, b, 44);
-    let d = buffers::put_number(out, c, n);
-    let e = buffers::put_byte(out, d, 44);
-    let f = buffers::put_number(out, e, k);
-    buffers::put_all(out, f, b"\r\n")
+// What is written: a canonical file in pieces of at most the capacity, by a plan, with an ID.
+#[derive(Clone, Copy)]
+pub struct Cutting<'a> {
+    pub file: &'a [u8],
+    pub capacity: usize,
+    pub plan: Plan,
+    pub id: &'a [u8],
+    pub ghost planned: { Planned file.now capacity plan.width plan.count },
 }
 
-// Piece k of n: line 1, the rows from i to before e, and the record 911.
-fn put_piece(
-    out: &mut [u8],
-    at: usize,
-    s: &[u8],
-    i: usize,
-    e: usize,
-    id: &[u8],
-    n: u32,
-    k: u32,
-) -> usize
-    requires { PieceRoom out.old at s.now i e id.now n k }
-    ensures { Wrote out.old out.new at result (piece_as s.now id.now n k i e) }
-{
-    let start = 0;
-    let end = 13;
-    let a = buffers::put_all(out, at, &s[start..end]);
-    let b = buffers::put_all(out, a, &s[i..e]);
-    put_mark(out, b, id, n, k)
-}
+impl Cutting<'_> {
+    // The row 911,ID,n,k.
+    fn put_mark(&self, out: &mut [u8], at: usize, k: u32) -> usize
+        requires { MarkRoom out.old at self.now.id.now self.now.plan.count k }
+        ensures { Wrote out.old out.new at result (mark_row self.now.id.now self.now.plan.count k) }
+    {
+        let a = buffers::put_all(out, at, b"911,");
+        let b = buffers::put_all(out, a, self.id);
+        let c = buffers::put_byte(out, b, b',');
+        let d = buffers::put_number(out, c, self.plan.count);
+        let e = buffers::put_byte(out, d, b',');
+        let f = buffers::put_number(out, e, k);
+        buffers::put_all(out, f, b"\r\n")
+    }
 
-// The pieces, one after another.
-fn pour_pieces(out: &mut [u8], s: &[u8], c: usize, w: usize, n: u32, id: &[u8]) -> usize
-    requires { Ready out.old s.now c w n id.now }
-    ensures { Wrote out.old out.new 0 result (poured s.now c w id.now n 1 13) }
-{
-    let mut o: usize = 0;
-    let mut k: u32 = 1;
-    let mut i: usize = 13;
-    loop {
-        let u = overhead(w, k);
-        let e = run_end(s, i, u, c);
-        o = put_piece(out, o, s, i, e, id, n, k);
-        if s.len() <= e {
-            return o;
+    // Piece k: line 1, its rows and the record 911.
+    fn put_piece(&self, out: &mut [u8], at: usize, rows: Range<usize>, k: u32) -> usize
+        requires { PieceRoom out.old at self.now.file.now rows.start rows.end self.now.id.now self.now.plan.count k }
+        ensures { Wrote out.old out.new at result (piece_as self.now.file.now self.now.id.now self.now.plan.count k rows.start rows.end) }
+    {
+        let a = buffers::put_all(out, at, &self.file[..13]);
+        let b = buffers::put_all(out, a, &self.file[rows]);
+        self.put_mark(out, b, k)
+    }
+
+    // The pieces, one after another.
+    fn pour_pieces(&self, out: &mut [u8]) -> usize
+        requires { Room out.old 0 (poured self.now.file.now self.now.capacity self.now.plan.width self.now.id.now self.now.plan.count 1 13) }
+        ensures { Wrote out.old out.new 0 result (poured self.now.file.now self.now.capacity self.now.plan.width self.now.id.now self.now.plan.count 1 13) }
+    {
+        let mut o: usize = 0;
+        let mut k: u32 = 1;
+        let mut i: usize = 13;
+        loop {
+            let u = overhead(self.plan.width, k);
+            let e = run_end(self.file, i, u, self.capacity);
+            o = self.put_piece(out, o, i..e, k);
+            if self.file.len() <= e {
+                return o;
+            }
+            k += 1;
+            i = e;
         }
-        k += 1;
-        i = e;
     }
 }
 
@@ -195,21 +203,25 @@ fn cut_bytes(s: &[u8], capacity: u64, id: &[u8], out: &mut [u8]) -> Answer
             c: 0,
         });
     }
-    match first_width(s, c) {
-        None => Err(Refusal::NoCutting.at(0)),
-        Some(chosen) => {
-            let total = chosen.overhead + (len - 13);
-            if out.len() < total {
-                return Err(Refusal::Short.at(0));
-            }
-            pour_pieces(out, s, c, chosen.width, chosen.count, id);
-            Ok(Values {
-                a: chosen.count,
-                b: total as u32,
-                c: 0,
-            })
-        }
+    let Some(plan) = first_width(s, c) else {
+        return Err(Refusal::NoCutting.at(0));
+    };
+    let total = plan.bytes + (len - 13);
+    if out.len() < total {
+        return Err(Refusal::Short.at(0));
     }
+    let cutting = Cutting {
+        file: s,
+        capacity: c,
+        plan,
+        id,
+    };
+    cutting.pour_pieces(out);
+    Ok(Values {
+        a: plan.count,
+        b: total as u32,
+        c: 0,
+    })
 }
 
 // Cuts a file into pieces of at most the capacity, one after another from the output's start on; or the one refusal. used: the run of used IDs.
@@ -225,14 +237,14 @@ fn cut_by(
     requires { Holds file.now bytes.old }
     ensures { Gives (cut_result file.now capacity id.now used.now) out.old out.new (answer result) }
 {
-    let end = canonical::canonical_into(file, bytes)?.a as usize;
+    let made = canonical::canonical_into(file, bytes)?;
     if !pieces::valid_id(id) {
         return Err(Refusal::Id.at(0));
     }
     if !used::is_unused(id, used) {
         return Err(Refusal::Used.at(0));
     }
-    cut_bytes(&bytes[..end], capacity, id, out)
+    cut_bytes(&bytes[..made.a as usize], capacity, id, out)
 }
 
 // The same with an array of its own.
@@ -242,6 +254,6 @@ pub fn cut(file: &[u8], capacity: u64, id: &[u8], used: &[u8], out: &mut [u8]) -
     buffers::with_room(
         file.len(),
         out,
-        |bytes, out| cut_by(file, bytes, capacity, id, used, out),
+        |room, out| cut_by(file, room, capacity, id, used, out),
     )
 }

@@ -1,5 +1,5 @@
 use Rattle.cut.proofs.PourLaws.{mark_wrote}
-use Rattle.cut.proofs.put_mark.Goals as goal
+use Rattle.cut.proofs.Cutting.put_mark.Goals as goal
 
 pub returns : goal.returns
 returns c =

@@ -1,6 +1,6 @@
 use Rattle.std.proofs.Common.{rules}
 use Rattle.cut.proofs.PourLaws.{piece_laws}
-use Rattle.cut.proofs.put_piece.Goals as goal
+use Rattle.cut.proofs.Cutting.put_piece.Goals as goal
 
 pub put_all-a-requires : goal.put_all-a-requires
 put_all-a-requires c = search (rules, piece_laws)
