@@ -2,7 +2,6 @@
 use Prim.Native.Nat.{ℕ, ◌+◌, ◌-◌, ◌≤◌}
 use mathlib.Core.Path.{◌≡◌, refl, sym, ap, ap₂, ◌∙◌, subst}
 use mathlib.Core.Bool.{Bool, true, false, cond, not, ◌&&◌, false≢true}
-use Rattle.std.specs.Prelude.{Option}
 use mathlib.Core.List.{List, [], ◌∷◌, ◌++◌, append_assoc, append-nil}
 use native.Mathlib.Omega.{arith}
 use borrow.Author.Tests.{not-true}
@@ -22,13 +21,14 @@ use Rattle.pieces.specs.declared.Row.TheVariants.{Head, EndHead, Body, End, Brok
 use Rattle.division.specs.Marks.{Mark, read_mark}
 use Rattle.division.specs.Pieces.{RowKind, head, end_head, body, end, broken, kind_of, body_step, body_of, opened, pieces_in}
 use Rattle.pieces.specs.Answers.{RowAt, as_kind, KindIs, as_mark, Most, Reaches, MarkIs}
-use Rattle.std.specs.Prelude.{Some, None, Ok, Err}
+use Rattle.std.specs.Prelude.{Some, None, Ok, Err, Option}
 use Rattle.replies.specs.declared.refusal.Refusal.{Refusal}
 use Rattle.replies.specs.declared.refusal.Refusal.TheVariants.{Set}
-use Rattle.pieces.specs.declared.Mark.{Mark as NandK}
+use Rattle.pieces.specs.declared.Mark.{Mark as Numbers}
 use Rattle.division.specs.Join.{unmarked, Part, row_before, last_mark, part_of}
-use Rattle.join.specs.Spans.{is_whole, unbroken, is_body, goes_on, LineAt, part_by, ident_at, LastIs, LinesAre}
-use Rattle.join.proofs.WalkLaws.{row_bounds, goes_over, goes_head, goes_end_head, goes_end, goes_broken, unbroken_step}
+use Rattle.join.specs.declared.body.Lines.{Lines}
+use Rattle.join.specs.Spans.{is_whole, unbroken, is_body, goes_on, LineAt, PlainLines, part_by, ident_at, MarkedLines, LastIs, MarkMeans, LinesAre}
+use Rattle.join.proofs.WalkLaws.{goes_over, goes_head, goes_end_head, goes_end, goes_broken, unbroken_step}
 
 -- ---- a row of kind body is a line; its text is all but two bytes
 
@@ -67,9 +67,6 @@ module _ {s : List ℕ} {at e : ℕ} (x : LineAt s at e) where
   pub line_high : e - 2 ≤ length s
   line_high = omega (arith, x.row.inside)
 
-  pub line_behind : e ≤ length s
-  line_behind = x.row.inside
-
   pub line_text : text (part s at e) ≡ part s at (e - 2)
   line_text =
       let n : length (text (part s at e)) ≡ e - 2 - at = omega (arith, two) in
@@ -105,23 +102,23 @@ body_over (r ∷ rs) e = go (kind_of r) e
     go end e = refl
     go broken e = refl
 
-module _ {s : List ℕ} {at e : ℕ} (x : LineAt s at e) {o : Option NandK} (p : MarkIs (take (e - 2 - at) (drop at s)) o) where
-  read : {j : Option NandK} → o ≡ j → read_mark (text (part s at e)) ≡ as_mark (part (part s at (e - 2)) 4 18) j
+module _ {s : List ℕ} {at e : ℕ} (x : LineAt s at e) {m : Option Numbers} (p : MarkIs (take (e - 2 - at) (drop at s)) m) where
+  read : {j : Option Numbers} → m ≡ j → read_mark (text (part s at e)) ≡ as_mark (part (part s at (e - 2)) 4 18) j
   read q = ap read_mark (line_text x) ∙ (p.is ∙ ap (as_mark (part (part s at (e - 2)) 4 18)) q)
 
   wrong : ((d : Bool) → last_mark d (body_of (rows (drop e s))) (read_mark (text (part s at e))) ≡ None) → LastIs s at e (Err Set)
   wrong f = record { means = record { number = refl; none = f } }
 
-  pub last_unread : o ≡ None → LastIs s at e (Err Set)
+  pub last_unread : m ≡ None → LastIs s at e (Err Set)
   last_unread q = wrong (λ d. ap (last_mark d (body_of (rows (drop e s)))) (read q) ∙ last_none d (body_of (rows (drop e s))))
 
-  module _ {m : NandK} (q : o ≡ Some m) {y : Bool} (g : y ≡ goes_on (rows (drop e s))) where
+  module _ {y : Bool} (g : y ≡ goes_on (rows (drop e s))) where
     pub last_on : y ≡ true → LastIs s at e (Err Set)
     last_on t = wrong (λ d. body_on (rows (drop e s)) d (read_mark (text (part s at e))) (sym g ∙ t))
 
-    pub last_read : y ≡ false → LastIs s at e (Ok m)
-    last_read t =
-        let c : (m.count ≤ 999) × (m.place ≤ 999) = subst Most q p.most in
+    pub last_read : {n : Numbers} → m ≡ Some n → y ≡ false → LastIs s at e (Ok n)
+    last_read {n} q t =
+        let c : (n.count ≤ 999) × (n.place ≤ 999) = subst Most q p.most in
         let h : 18 ≤ length (part s at (e - 2)) = subst (Reaches (part s at (e - 2))) q p.reaches in
         let l : length (part s at (e - 2)) ≡ e - 2 - at = part_length s at (e - 2) (line_before x) (line_high x) in
         let w : part (part s at (e - 2)) 4 18 ≡ ident_at s at = part_part s at (e - 2) 4 18 (omega arith) (omega (arith, line_room x)) in
@@ -130,12 +127,12 @@ module _ {s : List ℕ} {at e : ℕ} (x : LineAt s at e) {o : Option NandK} (p :
             ident = omega (arith, line_room x);
             count = c.0;
             place = c.1;
-            read = read q ∙ ap (λ (i : List ℕ). as_mark i (Some m)) w;
+            read = read q ∙ ap (λ (i : List ℕ). as_mark i (Some n)) w;
             last = sym g ∙ t;
           };
         }
 
-pub ruleset last_laws = (line_two, line_before, line_high, line_behind, last_unread, last_on, last_read)
+pub ruleset last_laws = (line_two, line_before, line_high, last_unread, last_on, last_read)
 
 -- ---- the rows before a position: lines of the piece, none of them a record 911
 
@@ -342,7 +339,7 @@ module _ {s : List ℕ} {from at : ℕ} (v : Before s from at) where
             mean = record { number = m.means.number; marked = not_plain; none = λ d. by_last d ∙ (ap (infront v.front) (m.means.none d) ∙ front_none v.front) };
           }
 
-          pub lines_marked : {m : NandK} → LastIs s at e (Ok m) → LinesAre s from (Ok (record { end = at; stop = e; mark = Some m }))
+          pub lines_marked : {m : Numbers} → LastIs s at e (Ok m) → LinesAre s from (Ok (record { end = at; stop = e; mark = Some m }))
           lines_marked {m} l = record {
             mean = record {
               low = v.low;
@@ -364,4 +361,13 @@ module _ {s : List ℕ} {from at : ℕ} (v : Before s from at) where
           }
 
 pub ruleset lines_laws =
-    (row_bounds, lines_start, lines_out, lines_other, lines_line, lines_two, lines_before, lines_high, lines_go, lines_wrong, lines_marked)
+    (lines_start, lines_out, lines_other, lines_line, lines_two, lines_before, lines_high, lines_go, lines_wrong, lines_marked)
+
+-- ---- the rows that were read, with a record 911 or without
+
+module _ {s : List ℕ} {from : ℕ} {l : Lines} (v : LinesAre s from (Ok l)) where
+  pub with_mark : {n : Numbers} → l.mark ≡ Some n → MarkedLines s from l.end l.stop n.count n.place
+  with_mark q = subst (MarkMeans s from l.end l.stop) q v.mean
+
+  pub without_mark : l.mark ≡ None → PlainLines s from l.end l.stop
+  without_mark q = subst (MarkMeans s from l.end l.stop) q v.mean

@@ -16,8 +16,9 @@ use Rattle.buffers.specs.Room.{Roomy}
 use Rattle.replies.specs.declared.refusal.Refusal.TheVariants.{Large, Short}
 use Rattle.replies.specs.declared.refusal.Refused.{Refused}
 use Rattle.replies.specs.declared.reply.Values.{Values}
-use Rattle.replies.specs.Refusals.{number_of, answer}
+use Rattle.replies.specs.Refusals.{number_of}
 use Rattle.replies.specs.Replies.{Done}
+use Rattle.replies.specs.Refusals.{answer}
 use Rattle.replies.specs.Results.{writes, answer_in}
 use Rattle.replies.specs.CallContracts.{Gives}
 use Rattle.replies.proofs.Results.{gives_refusal, gives_20, gives_written}

@@ -2,13 +2,11 @@
 use Prim.Native.Nat.{ℕ, suc, ◌+◌, ◌-◌, ◌*◌, ◌≤◌, ◌<◌}
 use mathlib.Core.Path.{◌≡◌, refl, sym, ap, ◌∙◌, subst}
 use mathlib.Core.Logic.{inl, inr}
-use Rattle.std.specs.Prelude.{Option}
-use mathlib.Core.List.{List, [], ◌++◌, append_assoc, append-nil}
+use mathlib.Core.List.{List, ◌++◌, append_assoc, append-nil}
 use native.Mathlib.Omega.{arith}
 use native.Mathlib.Numerals.{add-one}
 use lib.ListN.{length, take, drop, length-append}
-use Rattle.std.specs.Prelude.{Some, None, Ok, Err}
-use Rattle.std.specs.Prelude.{Option}
+use Rattle.std.specs.Prelude.{Some, None, Ok, Err, Option}
 use Rattle.lists.proofs.Parts.{part_length}
 use Rattle.characters.specs.Rows.{flat}
 use Rattle.buffers.specs.Buffers.{Wrote}
@@ -42,37 +40,11 @@ pub record Gathering {N : ℕ} (d₀ d : List ℕ) (at : ℕ) (s : List ℕ) (t 
   pub size : length d ≡ length d₀
   pub going : (ps : List Part) → Listed s t ps → Going d₀ d at ps t.count o k
 
-no_rows : (o : Option (List (List ℕ))) → o ≡ rows_before [] o
-no_rows None = refl
-no_rows (Some rs) = refl
-
 rows_more : (done : List (List ℕ)) (p : Part) (o : Option (List (List ℕ))) → rows_before done (rows_of_part (Some p) o) ≡ rows_before (done ++ p.rows) o
 rows_more done p None = refl
 rows_more done p (Some rs) = ap Some (sym (append_assoc done p.rows rs))
 
--- nothing written
-wrote_none : (d : List ℕ) (at : ℕ) → at ≤ length d → Wrote d d at at []
-wrote_none d at h = record { next = omega arith; list = refl; size = refl; high = h }
-
-pub gathering_start : {N : ℕ} {d : List ℕ} {at : ℕ} {s : List ℕ} {t : Members N} → FillRoom d at s t → Gathering d d at s t at 1
-gathering_start {N} {d} {at} {s} {t} h = record {
-  given = h;
-  low = omega arith;
-  high = omega arith;
-  small = omega (arith, h.start);
-  size = refl;
-  going = λ ps v. record {
-    done = [];
-    left = let z : t.count ≡ t.count + 1 - 1 = omega arith in ap (λ (f : ℕ). gather ps f 1) z ∙ no_rows (gather ps (t.count + 1 - 1) 1);
-    count = omega arith;
-    wrote = λ _. wrote_none d at h.room;
-  };
-}
-
 module _ {N : ℕ} {d₀ d : List ℕ} {at : ℕ} {s : List ℕ} {t : Members N} {o k : ℕ} (v : Gathering d₀ d at s t o k) where
-  pub gathering_size : length d ≡ length d₀
-  gathering_size = v.size
-
   -- at the end
   pub gathered : {d₁ : List ℕ} {o₁ : ℕ} → t.count < k → d₁ ≡ d → o₁ ≡ o → Gathering d₀ d₁ at s t o₁ (t.count + 1)
   gathered h a b =
@@ -111,9 +83,6 @@ module _ {N : ℕ} {d₀ d : List ℕ} {at : ℕ} {s : List ℕ} {t : Members N}
 
         span_length : length (bytes_of s w) ≡ w.to - w.from
         span_length = part_length s w.from w.to gathering_low gathering_high
-
-        pub gathering_fits : o + length (take (w.to - w.from) (drop w.from s)) ≤ 200000000
-        gathering_fits = omega (arith, span_length, v.small, v.given.small, v.given.count, gathering_high)
 
         pub gathering_go : {d₁ : List ℕ} {o₁ : ℕ} → PutIs d d₁ o o₁ (take (w.to - w.from) (drop w.from s)) → Gathering d₀ d₁ at s t o₁ (k + 1)
         gathering_go {d₁} {o₁} u = record {
@@ -156,16 +125,4 @@ module _ {N : ℕ} {d₀ d : List ℕ} {at : ℕ} {s : List ℕ} {t : Members N}
     size = v.size;
   }
 
-pub ruleset gathering_laws =
-    (gathering_start, gathering_size, gathering_low, gathering_high, gathering_missing, gathering_fits, gathering_go)
-
--- ---- bytes that fit, or not
-
-module _ {d : List ℕ} {at : ℕ} {w : List ℕ} where
-  pub put_over : length d < at + length w → PutIs d d at (at + length w) w
-  put_over h = record { next = refl; size = refl; wrote = λ l. absurd (omega (arith, l)) }
-
-  pub put_wrote : {d₁ : List ℕ} {r : ℕ} → Wrote d d₁ at r w → PutIs d d₁ at r w
-  put_wrote x = record { next = x.next; size = x.size; wrote = λ _. x }
-
-pub ruleset put_laws = (put_over, put_wrote)
+pub ruleset gathering_laws = (gathering_missing, gathering_go)

@@ -17,16 +17,13 @@ use Rattle.replies.specs.declared.refusal.Refused.{Refused}
 use Rattle.replies.specs.Refusals.{number_of}
 use Rattle.division.specs.Pieces.{broken_line, pieces_in, starts_well, split_rows, split}
 use Rattle.division.specs.Join.{join_pieces, or_set, join_split, joined_file}
-use Rattle.join.specs.Spans.{sound, LineIs, Input, TooLong, NotMade, MadeIs, JoinedMeans, JoinedIs}
+use Rattle.join.specs.Spans.{sound, LineIs, TooLong, NotMade, MadeIs, JoinedMeans, JoinedIs}
 use Rattle.join.proofs.SoundLaws.{sound_line, line_sound}
 
 by_rows : (s : List ℕ) → length s ≤ 131072
     → joined_file s ≡ join_split (cond (eqb (broken_line (rows s)) 0) (cond (starts_well (rows s)) (ok (pieces_in (rows s))) (refused 19 0)) (refused 2 (broken_line (rows s))))
 unfolding joined_file split split_rows
 by_rows s h = rw (le-leb (length s) 131072 h)
-
-pub into_input : (D s : List ℕ) → length s ≤ 131072 → 13 ≤ length D → Input D s
-into_input D s h l = record { line = l; small = h }
 
 module _ {N : ℕ} {D : List ℕ} {r : Refused} {x : Res (List ℕ)} (size : length D ≡ N) where
   -- a refusal with its line
@@ -81,4 +78,4 @@ module _ (s : List ℕ) (h : length s ≤ 131072) where
           go (inl (e, f)) = given z.size (at_0 e) (nineteen f (starts_well (rows s)) refl)
           go (inr (e, b, w)) = still b w (at_0 e)
 
-pub ruleset into_laws = (into_large, into_input, into_done, into_wide, into_ends, into_no)
+pub ruleset into_laws = (into_large, into_done, into_wide, into_ends, into_no)

@@ -3,17 +3,14 @@ use Prim.Native.Nat.{ℕ, suc, ◌+◌, ◌-◌, ◌≤◌, ◌<◌}
 use mathlib.Core.Path.{◌≡◌, refl, sym, ap, ◌∙◌, subst}
 use mathlib.Core.Bool.{Bool, true, false, cond, ◌&&◌, beq}
 use mathlib.Core.Logic.{inl, inr}
-use Rattle.std.specs.Prelude.{Option}
 use mathlib.Core.List.{List, [], ◌∷◌, ◌++◌}
 use native.Mathlib.Omega.{arith}
-use borrow.Author.Tests.{eq-eqb, le-leb, lt-leb}
+use borrow.Author.Tests.{eq-eqb, le-leb}
 use lib.Dec.{leb, eqb}
 use lib.ListN.{length, take, drop, length-append}
-use Rattle.std.specs.Prelude.{Some, None, Result, Ok, Err, ⊤}
-use Rattle.std.specs.Prelude.{Option}
+use Rattle.std.specs.Prelude.{Some, None, Result, Ok, Err, ⊤, Option}
 use Rattle.lists.specs.Lists.{same, Res, ok}
 use Rattle.lists.specs.Searching.{part}
-use Rattle.lists.proofs.Parts.{part_length}
 use Rattle.characters.specs.Rows.{rows, flat}
 use Rattle.notebook.specs.Canonical.{head_row}
 use Rattle.notebook.proofs.Accepted.{head_length}
@@ -29,7 +26,8 @@ use Rattle.join.specs.declared.body.Lines.{Lines}
 use Rattle.join.specs.declared.member.Span.{Span}
 use Rattle.join.specs.declared.member.Member.{Member}
 use Rattle.join.specs.declared.set.Members.{Members}
-use Rattle.join.specs.Spans.{sound, Opened, Ended, NextMeans, NextIs, FirstIs, PlainLines, part_by, ident_at, MarkedLines, WrongLines, MarkMeans, LinesAre, like, is_set, bytes_of, part_at, First, Collected, CollectIs, FillMeans, FillIs, FillRoom, MadeIs, with_head, SetIs, Given, GivenSet, FirstIn}
+use Rattle.join.specs.Spans.{sound, Opened, Ended, NextMeans, NextIs, FirstIs, PlainLines, part_by, ident_at, MarkedLines, WrongLines, LinesAre, like, is_set, bytes_of, part_at, First, Collected, CollectIs, FillMeans, FillIs, FillRoom, MadeIs, with_head, SetIs, Given, GivenSet}
+use Rattle.join.proofs.BodyLaws.{with_mark, without_mark}
 use Rattle.join.proofs.SetLaws.{agree_self}
 
 -- ---- a file in the buffer
@@ -44,13 +42,10 @@ module _ {D D₁ : List ℕ} {o : ℕ} (d : Bool) (w : Wrote D D₁ 0 o (head_ro
       record { means = (refl, q ∙ ap ok (sym (front y (omega (arith, y.next, y.high)))), omega (arith, y.high, y.size)); size = y.size }
 
 module _ {D D₁ s : List ℕ} {o : ℕ} {x : Span} (d : Bool) (g : Given D s x) (w : Wrote D D₁ 0 o (head_row d)) where
-  pub one_large : length D₁ - o < x.to - x.from → MadeIs true (length D) (ok (head_row d ++ bytes_of s x)) D₁ (Err Large)
-  one_large h = wide d w (bytes_of s x) refl refl (omega (arith, part_length s x.from x.to g.low g.high, w.high, w.size))
-
   pub one_done : {D₂ : List ℕ} {t : ℕ} → Wrote D₁ D₂ o t (take (x.to - x.from) (drop x.from s)) → MadeIs true (length D) (ok (head_row d ++ bytes_of s x)) D₂ (Ok t)
   one_done u = filled d w (bytes_of s x) refl u
 
-pub ruleset one_laws = (one_large, one_done)
+pub ruleset one_laws = (one_done)
 
 -- the file that the gathered rows make
 joined : (d : Bool) (rs : List (List ℕ)) {w : Option (List (List ℕ))} → w ≡ Some rs → with_head d w ≡ ok (head_row d ++ flat rs)
@@ -97,54 +92,43 @@ module _ (D : List ℕ) {s : List ℕ} {x : Member} (g : First s x) where
   others = all_parts (pieces_in (rows (drop x.stop s)))
 
   abbrev agrees : List Part → Bool
-  agrees ps = agree (like x.provider (ident_at s x.rows.to) x.n) ps
+  agrees ps = agree (like x.provider (ident_at s x.rows.to) x.mark.count) ps
 
   abbrev test : List Part → Bool
-  test ps = agrees ps && (leb 2 x.n && eqb (suc (length ps)) x.n)
+  test ps = agrees ps && (leb 2 x.mark.count && eqb (suc (length ps)) x.mark.count)
 
   by_test : (o : Option (List Part)) (ps : List Part) → o ≡ Some ps → join_parts (part_with (Some first_of) o)
-      ≡ cond (test ps) (one_piece x.provider (gather (first_of ∷ ps) x.n 1)) None
+      ≡ cond (test ps) (one_piece x.provider (gather (first_of ∷ ps) x.mark.count 1)) None
   by_test o ps e =
       ap (λ (y : Option (List Part)). join_parts (part_with (Some first_of) y)) e
-      ∙ ap (λ (t : Bool). cond (t && (leb 2 x.n && eqb (suc (length ps)) x.n)) (one_piece x.provider (gather (first_of ∷ ps) x.n 1)) None)
+      ∙ ap (λ (t : Bool). cond (t && (leb 2 x.mark.count && eqb (suc (length ps)) x.mark.count)) (one_piece x.provider (gather (first_of ∷ ps) x.mark.count 1)) None)
       (like_same first_of ps)
 
   abbrev Set-made : List ℕ → Result ℕ Refusal → Type 0
   Set-made d r = MadeIs (sound (rows s)) (length D) (or_set (join_parts (all_parts (pieces_in (rows s))))) d r
 
-  pub set_few : x.n ≤ 1 → Set-made D (Err Set)
-  set_few h = record { means = inl (refl, λ _. ap or_set (ap join_parts g.is ∙ go others refl)); size = refl }
-    where
-      go : (o : Option (List Part)) → others ≡ o → join_parts (part_with (Some first_of) o) ≡ None
-      go None q = refl
-      go (Some ps) q = by_test (Some ps) ps refl ∙ no (agrees ps)
-        where
-          no : (t : Bool) → cond (t && (leb 2 x.n && eqb (suc (length ps)) x.n)) (one_piece x.provider (gather (first_of ∷ ps) x.n 1)) None ≡ None
-          no true = rw (lt-leb 2 x.n (omega arith))
-          no false = refl
-
   module _ {N : ℕ} {t : Members N} where
     -- no set: is_set says so of the same parts
-    pub set_lost : {r : Refusal} → 1 < x.n → CollectIs s x t (Err r) → Set-made D (Err r)
+    pub set_lost : {r : Refusal} → 1 < x.mark.count → CollectIs s x t (Err r) → Set-made D (Err r)
     set_lost more v = record {
       means = inl (
         v.means.number,
         λ w. ap (λ (o : Option (List Part)). or_set (join_parts o)) g.is
-            ∙ ap or_set (go others (ap (is_set x.provider (ident_at s x.rows.to) x.n) (sym g.is) ∙ v.means.none (sym g.sound ∙ w))),
+            ∙ ap or_set (go others (ap (is_set x.provider (ident_at s x.rows.to) x.mark.count) (sym g.is) ∙ v.means.none (sym g.sound ∙ w))),
       );
       size = refl;
     }
       where
-        go : (o : Option (List Part)) → is_set x.provider (ident_at s x.rows.to) x.n (part_with (Some first_of) o) ≡ false
+        go : (o : Option (List Part)) → is_set x.provider (ident_at s x.rows.to) x.mark.count (part_with (Some first_of) o) ≡ false
             → join_parts (part_with (Some first_of) o) ≡ None
         go None e = refl
         go (Some ps) e =
-            let h : (agrees ps && eqb (suc (length ps)) x.n) ≡ false =
-            ap (λ (b : Bool). b && eqb (suc (length ps)) x.n) (sym (agree_self x.provider (ident_at s x.rows.to) x.n x.k g.lines ps)) ∙ e in
-            let u : test ps ≡ false = rw (le-leb 2 x.n more) h in
-            by_test (Some ps) ps refl ∙ ap (λ (b : Bool). cond b (one_piece x.provider (gather (first_of ∷ ps) x.n 1)) None) u
+            let h : (agrees ps && eqb (suc (length ps)) x.mark.count) ≡ false =
+            ap (λ (b : Bool). b && eqb (suc (length ps)) x.mark.count) (sym (agree_self x.provider (ident_at s x.rows.to) x.mark.count x.mark.place g.lines ps)) ∙ e in
+            let u : test ps ≡ false = rw (le-leb 2 x.mark.count more) h in
+            by_test (Some ps) ps refl ∙ ap (λ (b : Bool). cond b (one_piece x.provider (gather (first_of ∷ ps) x.mark.count 1)) None) u
 
-    module _ (more : 1 < x.n) {u : ⊤} (v : CollectIs s x t (Ok u)) where
+    module _ (more : 1 < x.mark.count) {u : ⊤} (v : CollectIs s x t (Ok u)) where
       abbrev collected : Collected s x t
       collected = v.means
 
@@ -161,14 +145,14 @@ module _ (D : List ℕ) {s : List ℕ} {x : Member} (g : First s x) where
       joins = ap join_parts g.is ∙ (go others (sym g.is ∙ collected.parts) ∙ ap (λ (n : ℕ). one_piece x.provider (gather collected.seen n 1)) (sym collected.count))
         where
           go : (o : Option (List Part)) → part_with (Some first_of) o ≡ Some collected.seen
-              → join_parts (part_with (Some first_of) o) ≡ one_piece x.provider (gather collected.seen x.n 1)
+              → join_parts (part_with (Some first_of) o) ≡ one_piece x.provider (gather collected.seen x.mark.count 1)
           go None e = cc
           go (Some ps) e =
               let h : first_of ∷ ps ≡ collected.seen = cc in
               let y : agrees ps ≡ true =
-              sym (agree_self x.provider (ident_at s x.rows.to) x.n x.k g.lines ps) ∙ (ap agrees h ∙ collected.agrees) in
-              let c : eqb (suc (length ps)) x.n ≡ true = eq-eqb (suc (length ps)) x.n (ap length h ∙ (collected.listed.count ∙ collected.count)) in
-              by_test (Some ps) ps refl ∙ (rw (y, le-leb 2 x.n more, c) (ap (λ (z : List Part). one_piece x.provider (gather z x.n 1)) h))
+              sym (agree_self x.provider (ident_at s x.rows.to) x.mark.count x.mark.place g.lines ps) ∙ (ap agrees h ∙ collected.agrees) in
+              let c : eqb (suc (length ps)) x.mark.count ≡ true = eq-eqb (suc (length ps)) x.mark.count (ap length h ∙ (collected.listed.count ∙ collected.count)) in
+              by_test (Some ps) ps refl ∙ (rw (y, le-leb 2 x.mark.count more, c) (ap (λ (z : List Part). one_piece x.provider (gather z x.mark.count 1)) h))
 
       pub set_done : {D₁ : List ℕ} {r : Result ℕ Refusal} → SetIs (length D) x.provider s t D₁ r → Set-made D₁ r
       set_done {D₁} {r} m =
@@ -177,13 +161,7 @@ module _ (D : List ℕ) {s : List ℕ} {x : Member} (g : First s x) where
           subst (λ (o : Option Piece). MadeIs true (length D) (or_set o) D₁ r) (sym joins) (m.made collected.seen collected.listed) in
           subst (λ (c : Bool). MadeIs c (length D) (or_set (join_parts (all_parts (pieces_in (rows s))))) D₁ r) b z
 
-pub set_first : {N : ℕ} {D s : List ℕ} {x : Member} {t : Members N} → FirstIn D s x t → First s x
-set_first f = f.first
-
-pub set_more : {N : ℕ} {D s : List ℕ} {x : Member} {t : Members N} → FirstIn D s x t → 1 < x.n
-set_more f = f.more
-
-pub ruleset set_laws = (set_first, set_more, set_lost, set_given, set_done)
+pub ruleset set_laws = (set_lost, set_given, set_done)
 
 -- ---- one piece, or a set
 
@@ -222,10 +200,10 @@ module _ (D : List ℕ) {s : List ℕ} {o : Opening} (x : FirstIs s (Ok o)) wher
   module _ {l : Lines} (v : LinesAre s o.end (Ok l)) where
     module _ {m : Mark} (q : l.mark ≡ Some m) where
       marked : MarkedLines s o.end l.end l.stop m.count m.place
-      marked = subst (MarkMeans s o.end l.end l.stop) q v.mean
+      marked = with_mark v q
 
       pub pieces_first : length s ≤ 131072
-          → First s (record { provider = o.provider; n = m.count; k = m.place; rows = record { from = o.end; to = l.end }; stop = l.stop })
+          → First s (record { provider = o.provider; mark = m; rows = record { from = o.end; to = l.end }; stop = l.stop })
       pieces_first h = record {
         small = h;
         count = marked.count;
@@ -252,7 +230,7 @@ module _ (D : List ℕ) {s : List ℕ} {o : Opening} (x : FirstIs s (Ok o)) wher
 
     module _ (q : l.mark ≡ None) where
       plain : PlainLines s o.end l.end l.stop
-      plain = subst (MarkMeans s o.end l.end l.stop) q v.mean
+      plain = without_mark v q
 
       module _ {w : Option Opening} (y : NextIs s l.stop (Ok w)) where
         pub pieces_more : {p : Opening} → w ≡ Some p → Pieces-made D (Err Set)

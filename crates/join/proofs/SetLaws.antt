@@ -1,17 +1,16 @@
 -- The pieces of a set in their tables, as they lie. Assumes nothing.
 use Prim.Native.Nat.{ℕ, zero, suc, ◌+◌, ◌-◌, ◌≤◌, ◌<◌}
 use mathlib.Core.Path.{◌≡◌, refl, sym, ap, ap₂, ◌∙◌, subst}
-use mathlib.Core.Bool.{Bool, true, false, ◌&&◌, beq, false≢true, and-false}
+use mathlib.Core.Bool.{Bool, true, false, ◌&&◌, beq, and-false}
 use mathlib.Core.Logic.{◌⊎◌, inl, inr}
-use Rattle.std.specs.Prelude.{Option}
 use mathlib.Core.List.{List, [], ◌∷◌, ◌++◌, append_assoc, append-nil}
 use native.Mathlib.Omega.{arith}
 use borrow.Author.Tests.{eq-eqb, ne_eqb, eqb-true, eqb-false}
 use lib.Dec.{eqb}
 use lib.ListN.{length, get_or, take, drop, length-append}
 use lib.Seq.{length-take-le, take-suc-set, get_or-take, get_or-set_same, get_or-set_other}
-use Rattle.std.specs.Prelude.{Some, None, Ok, Err, ⊤}
-use Rattle.std.specs.Prelude.{Option}
+use Rattle.std.specs.Prelude.{Some, None, Ok, Err, ⊤, Option}
+use Rattle.std.specs.Bool.{then_some}
 use Rattle.lists.specs.Lists.{same}
 use Rattle.lists.proofs.Tests.{same_refl}
 use Rattle.characters.specs.Rows.{rows, flat}
@@ -26,7 +25,7 @@ use Rattle.join.specs.declared.rows.Opening.{Opening}
 use Rattle.join.specs.declared.member.Span.{Span}
 use Rattle.join.specs.declared.member.Member.{Member}
 use Rattle.join.specs.declared.set.Members.{Members}
-use Rattle.join.specs.Spans.{unbroken, goes_on, part_by, ident_at, Opened, Ended, NextMeans, NextIs, like, agreed, is_set, bytes_of, part_at, Within, MemberAt, MemberIs, rows_at, Stored, Bounds, Listed, First, Collected, CollectIs, SpotIs}
+use Rattle.join.specs.Spans.{unbroken, goes_on, part_by, ident_at, Opened, Ended, NextMeans, NextIs, like, agreed, is_set, bytes_of, part_at, MemberAt, MemberIs, rows_at, Stored, Bounds, Listed, First, Collected, CollectIs, SpotIs}
 
 -- ---- parts after others
 
@@ -114,7 +113,7 @@ module _ {N : ℕ} {t t' : Members N} {m : Member} (h : t.count < N) (st : Store
   rows_before i z =
       ap (λ (l : List Span). get_or l i (record { from = 0; to = 0 })) st.rows ∙ get_or-set_other t.rows t.count i m.rows (record { from = 0; to = 0 }) z
 
-  listed_more : {s : List ℕ} {seen : List Part} (p : Part) → p.mark.place ≡ m.k → flat p.rows ≡ bytes_of s m.rows → Listed s t seen → Listed s t' (seen ++ p ∷ [])
+  listed_more : {s : List ℕ} {seen : List Part} (p : Part) → p.mark.place ≡ m.mark.place → flat p.rows ≡ bytes_of s m.rows → Listed s t seen → Listed s t' (seen ++ p ∷ [])
   listed_more {s} {seen} p k w v = record { count = n ∙ sym st.count; numbers = here; bytes = λ i q x. go i q (after_more seen p i q x) }
     where
       n : length (seen ++ p ∷ []) ≡ t.count + 1
@@ -125,7 +124,7 @@ module _ {N : ℕ} {t t' : Members N} {m : Member} (h : t.count < N) (st : Store
           let z : t'.count ≡ suc t.count = omega (arith, st.count) in
           let y : t.count < length t.ks = omega (arith, t.ks_room) in
           ap₂ (λ (j : ℕ) (l : List ℕ). take j l) z st.numbers
-          ∙ (take-suc-set t.ks t.count m.k y
+          ∙ (take-suc-set t.ks t.count m.mark.place y
           ∙ (ap₂ (λ (l : List ℕ) (j : ℕ). l ++ (j ∷ [])) v.numbers (sym k) ∙ sym (ks_more seen p)))
 
       go : (i : ℕ) (q : Part) → Either seen p i q → flat q.rows ≡ bytes_of s (rows_at t' i)
@@ -161,23 +160,17 @@ module _ {N : ℕ} (s : List ℕ) {t : Members N} (e : t.count ≡ 0) where
 
 pub record Collecting {N : ℕ} (s : List ℕ) (x : Member) (t : Members N) (at : ℕ) : Type 0 where
   pub first : First s x
-  pub room : x.n ≤ N
+  pub room : x.mark.count ≤ N
   pub inside : at ≤ length s
   pub seen : List Part
   pub parts : all_parts (pieces_in (rows s)) ≡ after seen (all_parts (pieces_in (rows (drop at s))))
-  pub agrees : agree (like x.provider (ident_at s x.rows.to) x.n) seen ≡ true
+  pub agrees : agree (like x.provider (ident_at s x.rows.to) x.mark.count) seen ≡ true
   pub bounds : Bounds s t
   pub listed : Listed s t seen
   pub over : goes_on (rows (drop at s)) ≡ false
   pub whole : unbroken (rows s) ≡ unbroken (rows (drop at s))
 
-pub collect_number : {s : List ℕ} {x : Member} → First s x → x.k ≤ 999
-collect_number g = g.number
-
-pub collect_room : {N count n : ℕ} → count ≡ 0 → 1 ≤ n → n ≤ N → count < N
-collect_room e a b = omega (arith, e)
-
-pub collect_start : {N : ℕ} {s : List ℕ} {x : Member} {t t' : Members N} → First s x → t.count ≡ 0 → 1 ≤ x.n → x.n ≤ N → Stored t t' x → Collecting s x t' x.stop
+pub collect_start : {N : ℕ} {s : List ℕ} {x : Member} {t t' : Members N} → First s x → t.count ≡ 0 → 1 ≤ x.mark.count → x.mark.count ≤ N → Stored t t' x → Collecting s x t' x.stop
 unfolding agree
 collect_start {N} {s} {x} {t} {t'} g e a b st = record {
   first = g;
@@ -186,7 +179,7 @@ collect_start {N} {s} {x} {t} {t'} g e a b st = record {
   seen = part_at s x g.lines ∷ [];
   parts = g.is ∙ (after_none (part_with (Some (part_at s x g.lines)) (all_parts (pieces_in (rows (drop x.stop s)))))
       ∙ after_with [] (part_at s x g.lines) (all_parts (pieces_in (rows (drop x.stop s)))));
-  agrees = agree_self x.provider (ident_at s x.rows.to) x.n x.k g.lines [];
+  agrees = agree_self x.provider (ident_at s x.rows.to) x.mark.count x.mark.place g.lines [];
   bounds = bounds_more less st g.low (omega (arith, g.ident, g.high)) (bounds_none s e);
   listed = listed_more less st (part_at s x g.lines) refl g.bytes (listed_none s e);
   over = g.over;
@@ -197,19 +190,13 @@ collect_start {N} {s} {x} {t} {t'} g e a b st = record {
     less = omega (arith, e)
 
 module _ {N : ℕ} {s : List ℕ} {x : Member} {t : Members N} {at : ℕ} (v : Collecting s x t at) where
-  pub collect_at : at ≤ length s
-  collect_at = v.inside
-
-  pub collect_ident : x.rows.to + 18 ≤ length s
-  collect_ident = omega (arith, v.first.ident, v.first.high)
-
-  pub collect_free : t.count < x.n → t.count < N
+  pub collect_free : t.count < x.mark.count → t.count < N
   collect_free h = omega (arith, v.room)
 
-  is_whole-set : t.count ≡ x.n → all_parts (pieces_in (rows s)) ≡ Some v.seen → unbroken (rows s) ≡ true → Collected s x t
+  is_whole-set : t.count ≡ x.mark.count → all_parts (pieces_in (rows s)) ≡ Some v.seen → unbroken (rows s) ≡ true → Collected s x t
   is_whole-set e w u = record { seen = v.seen; parts = w; agrees = v.agrees; count = e; bounds = v.bounds; listed = v.listed; whole = u }
 
-  lost : is_set x.provider (ident_at s x.rows.to) x.n (all_parts (pieces_in (rows s))) ≡ false → CollectIs s x t (Err Set)
+  lost : is_set x.provider (ident_at s x.rows.to) x.mark.count (all_parts (pieces_in (rows s))) ≡ false → CollectIs s x t (Err Set)
   lost e = record { means = record { number = refl; none = λ _. e } }
 
   -- no more pieces
@@ -221,28 +208,19 @@ module _ {N : ℕ} {s : List ℕ} {x : Member} {t : Members N} {at : ℕ} (v : C
     unfolding all_parts
     all_seen = v.parts ∙ (ap (λ (p : List Piece). after v.seen (all_parts p)) ended.is ∙ ap Some (append-nil v.seen))
 
-    pub collect_done : t.count ≡ x.n → (u : ⊤) → CollectIs s x t (Ok u)
+    pub collect_done : t.count ≡ x.mark.count → (u : ⊤) → CollectIs s x t (Ok u)
     collect_done e u = record { means = is_whole-set e all_seen (v.whole ∙ ended.whole) }
 
-    pub collect_few : (t.count ≡ x.n → ⊥) → CollectIs s x t (Err Set)
+    pub collect_few : (t.count ≡ x.mark.count → ⊥) → CollectIs s x t (Err Set)
     collect_few e =
-        let z : length v.seen ≡ x.n → ⊥ = λ y. e (sym v.listed.count ∙ y) in
-        lost (ap (is_set x.provider (ident_at s x.rows.to) x.n) all_seen
-        ∙ (ap (λ (b : Bool). agree (like x.provider (ident_at s x.rows.to) x.n) v.seen && b) (ne_eqb (length v.seen) x.n z)
-        ∙ and-false (agree (like x.provider (ident_at s x.rows.to) x.n) v.seen)))
-
-  -- only a broken row goes on with no piece and opens none
-  pub collect_stray : {r : Refusal} → NextIs s at (Err r) → CollectIs s x t (Err r)
-  collect_stray f = record {
-    means = record { number = f.means.number; none = λ u. absurd (false≢true (sym (f.means.broken v.over) ∙ (sym v.whole ∙ u))) };
-  }
+        let z : length v.seen ≡ x.mark.count → ⊥ = λ y. e (sym v.listed.count ∙ y) in
+        lost (ap (is_set x.provider (ident_at s x.rows.to) x.mark.count) all_seen
+        ∙ (ap (λ (b : Bool). agree (like x.provider (ident_at s x.rows.to) x.mark.count) v.seen && b) (ne_eqb (length v.seen) x.mark.count z)
+        ∙ and-false (agree (like x.provider (ident_at s x.rows.to) x.mark.count) v.seen)))
 
   module _ {w : Option Opening} {o : Opening} (f : NextIs s at (Ok w)) (q : w ≡ Some o) where
     opening : Opened s at o.end o.provider
     opening = subst (λ (r : Option Opening). NextMeans s at (Ok r)) q f.means
-
-    pub collect_within : Within s o.end
-    collect_within = record { high = opening.high; small = v.first.small }
 
     left_is : all_parts (pieces_in (rows (drop at s))) ≡ part_with (part_of o.provider (body_of (rows (drop o.end s)))) (all_parts (pieces_in (rows (drop o.end s))))
     unfolding all_parts
@@ -252,9 +230,9 @@ module _ {N : ℕ} {s : List ℕ} {x : Member} {t : Members N} {at : ℕ} (v : C
     collect_foreign z = record {
       means = record {
         number = z.means.number;
-        none = λ _. not_agreed x.provider (ident_at s x.rows.to) x.n (all_parts (pieces_in (rows s))) (ap (agreed x.provider (ident_at s x.rows.to) x.n) v.parts
-            ∙ (agreed_after x.provider (ident_at s x.rows.to) x.n v.seen (all_parts (pieces_in (rows (drop at s)))) v.agrees
-            ∙ (ap (agreed x.provider (ident_at s x.rows.to) x.n) left_is ∙ z.means.none (all_parts (pieces_in (rows (drop o.end s)))))));
+        none = λ _. not_agreed x.provider (ident_at s x.rows.to) x.mark.count (all_parts (pieces_in (rows s))) (ap (agreed x.provider (ident_at s x.rows.to) x.mark.count) v.parts
+            ∙ (agreed_after x.provider (ident_at s x.rows.to) x.mark.count v.seen (all_parts (pieces_in (rows (drop at s)))) v.agrees
+            ∙ (ap (agreed x.provider (ident_at s x.rows.to) x.mark.count) left_is ∙ z.means.none (all_parts (pieces_in (rows (drop o.end s)))))));
       };
     }
 
@@ -263,13 +241,7 @@ module _ {N : ℕ} {s : List ℕ} {x : Member} {t : Members N} {at : ℕ} (v : C
       member = z.means
 
       abbrev new : Part
-      new = part_by x.provider (ident_at s x.rows.to) x.n m.k member.lines
-
-      pub collect-place : m.k ≤ 999
-      collect-place = member.place
-
-      pub collect-less : length s - m.stop < length s - at
-      collect-less = omega (arith, opening.low, member.low, member.mid, member.high)
+      new = part_by x.provider (ident_at s x.rows.to) x.mark.count m.mark.place member.lines
 
       one_more : all_parts (pieces_in (rows s)) ≡ after (v.seen ++ new ∷ []) (all_parts (pieces_in (rows (drop m.stop s))))
       one_more = v.parts ∙ (ap (after v.seen) (left_is ∙ ap₂ part_with member.is (ap all_parts member.next))
@@ -278,11 +250,11 @@ module _ {N : ℕ} {s : List ℕ} {x : Member} {t : Members N} {at : ℕ} (v : C
       longer : length (v.seen ++ new ∷ []) ≡ t.count + 1
       longer = omega (arith, v.listed.count, length-append v.seen (new ∷ []))
 
-      pub collect-many : x.n ≤ t.count → CollectIs s x t (Err Set)
-      collect-many h = lost (ap (is_set x.provider (ident_at s x.rows.to) x.n) one_more
-          ∙ too_many x.provider (ident_at s x.rows.to) x.n (v.seen ++ new ∷ []) (all_parts (pieces_in (rows (drop m.stop s)))) (omega (arith, longer)))
+      pub collect-many : x.mark.count ≤ t.count → CollectIs s x t (Err Set)
+      collect-many h = lost (ap (is_set x.provider (ident_at s x.rows.to) x.mark.count) one_more
+          ∙ too_many x.provider (ident_at s x.rows.to) x.mark.count (v.seen ++ new ∷ []) (all_parts (pieces_in (rows (drop m.stop s)))) (omega (arith, longer)))
 
-      pub collect-go : {t' : Members N} → t.count < x.n → Stored t t' m → Collecting s x t' m.stop
+      pub collect-go : {t' : Members N} → t.count < x.mark.count → Stored t t' m → Collecting s x t' m.stop
       unfolding agree
       collect-go {t'} h st = record {
         first = v.first;
@@ -290,16 +262,15 @@ module _ {N : ℕ} {s : List ℕ} {x : Member} {t : Members N} {at : ℕ} (v : C
         inside = member.high;
         seen = v.seen ++ new ∷ [];
         parts = one_more;
-        agrees = agree_append (like x.provider (ident_at s x.rows.to) x.n) v.seen (new ∷ [])
-            ∙ ap₂ ◌&&◌ v.agrees (agree_self x.provider (ident_at s x.rows.to) x.n m.k member.lines []);
+        agrees = agree_append (like x.provider (ident_at s x.rows.to) x.mark.count) v.seen (new ∷ [])
+            ∙ ap₂ ◌&&◌ v.agrees (agree_self x.provider (ident_at s x.rows.to) x.mark.count m.mark.place member.lines []);
         bounds = bounds_more (collect_free h) st (omega (arith, member.from, member.low)) (omega (arith, member.mid, member.high)) v.bounds;
         listed = listed_more (collect_free h) st new refl member.bytes v.listed;
         over = member.over;
         whole = v.whole ∙ (opening.whole ∙ member.whole);
       }
 
-pub ruleset collect_laws =
-    (collect_number, collect_room, collect_start, collect_at, collect_ident, collect_free, collect_done, collect_few, collect_stray, collect_within, collect_foreign, collect-place, collect-less, collect-many, collect-go)
+pub ruleset collect_laws = (collect_start, collect_done, collect_few, collect_foreign, collect-many, collect-go)
 
 -- ---- a piece that is looked for
 
@@ -330,10 +301,10 @@ module _ {N k c : ℕ} (t : Members N) (v : 1 ≤ t.count) (x : CountIs k (take 
     many : 1 ≤ length (ks_of ps)
     many = omega (arith, ks_length ps, q, v)
 
-  pub spot_nowhere : (get_or t.ks (c - 1) 0 ≡ k → ⊥) → SpotIs t k None
+  spot_nowhere : (get_or t.ks (c - 1) 0 ≡ k → ⊥) → SpotIs t k None
   spot_nowhere e = record { means = λ ps q l. piece_missing ps (among ps q l) (many ps q l) (λ y. e (k_there ps q l ∙ y)) }
 
-  pub spot_rows : get_or t.ks (c - 1) 0 ≡ k → SpotIs t k (Some (rows_at t (c - 1)))
+  spot_rows : get_or t.ks (c - 1) 0 ≡ k → SpotIs t k (Some (rows_at t (c - 1)))
   spot_rows e = record {
     means = record {
       index = c - 1;
@@ -343,4 +314,11 @@ module _ {N k c : ℕ} (t : Members N) (v : 1 ≤ t.count) (x : CountIs k (take 
     };
   }
 
-pub ruleset spot_laws = (spot_low, spot_room, spot_nowhere, spot_rows)
+  pub spot_is : SpotIs t k (then_some (eqb (get_or t.ks (c - 1) 0) k) (rows_at t (c - 1)))
+  spot_is = go (eqb (get_or t.ks (c - 1) 0) k) refl
+    where
+      go : (b : Bool) → eqb (get_or t.ks (c - 1) 0) k ≡ b → SpotIs t k (then_some b (rows_at t (c - 1)))
+      go true e = spot_rows (eqb-true (get_or t.ks (c - 1) 0) k e)
+      go false e = spot_nowhere (eqb-false (get_or t.ks (c - 1) 0) k e)
+
+pub ruleset spot_laws = (spot_low, spot_room, spot_is)

@@ -1,12 +1,10 @@
 -- Row by row through the input: the rule of line ends, the first row, the first piece and the next. Assumes nothing.
-use Prim.Native.Nat.{ℕ, ◌+◌, ◌-◌, ◌≤◌, ◌<◌}
+use Prim.Native.Nat.{ℕ, ◌+◌, ◌-◌, ◌≤◌}
 use mathlib.Core.Path.{◌≡◌, refl, sym, ap, ◌∙◌}
 use mathlib.Core.Bool.{Bool, true, false, cond, not, ◌&&◌, false≢true}
 use mathlib.Core.Logic.{◌⊎◌, inl, inr}
 use mathlib.Core.List.{List, [], ◌∷◌, nil≢cons, head-eq_of_cons-eq, tail-eq_of_cons-eq}
 use native.Mathlib.Omega.{arith}
-use mir.Val.{Fits}
-use mir.Syntax.{w32}
 use borrow.Author.Tests.{not-true, not-false}
 use lib.ListN.{length, take, drop}
 use Rattle.lists.proofs.Cuts.{drop_end}
@@ -24,20 +22,6 @@ use Rattle.join.specs.Spans.{is_whole, unbroken, is_head, sound, is_body, goes_o
 
 pub rows_over : (s : List ℕ) (at : ℕ) → length s ≤ at → rows (drop at s) ≡ []
 rows_over s at h = ap rows (drop_end s at h)
-
--- ---- what a row's bounds give the code
-
-module _ {s : List ℕ} {at e : ℕ} (x : RowAt s at e) where
-  pub row_low : at ≤ e
-  row_low = omega (arith, x.more)
-
-  pub row_high : e ≤ length s
-  row_high = x.inside
-
-  pub row_less : length s - e < length s - at
-  row_less = omega (arith, x.more, x.inside)
-
-pub ruleset row_bounds = (row_low, row_high, row_less)
 
 -- ---- the rule of line ends
 
@@ -66,9 +50,6 @@ walk_start s b h = record { inside = omega arith; one = omega arith; few = omega
     go (r ∷ rs) q = refl
 
 module _ {s : List ℕ} {begun : Bool} {n at : ℕ} (v : Walk s begun n at) where
-  pub walk_fits : at < length s → Fits w32 (n + 1)
-  walk_fits h = omega (arith, v.few, v.small)
-
   pub walk_out : length s ≤ at → LineIs (broken_line (rows s)) None
   unfolding broken_from
   walk_out h = record { means = v.left ∙ rw (rows_over s at h) }
@@ -106,8 +87,7 @@ module _ {s : List ℕ} {begun : Bool} {n at : ℕ} (v : Walk s begun n at) wher
     pub walk_end : Closes k → not begun ≡ false → Walk s begun (n + 1) e
     walk_end q w = let b : begun ≡ true = not-false begun w in go_on (ending q b ∙ rw b)
 
-pub ruleset walk_laws =
-    (row_bounds, walk_empty, walk_start, walk_fits, walk_out, walk_body, walk_head, walk_broken, walk_early, walk_end)
+pub ruleset walk_laws = (walk_empty, walk_start, walk_out, walk_body, walk_head, walk_broken, walk_early, walk_end)
 
 -- ---- a row of the same piece
 
@@ -132,8 +112,6 @@ module _ (s : List ℕ) {at e : ℕ} {k : Row} (x : RowAt s at e) (p : KindIs (t
 
   pub goes_broken : k ≡ Broken → false ≡ goes_on (rows (drop at s))
   goes_broken q = on (ap (λ (j : Row). is_body (as_kind j)) q)
-
-pub ruleset goes_laws = (row_bounds, goes_over, goes_head, goes_end_head, goes_body, goes_end, goes_broken)
 
 -- ---- the next piece
 
@@ -184,10 +162,6 @@ pub ruleset next_laws = (next_over, next_head, next_end_head, next_end, next_bod
 
 -- ---- the first piece
 
-pub first_none : (s : List ℕ) → length s ≡ 0 → FirstIs s (Err Set)
-first_none [] h = record { means = record { number = refl; sound = refl } }
-first_none (a ∷ s) h = absurd (omega arith)
-
 module _ (s : List ℕ) {e : ℕ} {k : Row} (x : RowAt s 0 e) (p : KindIs (take (e - 0) (drop 0 s)) k) where
   sound_step : {j : Row} → k ≡ j → sound (rows s) ≡ (is_head (as_kind j) && unbroken (rows (drop e s)))
   sound_step q = ap sound x.cut ∙ ap (λ (i : RowKind). is_head i && unbroken (rows (drop e s))) (p.is ∙ ap as_kind q)
@@ -200,17 +174,3 @@ module _ (s : List ℕ) {e : ℕ} {k : Row} (x : RowAt s 0 e) (p : KindIs (take 
       sound = sound_step q;
     };
   }
-
-  pub first_end_head : {d : Bool} → k ≡ EndHead d → FirstIs s (Err Set)
-  first_end_head q = record { means = record { number = refl; sound = sound_step q } }
-
-  pub first_body : k ≡ Body → FirstIs s (Err Set)
-  first_body q = record { means = record { number = refl; sound = sound_step q } }
-
-  pub first_end : k ≡ End → FirstIs s (Err Set)
-  first_end q = record { means = record { number = refl; sound = sound_step q } }
-
-  pub first_broken : k ≡ Broken → FirstIs s (Err Set)
-  first_broken q = record { means = record { number = refl; sound = sound_step q } }
-
-pub ruleset first_laws = (first_none, first_head, first_end_head, first_body, first_end, first_broken)

@@ -1,10 +1,8 @@
 -- Vocabulary of the code.
--- Pieces by positions in the input, as the code of joining carries them: a body is the bytes from a position to a position, and three tables
+-- Pieces by positions in the input, as the code of joining carries them: a body is the bytes from a position to a position, and two tables
 -- have the k's of the parts and their bodies, as they lie. The laws in proofs/ show that they stand for the lists of rows of Join.antt; the call's own
 -- contract names Join.antt alone.
-use Rattle.std.specs.Prelude.{ℕ, ◌+◌, ◌≤◌, ◌<◌, ◌≡◌, Bool, true, false, ◌&&◌, ◌⊎◌, List, [], ◌∷◌, eqb, length, take, drop, get_or, set, Some, None, Result, Ok, Err, ⊤}
-use Rattle.std.specs.Prelude.{Option}
-use Rattle.std.specs.Prelude.{Option}
+use Rattle.std.specs.Prelude.{ℕ, ◌+◌, ◌≤◌, ◌<◌, ◌≡◌, Bool, true, false, ◌&&◌, ◌⊎◌, List, [], ◌∷◌, eqb, length, take, drop, get_or, set, Some, None, Result, Ok, Err, ⊤, Option}
 use Rattle.lists.specs.Lists.{Res, ok, refused}
 use Rattle.lists.specs.Searching.{part}
 use Rattle.characters.specs.Text.{text}
@@ -214,9 +212,9 @@ is_set d i n (Some ps) = agree (like d i n) ps && eqb (length ps) n
 abbrev pub bytes_of : List ℕ → Span → List ℕ
 bytes_of s x = part s x.from x.to
 
--- a piece of direction d with a record 911, as a part of these rows
+-- a piece with a record 911, as a part of these rows
 abbrev pub part_at : List ℕ → Member → List (List ℕ) → Part
-part_at s x lines = part_by x.provider (ident_at s x.rows.to) x.n x.k lines
+part_at s x lines = part_by x.provider (ident_at s x.rows.to) x.mark.count x.mark.place lines
 
 -- a position in an input within the limit
 pub record Within (s : List ℕ) (e : ℕ) : Type 0 where
@@ -228,10 +226,10 @@ pub record MemberAt (s : List ℕ) (o : Opening) (x m : Member) : Type 0 where
   pub low : o.end ≤ m.rows.to
   pub mid : m.rows.to ≤ m.stop
   pub high : m.stop ≤ length s
-  pub place : m.k ≤ 999
+  pub place : m.mark.place ≤ 999
   pub from : m.rows.from ≡ o.end
   pub lines : List (List ℕ)
-  pub is : part_of o.provider (body_of (rows (drop o.end s))) ≡ Some (part_by x.provider (ident_at s x.rows.to) x.n m.k lines)
+  pub is : part_of o.provider (body_of (rows (drop o.end s))) ≡ Some (part_by x.provider (ident_at s x.rows.to) x.mark.count m.mark.place lines)
   pub bytes : flat lines ≡ bytes_of s m.rows
   pub next : pieces_in (rows (drop o.end s)) ≡ pieces_in (rows (drop m.stop s))
   pub over : goes_on (rows (drop m.stop s)) ≡ false
@@ -240,7 +238,7 @@ pub record MemberAt (s : List ℕ) (o : Opening) (x m : Member) : Type 0 where
 -- it is none
 pub record Foreign (s : List ℕ) (o : Opening) (x : Member) (r : Refusal) : Type 0 where
   pub number : r ≡ Set
-  pub none : (ps : Option (List Part)) → agreed x.provider (ident_at s x.rows.to) x.n (part_with (part_of o.provider (body_of (rows (drop o.end s)))) ps) ≡ false
+  pub none : (ps : Option (List Part)) → agreed x.provider (ident_at s x.rows.to) x.mark.count (part_with (part_of o.provider (body_of (rows (drop o.end s)))) ps) ≡ false
 
 abbrev pub MemberMeans : List ℕ → Opening → Member → Result Member Refusal → Type 0
 MemberMeans s o x (Ok m) = MemberAt s o x m
@@ -258,7 +256,7 @@ rows_at t i = get_or t.rows i (record { from = 0; to = 0 })
 -- what is stored after the others
 pub record Stored {N : ℕ} (t t' : Members N) (x : Member) : Type 0 where
   pub count : t'.count ≡ t.count + 1
-  pub numbers : t'.ks ≡ set t.ks t.count x.k
+  pub numbers : t'.ks ≡ set t.ks t.count x.mark.place
   pub rows : t'.rows ≡ set t.rows t.count x.rows
 
 -- the rows lie in s
@@ -275,8 +273,8 @@ pub record Listed {N : ℕ} (s : List ℕ) (t : Members N) (ps : List Part) : Ty
 -- the first piece of a set
 pub record First (s : List ℕ) (x : Member) : Type 0 where
   pub small : length s ≤ 131072
-  pub count : x.n ≤ 999
-  pub number : x.k ≤ 999
+  pub count : x.mark.count ≤ 999
+  pub number : x.mark.place ≤ 999
   pub low : x.rows.from ≤ x.rows.to
   pub ident : x.rows.to + 18 ≤ x.stop
   pub high : x.stop ≤ length s
@@ -290,8 +288,8 @@ pub record First (s : List ℕ) (x : Member) : Type 0 where
 pub record Collected {N : ℕ} (s : List ℕ) (x : Member) (t : Members N) : Type 0 where
   pub seen : List Part
   pub parts : all_parts (pieces_in (rows s)) ≡ Some seen
-  pub agrees : agree (like x.provider (ident_at s x.rows.to) x.n) seen ≡ true
-  pub count : t.count ≡ x.n
+  pub agrees : agree (like x.provider (ident_at s x.rows.to) x.mark.count) seen ≡ true
+  pub count : t.count ≡ x.mark.count
   pub bounds : Bounds s t
   pub listed : Listed s t seen
   pub whole : unbroken (rows s) ≡ true
@@ -299,7 +297,7 @@ pub record Collected {N : ℕ} (s : List ℕ) (x : Member) (t : Members N) : Typ
 -- of rows that are broken, a refusal says nothing
 pub record NoSet (s : List ℕ) (x : Member) (r : Refusal) : Type 0 where
   pub number : r ≡ Set
-  pub none : unbroken (rows s) ≡ true → is_set x.provider (ident_at s x.rows.to) x.n (all_parts (pieces_in (rows s))) ≡ false
+  pub none : unbroken (rows s) ≡ true → is_set x.provider (ident_at s x.rows.to) x.mark.count (all_parts (pieces_in (rows s))) ≡ false
 
 abbrev pub CollectMeans : {N : ℕ} → List ℕ → Member → Members N → Result ⊤ Refusal → Type 0
 CollectMeans s x t (Ok u) = Collected s x t
@@ -409,8 +407,8 @@ pub record GivenSet {N : ℕ} (d s : List ℕ) (t : Members N) : Type 0 where
 pub record FirstIn {N : ℕ} (d s : List ℕ) (x : Member) (t : Members N) : Type 0 where
   pub line : 13 ≤ length d
   pub first : First s x
-  pub more : 1 < x.n
-  pub room : x.n ≤ N
+  pub more : 1 < x.mark.count
+  pub room : x.mark.count ≤ N
   pub none : t.count ≡ 0
 
 -- an input within the limit

@@ -27,6 +27,7 @@ fn last_mark(s: &[u8], at: usize, e: usize) -> Result<Mark, Refusal>
 }
 
 // The rows of the piece whose line 1 ends at a position.
+#[tactic(auto, using(crate::proofs::BodyLaws::lines_laws))]
 pub(crate) fn read_lines(s: &[u8], from: usize) -> Result<Lines, Refusal>
     requires { from ≤ length s.now }
     ensures { LinesAre s.now from result }

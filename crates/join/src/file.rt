@@ -24,6 +24,7 @@ fn put_head(out: &mut [u8], provider: bool) -> usize
 }
 
 // One piece without a record 911: line 1 of its direction, and its rows.
+#[tactic(auto, using(crate::proofs::JoinLaws::one_laws))]
 fn join_one(s: &[u8], provider: bool, rows: Span, buf: &mut [u8]) -> Result<usize, Refusal>
     requires { Given buf.old s.now rows }
     ensures { MadeIs true (length buf.old) (ok (head_row provider ++ bytes_of s.now rows)) buf.new result }
@@ -36,6 +37,7 @@ fn join_one(s: &[u8], provider: bool, rows: Span, buf: &mut [u8]) -> Result<usiz
 }
 
 // A set: line 1, and the rows of its pieces by k.
+#[tactic(auto, using(crate::proofs::JoinLaws::found_laws))]
 fn join_found<const N: usize>(
     s: &[u8],
     provider: bool,
@@ -50,6 +52,7 @@ fn join_found<const N: usize>(
 }
 
 // The pieces as a set like its first, by tables that have room for n pieces.
+#[tactic(auto, using(crate::proofs::JoinLaws::set_laws))]
 fn join_listed<const N: usize>(
     s: &[u8],
     first: Member,
@@ -75,10 +78,10 @@ fn join_set(s: &[u8], first: Member, buf: &mut [u8]) -> Result<usize, Refusal>
     requires first { First s.now first }
     ensures { MadeIs (sound (rows s.now)) (length buf.old) (or_set (join_parts (all_parts (pieces_in (rows s.now))))) buf.new result }
 {
-    if first.n <= 1 {
+    if first.mark.count <= 1 {
         return Err(Refusal::Set);
     }
-    if first.n <= FEW {
+    if first.mark.count <= FEW {
         join_listed(s, first, &mut Members::<FEW>::new(), buf)
     } else {
         join_listed(s, first, &mut Members::<MOST>::new(), buf)
@@ -86,6 +89,7 @@ fn join_set(s: &[u8], first: Member, buf: &mut [u8]) -> Result<usize, Refusal>
 }
 
 // The pieces: one without a record 911, or a set.
+#[tactic(auto, using(crate::proofs::JoinLaws::pieces_laws))]
 fn join_pieces(s: &[u8], buf: &mut [u8]) -> Result<usize, Refusal>
     requires { Input buf.old s.now }
     ensures { MadeIs (sound (rows s.now)) (length buf.old) (or_set (join_pieces (pieces_in (rows s.now)))) buf.new result }
@@ -99,8 +103,7 @@ fn join_pieces(s: &[u8], buf: &mut [u8]) -> Result<usize, Refusal>
     if let Some(mark) = lines.mark {
         let first = Member {
             provider: opening.provider,
-            n: mark.count,
-            k: mark.place,
+            mark,
             rows,
             stop: lines.stop,
         };
@@ -113,6 +116,7 @@ fn join_pieces(s: &[u8], buf: &mut [u8]) -> Result<usize, Refusal>
 }
 
 // The joined file before it is checked: 1 and 2 on the input, then 19.
+#[tactic(auto, using(crate::proofs::InputLaws::into_laws))]
 pub(crate) fn join_into(s: &[u8], buf: &mut [u8]) -> Result<usize, Refused>
     requires { 13 ≤ length buf.old }
     ensures { JoinedIs (length buf.old) (joined_file s.now) buf.new result }

@@ -20,6 +20,7 @@ fn put_if_room(out: &mut [u8], at: usize, w: &[u8]) -> usize
 
 // The rows of pieces 1 to n, from an index on. 19 for a k that is missing comes before 1 for a file that is too long, so the pieces after one that does not
 // fit are looked for too.
+#[tactic(auto, using(crate::proofs::GatheringLaws::gathering_laws))]
 pub(crate) fn gather<const N: usize>(
     out: &mut [u8],
     at: usize,

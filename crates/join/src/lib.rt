@@ -22,6 +22,7 @@ use replies::{Answer, Refusal, Values};
 
 // The joined file, checked, or the one refusal; file: an array for it, so that a refusal leaves the output as it was. It is no shorter than the input,
 // which no joined file exceeds, or it is as long as the longest file.
+#[tactic(auto, using(crate::proofs::CallLaws::join_laws))]
 fn join_by(pieces: &[u8], file: &mut [u8], out: &mut [u8]) -> Answer
     requires { Roomy (length pieces.now) file.old }
     ensures { Gives (join_result pieces.now) out.old out.new (answer result) }

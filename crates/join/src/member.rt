@@ -4,6 +4,7 @@ ghost use Rattle.join.specs.Spans.{ident_at, Within, MemberIs};
 
 use crate::body::read_lines;
 use crate::rows::Opening;
+use pieces::Mark;
 use replies::Refusal;
 
 // Bytes of the input, from a position to a position. Not a `Range`, which is not `Copy`.
@@ -17,8 +18,7 @@ pub(crate) struct Span {
 #[derive(Clone, Copy)]
 pub(crate) struct Member {
     pub provider: bool,
-    pub n: usize,
-    pub k: usize,
+    pub mark: Mark,
     pub rows: Span,
     pub stop: usize,
 }
@@ -32,6 +32,7 @@ fn ident(s: &[u8], mark: usize) -> &[u8]
 }
 
 // The piece that an opening begins, in a set like its first piece.
+#[tactic(auto, using(crate::proofs::MemberLaws::member_laws))]
 pub(crate) fn read_member(s: &[u8], opening: Opening, first: Member) -> Result<Member, Refusal>
     requires within { Within s.now opening.end }
     requires first { first.rows.to + 18 ≤ length s.now }
@@ -41,19 +42,15 @@ pub(crate) fn read_member(s: &[u8], opening: Opening, first: Member) -> Result<M
     let Some(mark) = lines.mark else {
         return Err(Refusal::Set);
     };
-    if opening.provider != first.provider {
-        return Err(Refusal::Set);
-    }
-    if mark.count != first.n {
-        return Err(Refusal::Set);
-    }
-    if ident(s, lines.end) != ident(s, first.rows.to) {
+    if first.provider != opening.provider
+        || first.mark.count != mark.count
+        || ident(s, first.rows.to) != ident(s, lines.end)
+    {
         return Err(Refusal::Set);
     }
     Ok(Member {
         provider: opening.provider,
-        n: mark.count,
-        k: mark.place,
+        mark,
         rows: Span {
             from: opening.end,
             to: lines.end,

@@ -46,7 +46,7 @@ pub(crate) struct Opening {
 }
 
 // The first piece, whose line 1 has no 1Ah before it.
-#[tactic(auto, using(crate::proofs::WalkLaws::first_laws))]
+#[tactic(auto, using(crate::proofs::WalkLaws::first_head))]
 pub(crate) fn first_piece(s: &[u8]) -> Result<Opening, Refusal>
     ensures { FirstIs s.now result }
 {

@@ -5,7 +5,7 @@ use crate::member::{Member, Span, read_member};
 use crate::rows::next_piece;
 use replies::Refusal;
 
-// The pieces of a set as they lie. Their k's are apart, two bytes each, since joining 999 pieces takes 499,500 looks.
+// The pieces of a set as they lie. Their k's are an array of their own, two bytes each, since joining 999 pieces takes 499,500 looks at them.
 #[derive(Drop)]
 pub(crate) struct Members<const N: usize> {
     pub count: usize,
@@ -32,20 +32,21 @@ impl<const N: usize> Members<N> {
 
     // The next piece.
     fn store(&mut self, member: Member)
-        requires k_bound { member.k ≤ 999 }
+        requires k_bound { member.mark.place ≤ 999 }
         requires room { self.old.count < N }
         ensures { Stored self.old self.new member }
     {
-        self.ks[self.count] = member.k as u16;
+        self.ks[self.count] = member.mark.place as u16;
         self.rows[self.count] = member.rows;
         self.count += 1;
     }
 
     // The pieces of a set like its first, where there are as many as it says, and they agree.
+    #[tactic(auto, using(crate::proofs::SetLaws::collect_laws))]
     pub fn collect(&mut self, s: &[u8], first: Member) -> Result<(), Refusal>
         requires none { self.old.count ≡ 0 }
-        requires some { 1 ≤ first.n }
-        requires room { first.n ≤ N }
+        requires some { 1 ≤ first.mark.count }
+        requires room { first.mark.count ≤ N }
         requires first { First s.now first }
         ensures { CollectIs s.now first self.new result }
     {
@@ -53,19 +54,20 @@ impl<const N: usize> Members<N> {
         let mut at = first.stop;
         while let Some(opening) = next_piece(s, at)? {
             let member = read_member(s, opening, first)?;
-            if first.n <= self.count {
+            if first.mark.count <= self.count {
                 return Err(Refusal::Set);
             }
             self.store(member);
             at = member.stop;
         }
-        if self.count != first.n {
+        if self.count != first.mark.count {
             return Err(Refusal::Set);
         }
         Ok(())
     }
 
     // The rows of piece k, looked for among the pieces as they lie. The one at the count is looked at once more: the last and none have one count.
+    #[tactic(auto, using(crate::proofs::SetLaws::spot_laws))]
     pub fn find_rows(&self, k: usize) -> Option<Span>
         requires some { 1 ≤ self.now.count }
         requires k_bound { k ≤ 999 }
@@ -73,9 +75,6 @@ impl<const N: usize> Members<N> {
     {
         let wanted = k as u16;
         let i = search::find_piece(&self.ks[..self.count], wanted) - 1;
-        if self.ks[i] != wanted {
-            return None;
-        }
-        Some(self.rows[i])
+        (self.ks[i] == wanted).then_some(self.rows[i])
     }
 }

@@ -9,12 +9,6 @@ loop-at-init c = search (rules, lines_laws)
 pub overflow_sub-row : goal.overflow_sub-row
 overflow_sub-row c = search (rules, lines_laws)
 
-pub slice_bounds-is_mark-count : goal.slice_bounds-is_mark-count
-slice_bounds-is_mark-count c = search (rules, lines_laws)
-
-pub slice_bounds-is_mark-start : goal.slice_bounds-is_mark-start
-slice_bounds-is_mark-start c = search (rules, lines_laws)
-
 pub last_mark-requires : goal.last_mark-requires
 last_mark-requires c = search (rules, lines_laws)
 
@@ -26,9 +20,6 @@ returns-then-is_mark c = search (rules, lines_laws, c.in_ok-mark.ensures)
 
 pub loop-at-preserved : goal.loop-at-preserved
 loop-at-preserved c = search (rules, lines_laws)
-
-pub returns-after-loop-at : goal.returns-after-loop-at
-returns-after-loop-at c = search (rules, lines_laws)
 
 pub returns-in_default : goal.returns-in_default
 returns-in_default c = search (rules, lines_laws, c.in_default.not-Body)

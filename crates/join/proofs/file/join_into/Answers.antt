@@ -2,12 +2,6 @@ use Rattle.std.proofs.Common.{rules}
 use Rattle.join.proofs.InputLaws.{into_laws}
 use Rattle.join.proofs.file.join_into.Goals as goal
 
-pub returns-then-s-gt131072 : goal.returns-then-s-gt131072
-returns-then-s-gt131072 c = search (rules, into_laws)
-
-pub returns-in-Ok : goal.returns-in-Ok
-returns-in-Ok c = search (rules, into_laws, c.in-Ok.ensures)
-
 pub returns-in-Err-Large : goal.returns-in-Err-Large
 returns-in-Err-Large c = search (rules, into_laws, c.in-Err-Large.ensures)
 

@@ -8,8 +8,5 @@ returns-in_err-collect g c =
     let p = err_from_is_err_and c.from_residual.result c.from_residual.ensures.1 in
     rw (p.1, p.2) (search (rules, set_laws, c.in_err-collect.ensures))
 
-pub join_found-requires : goal.join_found-requires
-join_found-requires g c = search (rules, set_laws, c.in_ok-collect.ensures)
-
 pub returns : goal.returns
 returns g c = search (rules, set_laws, c.in_ok-collect.ensures)

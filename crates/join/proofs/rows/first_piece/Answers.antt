@@ -1,6 +1,6 @@
 use Rattle.std.proofs.Common.{rules}
-use Rattle.join.proofs.WalkLaws.{first_laws}
+use Rattle.join.proofs.WalkLaws.{first_head}
 use Rattle.join.proofs.rows.first_piece.Goals as goal
 
 pub returns-in-Head : goal.returns-in-Head
-returns-in-Head c = search (rules, first_laws)
+returns-in-Head c = search (rules, first_head)

@@ -3,9 +3,6 @@ use Rattle.std.proofs.lemmas.Result.{err_from_is_err_and}
 use Rattle.join.proofs.SetLaws.{collect_laws}
 use Rattle.join.proofs.set.Members.collect.Goals as goal
 
-pub loop-opening-init : goal.loop-opening-init
-loop-opening-init g c = search (rules, collect_laws)
-
 pub returns-in_err-member : goal.returns-in_err-member
 returns-in_err-member g c =
     let p = err_from_is_err_and c.from_residual-in_err-member.result c.from_residual-in_err-member.ensures.1 in
@@ -13,9 +10,6 @@ returns-in_err-member g c =
 
 pub returns-then-first-self : goal.returns-then-first-self
 returns-then-first-self g c = search (rules, collect_laws, c.in_ok-opening.ensures, c.in_ok-member.ensures)
-
-pub loop-opening-preserved : goal.loop-opening-preserved
-loop-opening-preserved g c = search (rules, collect_laws, c.in_ok-opening.ensures, c.in_ok-member.ensures)
 
 pub returns-then-self-first : goal.returns-then-self-first
 returns-then-self-first g c = search (rules, collect_laws, c.in_ok-opening.ensures)
