@@ -98,6 +98,7 @@ pub fn write_whole<W: Write>(to: &mut W, bytes: &[u8]) -> Result<()>
     ensures { Written result (W.contents to.old) (W.contents to.new) bytes.now }
 {
     let mut done: usize = 0;
+    // No `for`: a write decides where the next begins.
     while done < bytes.len() {
         let more = to.write(&bytes[done..])?;
         if more == 0 {

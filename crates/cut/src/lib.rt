@@ -91,6 +91,7 @@ fn first_width(s: &[u8], c: usize) -> Option<Plan>
 {
     let mut w: usize = 1;
     let mut t: usize = 0;
+    // The widths are tried in turn: a labelled loop, left from inside the packing with the count.
     let count = 'widths: loop {
         if 3 < w {
             return None;
@@ -99,6 +100,7 @@ fn first_width(s: &[u8], c: usize) -> Option<Plan>
         let mut u = overhead(w, k);
         let mut i: usize = 13;
         t = u;
+        // No `for`: the end of a piece is where the next begins.
         loop {
             let e = run_end(s, i, u, c);
             if s.len() <= e {
@@ -172,6 +174,7 @@ impl Cutting<'_> {
         let mut o: usize = 0;
         let mut k: u32 = 1;
         let mut i: usize = 13;
+        // No `for`, as above.
         loop {
             let u = overhead(self.plan.width, k);
             let e = run_end(self.file, i, u, self.capacity);

@@ -55,6 +55,7 @@ pub fn run_of(text: &mut [u8]) -> Result<usize, BadId>
     let lined = text.contains(&b'\n');
     let mut from: usize = 0;
     let mut to: usize = 0;
+    // No `for`: an ID and its line end decide where the next begins.
     while from < text.len() {
         let next = after_id(text, from, lined).ok_or(BadId {
             number: to / 14 + 1,

@@ -94,6 +94,7 @@ fn read_batch(from: Reader, s: &[u8], entries: &mut [u32; 448]) -> Result<Batch,
     let mut stops = [0usize; 16];
     let mut reader = from;
     let mut next = 0;
+    // No `for`: a record moves the reader by its own length.
     while next < 448 {
         let Some(turn) = checking::read_record(&mut stops, reader.st, s, reader.at)? else {
             return Ok(Batch::Last(checking::close(reader.st)?, next));

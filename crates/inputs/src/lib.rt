@@ -33,6 +33,7 @@ pub fn read_from<R: Read>(from: &mut R, buf: &mut [u8], at: usize) -> io::Result
     ensures bytes { TakenFrom (R.remaining from.old) (R.remaining from.new) result buf.old buf.new at }
 {
     let mut end = at;
+    // No `for`: a read decides where the next begins.
     while end < buf.len() {
         let more = read_once(from, &mut buf[end..])?;
         if more == 0 {
