@@ -194,48 +194,27 @@ one_else Dose p r d = refl
 one_else Date p r d = absurd (d refl)
 one_else (Among v) p r d = refl
 
-module _ (k : CodeKind) (s : List ℕ) where
-  module _ (e : k ≡ PostalCode) where
-    postal_kind : Spellable (kind_of k) s → item_bytes (kind_of k) s ≡ postal_bytes s
-    postal_kind g = rw e (item_postal s (rw e at g))
+-- what an item's one spelling is, kind by kind
+pub postal_kind : (k : CodeKind) (s : List ℕ) → k ≡ PostalCode → Spellable (kind_of k) s → item_bytes (kind_of k) s ≡ postal_bytes s
+postal_kind k s e g = rw e (item_postal s (rw e at g))
 
-    pub postal_item_room : (d : List ℕ) (at : ℕ) → Spellable (kind_of k) s → Room d at (item_bytes (kind_of k) s) → Room d at (postal_bytes s)
-    postal_item_room d at g r = rw (postal_kind g) at r
+pub number_kind : (k : CodeKind) (s : List ℕ) → k ≡ Number → item_bytes (kind_of k) s ≡ number_bytes s
+number_kind k s e = rw e (item_number s)
 
-    pub postal_item : {d d₁ : List ℕ} {at r : ℕ} → Spellable (kind_of k) s → Wrote d d₁ at r (postal_bytes s) → Wrote d d₁ at r (item_bytes (kind_of k) s)
-    postal_item g w = rw (postal_kind g) w
+pub day_kind : (k : CodeKind) (s : List ℕ) → k ≡ Date → item_bytes (kind_of k) s ≡ day_bytes s
+day_kind k s e = rw e (item_day s)
 
-  module _ (e : k ≡ Number) where
-    number_kind : item_bytes (kind_of k) s ≡ number_bytes s
-    number_kind = rw e (item_number s)
+pub other_kind : (k : CodeKind) (s : List ℕ) → (k ≡ PostalCode → ⊥) → (k ≡ Number → ⊥) → (k ≡ Date → ⊥) → item_bytes (kind_of k) s ≡ s
+other_kind k s p r d = own_kind (kind_of k) s (one_else k p r d)
 
-    pub number_item_room : (d : List ℕ) (at : ℕ) → Room d at (item_bytes (kind_of k) s) → Room d at (number_bytes s)
-    number_item_room d at r = rw number_kind at r
+-- what is written as that spelling is written as the item
+pub room_as : (out : List ℕ) (at : ℕ) (k : CodeKind) (s b : List ℕ) → item_bytes (kind_of k) s ≡ b → Room out at (item_bytes (kind_of k) s) → Room out at b
+room_as out at k s b e r = rw e at r
 
-    pub number_item : {d d₁ : List ℕ} {at r : ℕ} → Wrote d d₁ at r (number_bytes s) → Wrote d d₁ at r (item_bytes (kind_of k) s)
-    number_item w = rw number_kind w
+pub wrote_as : {out out₁ : List ℕ} {at next : ℕ} (k : CodeKind) (s b : List ℕ) → item_bytes (kind_of k) s ≡ b → Wrote out out₁ at next b → Wrote out out₁ at next (item_bytes (kind_of k) s)
+wrote_as k s b e w = rw e w
 
-  module _ (e : k ≡ Date) where
-    day_kind : item_bytes (kind_of k) s ≡ day_bytes s
-    day_kind = rw e (item_day s)
-
-    pub day_item_room : (d : List ℕ) (at : ℕ) → Room d at (item_bytes (kind_of k) s) → Room d at (day_bytes s)
-    day_item_room d at r = rw day_kind at r
-
-    pub day_item : {d d₁ : List ℕ} {at r : ℕ} → Wrote d d₁ at r (day_bytes s) → Wrote d d₁ at r (item_bytes (kind_of k) s)
-    day_item w = rw day_kind w
-
-  module _ (p : k ≡ PostalCode → ⊥) (r : k ≡ Number → ⊥) (d : k ≡ Date → ⊥) where
-    kept : item_bytes (kind_of k) s ≡ s
-    kept = own_kind (kind_of k) s (one_else k p r d)
-
-    pub kept_item_room : (out : List ℕ) (at : ℕ) → Room out at (item_bytes (kind_of k) s) → Room out at s
-    kept_item_room out at w = rw kept at w
-
-    pub kept_item : {out out₁ : List ℕ} {at next : ℕ} → Wrote out out₁ at next s → Wrote out out₁ at next (item_bytes (kind_of k) s)
-    kept_item w = rw kept w
-
-pub ruleset item_laws = (postal_item_room, postal_item, number_item_room, number_item, day_item_room, day_item, kept_item_room, kept_item)
+pub ruleset item_laws = (room_as, wrote_as, postal_kind, number_kind, day_kind, other_kind)
 
 -- ---- an item that is its own spelling
 
