@@ -124,7 +124,7 @@ fn spots(number: u32) -> &'static [(usize, Kind)]
 // ---- runs
 
 // What is written of a file: all bytes before `from`, in their one spelling, before `at` of the output. The bytes from `from` on wait: they
-// are copied where a run ends.
+// are copied where a run ends. The output is not a part of it: each contract would have to say that it is the same one still.
 #[derive(Clone, Copy)]
 pub struct Run {
     pub from: usize,

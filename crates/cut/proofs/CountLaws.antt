@@ -12,6 +12,7 @@ use borrow.Author.Tests.{leb-true, leb-false}
 use lib.Dec.{eqb, leb}
 use lib.ListN.{length, drop, get_or}
 use Rattle.lists.specs.Searching.{part}
+use Rattle.lists.proofs.Parts.{part_length}
 use Rattle.lists.proofs.Cuts.{drop_step}
 use Rattle.characters.specs.Rows.{rows}
 use Rattle.characters.proofs.RowLaws.{First, first_row}
@@ -22,7 +23,7 @@ use Rattle.packing.specs.Widths.{Plan as Runs, over, serves, or_next, tries}
 use Rattle.packing.proofs.Packing.{Holds, pack_last, pack_stuck, pack_run, pack_more}
 use Rattle.packing.proofs.Widths.{over_up, serves_digits}
 use Rattle.cut.specs.Loops.{OverOf, first_length, RunAt, runs_at, past_last, ends, overheads, chosen_by, chosen_from, chosen, Small}
-use Rattle.cut.proofs.RowLaws.{rows_done, part_length, rows_total}
+use Rattle.cut.proofs.RowLaws.{rows_done, rows_total}
 
 -- ---- the small functions
 
@@ -41,7 +42,7 @@ no_some {A} {a} e = let z : ◌≡◌ {A = ℕ} 0 1 = cc in omega arith
 
 module _ (s : List ℕ) (c w k i e : ℕ) (x : RunAt s i (over w k) c e) where
   taken_total : total length (rows (part s i e)) ≡ e - i
-  taken_total = rows_total (part s i e) ∙ part_length s i e x.inside x.low
+  taken_total = rows_total (part s i e) ∙ part_length s i e x.low x.inside
 
   pub runs_last : length s ≤ e → runs_at s c w k i ≡ Some (rows (part s i e) ∷ [])
   unfolding runs_at pack

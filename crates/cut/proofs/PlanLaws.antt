@@ -8,6 +8,7 @@ use mathlib.Core.List.{List, [], ◌∷◌, ◌++◌}
 use borrow.Author.Tests.{lt-leb}
 use lib.ListN.{length, drop, length-append, length-drop}
 use Rattle.lists.specs.Searching.{part}
+use Rattle.lists.proofs.Parts.{part_length}
 use Rattle.characters.specs.Rows.{rows, flat}
 use Rattle.packing.specs.Packing.{total, pack}
 use Rattle.packing.specs.Divisions.{concat}
@@ -18,7 +19,7 @@ use Rattle.packing.proofs.Widths.{Divides, Planned, plan_good, plan_whole, over_
 use Rattle.division.specs.Marks.{mark_row}
 use Rattle.cut.specs.declared.Plan.{Plan}
 use Rattle.cut.specs.Loops.{runs_at, past_last, ends, overheads, plan_of, chosen_by, chosen_from, chosen, numbered_as, pieces_as, poured}
-use Rattle.cut.proofs.RowLaws.{part_length, flat_total, rows_total}
+use Rattle.cut.proofs.RowLaws.{flat_total, rows_total}
 use Rattle.cut.proofs.PourLaws.{mark_length}
 
 -- ---- lengths
@@ -157,7 +158,7 @@ module _ {s : List ℕ} {c : ℕ} {p : Plan} (f : Found s c p) where
   pub found_length : (id : List ℕ) → 13 ≤ length s → length id ≡ 14 → p.bytes + (length s - 13) ≡ length (flat (numbered_as (part s 0 13) id p.count 1 f.runs))
   unfolding overheads
   found_length id h g =
-      let hd : length (part s 0 13) ≡ 13 = part_length s 0 13 h (omega arith) in
+      let hd : length (part s 0 13) ≡ 13 = part_length s 0 13 (omega arith) h in
       let q : 0 + length f.runs ≡ p.count = omega (arith, f.count) in
       omega (
         arith,

@@ -15,6 +15,7 @@ use lib.Dec.{leb}
 use lib.ListN.{length, length-append}
 use lib.Seq.{sets}
 use Rattle.lists.specs.Searching.{part}
+use Rattle.lists.proofs.Parts.{part_length}
 use Rattle.digits.specs.Digits.{spell}
 use Rattle.characters.specs.Rows.{rows, flat}
 use Rattle.characters.proofs.RowLaws.{flat_rows}
@@ -25,7 +26,6 @@ use Rattle.buffers.proofs.Runs.{then, carry}
 use Rattle.packing.specs.Widths.{over}
 use Rattle.division.specs.Marks.{mark_line, mark_row}
 use Rattle.cut.specs.Loops.{OverOf, RunAt, runs_at, past_last, ends, numbered_as, pieces_as, poured, piece_as, MarkRoom, PieceRoom, Planned}
-use Rattle.cut.proofs.RowLaws.{part_length}
 use Rattle.cut.proofs.CountLaws.{no_some, runs_last, runs_next, ends_next, ends_stuck, ends_from}
 
 -- ---- the record 911
@@ -53,25 +53,25 @@ module _ {s : List ℕ} {c w n : ℕ} (g : Planned s c w n) {d : List ℕ} {at i
     v.room,
     length-append (part s 0 13) (part s i e ++ mark_row id n k),
     length-append (part s i e) (mark_row id n k),
-    part_length s 0 13 g.small.header (omega arith),
-    part_length s i e v.inside v.low,
+    part_length s 0 13 (omega arith) g.small.header,
+    part_length s i e v.low v.inside,
   )
 
   pub piece_head : Room d at (part s 0 13)
-  piece_head = omega (arith, sizes, part_length s 0 13 g.small.header (omega arith))
+  piece_head = omega (arith, sizes, part_length s 0 13 (omega arith) g.small.header)
 
   module _ {d₁ : List ℕ} {a : ℕ} (p : Wrote d d₁ at a (part s 0 13)) where
     behind_head_lem : a ≡ at + 13
-    behind_head_lem = omega (arith, p.next, part_length s 0 13 g.small.header (omega arith))
+    behind_head_lem = omega (arith, p.next, part_length s 0 13 (omega arith) g.small.header)
 
     pub piece_rows : Room d₁ a (part s i e)
-    piece_rows = omega (arith, sizes, behind_head_lem, p.size, part_length s i e v.inside v.low)
+    piece_rows = omega (arith, sizes, behind_head_lem, p.size, part_length s i e v.low v.inside)
 
     module _ {d₂ : List ℕ} {b : ℕ} (q : Wrote d₁ d₂ a b (part s i e)) where
       pub piece_mark : MarkRoom d₂ b id n k
       piece_mark = record {
         few = v.few;
-        room = omega (arith, sizes, behind_head_lem, p.size, q.size, q.next, part_length s i e v.inside v.low, mark_length id n k);
+        room = omega (arith, sizes, behind_head_lem, p.size, q.size, q.next, part_length s i e v.low v.inside, mark_length id n k);
       }
 
       pub piece_wrote : {d₃ : List ℕ} {r : ℕ} → Wrote d₂ d₃ b r (mark_row id n k) → Wrote d d₃ at r (piece_as s id n k i e)

@@ -7,7 +7,7 @@ use mathlib.Core.List.{List, [], ◌∷◌, ◌++◌, append-nil}
 use borrow.Author.Tests.{eq-eqb, ne_eqb}
 use lib.Dec.{eqb}
 use lib.ListN.{length, take, drop, get_or, length-drop, length-append}
-use lib.Seq.{length-take-le, drop-drop, get_or-drop}
+use lib.Seq.{drop-drop, get_or-drop}
 use Rattle.lists.specs.Lists.{up_to, is}
 use Rattle.lists.specs.Searching.{part, find_from}
 use Rattle.lists.proofs.Cuts.{drop_end, rest_all, up_to_go}
@@ -15,16 +15,13 @@ use Rattle.characters.specs.Rows.{cons_row, rows, flat}
 use Rattle.characters.proofs.RowLaws.{first_row, flat_rows}
 use Rattle.packing.specs.Packing.{total}
 use Rattle.std.specs.Prelude.{Option, Some, None}
-use Rattle.lists.proofs.Parts.{part_at}
+use Rattle.lists.proofs.Parts.{part_length, part_at}
 use Rattle.cut.specs.Loops.{LastMeans, LastOf, first_length, RunAt}
 
 -- ---- lengths
 
 pub rows_done : (s : List ℕ) (i : ℕ) → length s ≤ i → rows (drop i s) ≡ []
 rows_done s i h = rw (drop_end s i h)
-
-pub part_length : (s : List ℕ) (i e : ℕ) → e ≤ length s → i ≤ e → length (part s i e) ≡ e - i
-part_length s i e h g = length-take-le (e - i) (drop i s) (omega (arith, length-drop i s))
 
 pub flat_total : (rs : List (List ℕ)) → length (flat rs) ≡ total length rs
 unfolding total

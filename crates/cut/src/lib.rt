@@ -91,7 +91,7 @@ fn first_width(s: &[u8], c: usize) -> Option<Plan>
 {
     let mut w: usize = 1;
     let mut t: usize = 0;
-    // The widths are tried in turn: a labelled loop, left from inside the packing with the count.
+    // Labelled, since a width is left for the next one, and the last with its count, from inside the packing.
     let count = 'widths: loop {
         if 3 < w {
             return None;
@@ -147,13 +147,13 @@ impl Cutting<'_> {
         requires { MarkRoom out.old at self.now.id.now self.now.plan.count k }
         ensures { Wrote out.old out.new at result (mark_row self.now.id.now self.now.plan.count k) }
     {
-        let a = buffers::put_all(out, at, b"911,");
-        let b = buffers::put_all(out, a, self.id);
-        let c = buffers::put_byte(out, b, b',');
-        let d = buffers::put_number(out, c, self.plan.count);
-        let e = buffers::put_byte(out, d, b',');
-        let f = buffers::put_number(out, e, k);
-        buffers::put_all(out, f, b"\r\n")
+        let at = buffers::put_all(out, at, b"911,");
+        let at = buffers::put_all(out, at, self.id);
+        let at = buffers::put_byte(out, at, b',');
+        let at = buffers::put_number(out, at, self.plan.count);
+        let at = buffers::put_byte(out, at, b',');
+        let at = buffers::put_number(out, at, k);
+        buffers::put_all(out, at, b"\r\n")
     }
 
     // Piece k: line 1, its rows and the record 911.
@@ -161,9 +161,9 @@ impl Cutting<'_> {
         requires { PieceRoom out.old at self.now.file.now rows.start rows.end self.now.id.now self.now.plan.count k }
         ensures { Wrote out.old out.new at result (piece_as self.now.file.now self.now.id.now self.now.plan.count k rows.start rows.end) }
     {
-        let a = buffers::put_all(out, at, &self.file[..13]);
-        let b = buffers::put_all(out, a, &self.file[rows]);
-        self.put_mark(out, b, k)
+        let at = buffers::put_all(out, at, &self.file[..13]);
+        let at = buffers::put_all(out, at, &self.file[rows]);
+        self.put_mark(out, at, k)
     }
 
     // The pieces, one after another.
