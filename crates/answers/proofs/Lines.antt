@@ -61,6 +61,18 @@ pub entry_wrote : {d d₁ d₂ d₃ text others : List ℕ} {at i j k : ℕ} (fi
     → Wrote d₂ d₃ j k (0x0a ∷ []) → Wrote d d₃ at k (line (decimal first) others)
 entry_wrote {others = others} first x y e z = line_wrote others x (rw e at y) z
 
+-- the six numbers after the first of seven
+pub after_first : (l : List ℕ) → length l ≡ 7 → get_or l 1 0 ∷ get_or l 2 0 ∷ get_or l 3 0 ∷ get_or l 4 0 ∷ get_or l 5 0 ∷ get_or l 6 0 ∷ [] ≡ drop 1 l
+after_first (a ∷ b ∷ c ∷ d ∷ e ∷ f ∷ g ∷ []) h = refl
+after_first [] h = absurd (omega (arith, h))
+after_first (a ∷ []) h = absurd (omega (arith, h))
+after_first (a ∷ b ∷ []) h = absurd (omega (arith, h))
+after_first (a ∷ b ∷ c ∷ []) h = absurd (omega (arith, h))
+after_first (a ∷ b ∷ c ∷ d ∷ []) h = absurd (omega (arith, h))
+after_first (a ∷ b ∷ c ∷ d ∷ e ∷ []) h = absurd (omega (arith, h))
+after_first (a ∷ b ∷ c ∷ d ∷ e ∷ f ∷ []) h = absurd (omega (arith, h))
+after_first (a ∷ b ∷ c ∷ d ∷ e ∷ f ∷ g ∷ x ∷ l) h = absurd (omega (arith, h))
+
 -- ---- at a buffer's front
 
 module _ {d d' : List ℕ} {n : ℕ} (values : ℕ) (r : Reply) where

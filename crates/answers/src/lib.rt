@@ -88,8 +88,9 @@ pub fn put_entry(out: &mut [u8], at: usize, numbers: &[u64; 7]) -> usize
     ensures wrote { Wrote out.old out.new at result (line (decimal (slice_index numbers.now 0)) (drop 1 numbers.now)) }
     ensures upper_bound { result ≤ at + 147 }
 {
-    let next = put_decimal(out, at, numbers[0]);
-    let end = put_numbers(out, next, &numbers[1..]);
+    let [a, b, c, d, e, f, g] = *numbers;
+    let next = put_decimal(out, at, a);
+    let end = put_numbers(out, next, &[b, c, d, e, f, g]);
     buffers::put_byte(out, end, b'\n')
 }
 

@@ -7,9 +7,9 @@ use native.Mathlib.Omega.{arith}
 use mathlib.Core.Path.{◌≡◌, refl, sym, ap, ap₂, ◌∙◌}
 use mathlib.Core.List.{List, [], ◌∷◌, ◌++◌, append_assoc}
 use borrow.Author.Tests.{le-leb, lt-leb}
-use lib.ListN.{length, take, drop, set, length-append, length-set}
-use lib.Seq.{sets, sets-eq, length-sets, length-take-le, take-append-le, take-take, take_at, drop_at, drop-drop}
-use borrow.Rule.Slice.PartMut.{put_mid}
+use lib.ListN.{length, get_or, take, drop, set, length-append, length-set, drop_of_length-le}
+use lib.Seq.{sets, sets-eq, length-sets, length-take-le, take-append-le, take-take, take_at, drop_at}
+use Rattle.lists.proofs.Cuts.{drop_step}
 use Rattle.digits.specs.Digits.{spell}
 use Rattle.buffers.specs.Buffers.{Room, Wrote}
 use Rattle.buffers.specs.Entries.{seven_numbers}
@@ -63,11 +63,38 @@ sets_behind v w d at h =
     ∙ sym (sets-eq (v ++ w) d at (omega (arith, n)) ∙ append_assoc (take at d) (v ++ w) (drop (at + length (v ++ w)) d)
     ∙ ap (λ (k : ℕ). take at d ++ (v ++ w ++ drop k d)) n)
 
--- a list copied to the part from an index on
-pub copied : {A : Type 0} (d : List A) (at n : ℕ) (v w : List A) → at + length w ≤ length d → n ≡ length w → v ≡ w → Wrote d (put_mid at n d v) at (at + length w) w
-copied {A} d at n v w h e f =
-    let l : put_mid at n d v ≡ sets d at w = rw (e, f, drop-drop (length w) at d) (sym (sets-eq w d at h ∙ append_assoc (take at d) w (drop (at + length w) d))) in
-    record { next = refl; list = l; size = rw l (length-sets d at w); high = h }
+-- ---- the copy of a list: what is left of it gives the whole run
+
+pub record Copying {A : Type 0} (d : List A) (at : ℕ) (w d' : List A) (i : ℕ) : Type 0 where
+  pub left : sets d' (at + i) (drop i w) ≡ sets d at w
+  pub within : i ≤ length w
+  pub size : length d' ≡ length d
+  pub room : at + length w ≤ length d
+
+module _ {A : Type 0} (d : List A) (at : ℕ) (w : List A) where
+  pub copying_start : Room d at w → Copying d at w d 0
+  copying_start h = let z : at + 0 ≡ at = omega arith in record { left = rw z refl; within = omega arith; size = refl; room = h }
+
+  module _ (d' : List A) (i : ℕ) (v : Copying d at w d' i) where
+    pub copying_more : (x : A) → i < length w → x ≡ get_or w i x → Copying d at w (set d' (at + i) x) (i + 1)
+    copying_more x h e =
+        let z : at + (i + 1) ≡ at + i + 1 = omega arith in
+        record {
+          left = rw (z, e) (rw (add-one (at + i)) (rw (drop_step w i x h) at v.left));
+          within = omega arith;
+          size = simp length-set v.size;
+          room = v.room;
+        }
+
+    pub copying_done : length w ≤ i → Wrote d d' at (at + length w) w
+    copying_done h = record {
+      next = refl;
+      list = rw (drop_of_length-le w h) at v.left;
+      size = v.size;
+      high = v.room;
+    }
+
+pub ruleset copying_laws = (copying_start, copying_more, copying_done)
 
 -- ---- a number by its width
 

@@ -9,7 +9,7 @@ ghost use Rattle.std.specs.Prelude.{◌≡◌, [], ◌∷◌, ◌+◌, ◌<◌};
 ghost use Rattle.digits.specs.Digits.{spell};
 ghost use Rattle.buffers.specs.Buffers.{Room, Wrote};
 
-pub use room::with_room;
+pub use room::{ANY, MIDDLING, SHORT, with_room};
 
 // One byte.
 pub fn put_byte(out: &mut [u8], at: usize, b: u8) -> usize
@@ -20,15 +20,16 @@ pub fn put_byte(out: &mut [u8], at: usize, b: u8) -> usize
     at + 1
 }
 
-// All elements of w.
-#[tactic(auto, using(crate::proofs::Runs::copied))]
+// All elements of w. By a loop, since the library's `copy_from_slice` is C's memmove, which an archive for C would then ask its host for.
+#[tactic(auto, using(crate::proofs::Runs::copying_laws))]
 pub fn put_all<E: Copy>(out: &mut [E], at: usize, w: &[E]) -> usize
     requires { Room out.old at w.now }
     ensures { Wrote out.old out.new at result w.now }
 {
-    let end = at + w.len();
-    out[at..end].copy_from_slice(w);
-    end
+    for i in 0..w.len() {
+        out[at + i] = w[i];
+    }
+    at + w.len()
 }
 
 // The byte of a digit.

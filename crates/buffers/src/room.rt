@@ -2,12 +2,12 @@
 ghost use Rattle.std.specs.Prelude.{◌≡◌};
 ghost use Rattle.buffers.specs.Room.{Roomy};
 
-const SHORT: usize = 2048;
+pub const SHORT: usize = 2048;
 
-const MIDDLING: usize = 16384;
+pub const MIDDLING: usize = 16384;
 
 // No file is longer.
-const ANY: usize = 65536;
+pub const ANY: usize = 65536;
 
 // What work makes of a cleared array that holds so many bytes, or as many as a file may have, and of the output.
 pub fn with_room<R, F: FnOnce(&mut [u8], &mut [u8]) -> R>(len: usize, out: &mut [u8], work: F) -> R

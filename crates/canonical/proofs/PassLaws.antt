@@ -6,7 +6,7 @@ use mathlib.Core.Bool.{Bool, true}
 use mathlib.Core.List.{List, [], ◌∷◌, ◌++◌}
 use lib.ListN.{length, get_or, take, drop}
 use lib.Seq.{get_or-take, get_or-drop}
-use Rattle.std.specs.declared.ops.Range.{Range}
+use Rattle.lines.specs.declared.split.Span.{Span}
 use Rattle.lists.specs.Searching.{part}
 use Rattle.lists.proofs.Parts.{part_length, part_none, part_more, part_join, part_part}
 use Rattle.characters.specs.Scanning.{comma_count}
@@ -74,36 +74,36 @@ module _ (s : List ℕ) (at e j : ℕ) {stops : List ℕ} {n : ℕ} (v : LineIn 
       waits s d run (begins_at s at e j) (ends_at s at e j) (0x2c ∷ item_bytes c (item_at s at e j)) (omega (arith, item_low v k)) (omega (arith, item_high v k, v.high))
       (item_whole v k ∙ ap (λ (x : List ℕ). 0x2c ∷ x) (sym o)) y
 
-  module _ {r : Range ℕ} (i : ItemAt s at e n j r) where
-    first : r.start ≡ begins_at s at e j + 1
+  module _ {r : Span} (i : ItemAt s at e n j r) where
+    first : r.from ≡ begins_at s at e j + 1
     first = omega (arith, i.begins k.low k.high)
 
     -- a number that begins with no zero waits
-    pub pass_stays : (c : Kind) {d : List ℕ} {run : Run} {t : Bool} → Stays t c s r.start → t ≡ true → Spellable c (item_at s at e j)
+    pub pass_stays : (c : Kind) {d : List ℕ} {run : Run} {t : Bool} → Stays t c s r.from → t ≡ true → Spellable c (item_at s at e j)
         → Ready d run (begins_at s at e j) (0x2c ∷ item_bytes c (item_at s at e j)) → Passed s d d run run (begins_at s at e j) (ends_at s at e j) (0x2c ∷ item_bytes c (item_at s at e j))
     pass_stays c {d} {run} m f g y =
-        pass_own d run c (own_plain c (item_at s at e j) g (m.kind f) (λ z. first_other s r.start r.end (m.first f) (ap (λ (x : List ℕ). get_or x 0 0) i.says ∙ z))) y
+        pass_own d run c (own_plain c (item_at s at e j) g (m.kind f) (λ z. first_other s r.from r.to (m.first f) (ap (λ (x : List ℕ). get_or x 0 0) i.says ∙ z))) y
 
-    pub pass_lies : Lies s r.start r.end
+    pub pass_lies : Lies s r.from r.to
     pass_lies = record { low = i.low; high = omega (arith, i.high, v.high) }
 
-    pub pass_spellable : (c : Kind) → Spellable c (item_at s at e j) → Spellable c (take (r.end - r.start) (drop r.start s))
+    pub pass_spellable : (c : Kind) → Spellable c (item_at s at e j) → Spellable c (take (r.to - r.from) (drop r.from s))
     pass_spellable c g = subst (Spellable c) (sym i.says) g
 
     module _ (c : Kind) {d : List ℕ} {run : Run} (y : Ready d run (begins_at s at e j) (0x2c ∷ item_bytes c (item_at s at e j))) where
-      pub pass_ready : Ready d run r.start (item_bytes c (take (r.end - r.start) (drop r.start s)))
+      pub pass_ready : Ready d run r.from (item_bytes c (take (r.to - r.from) (drop r.from s)))
       pass_ready =
-          subst (λ (x : List ℕ). Ready d run r.start (item_bytes c x)) (sym i.says)
+          subst (λ (x : List ℕ). Ready d run r.from (item_bytes c x)) (sym i.says)
           (record { low = omega (arith, y.low, first); room = omega (arith, y.low, y.room, first) })
 
-      pub pass_done : {d' : List ℕ} {t : Run} → Passed s d d' run t r.start r.end (item_bytes c (take (r.end - r.start) (drop r.start s)))
+      pub pass_done : {d' : List ℕ} {t : Run} → Passed s d d' run t r.from r.to (item_bytes c (take (r.to - r.from) (drop r.from s)))
           → Passed s d d' run t (begins_at s at e j) (ends_at s at e j) (0x2c ∷ item_bytes c (item_at s at e j))
       pass_done {d'} {t} x =
           passes
           (waits s d run (begins_at s at e j) (begins_at s at e j + 1) (0x2c ∷ []) (omega arith) (omega (arith, item_low v k, item_high v k, v.high)) (comma_is v k)
           (record { low = y.low; room = omega (arith, y.room) }))
           (subst (λ (w : List ℕ). Passed s d d' run t (begins_at s at e j + 1) (ends_at s at e j) (item_bytes c w)) i.says
-          (subst (λ (p : ℕ). Passed s d d' run t p (ends_at s at e j) (item_bytes c (part s r.start r.end))) first
-          (subst (λ (q : ℕ). Passed s d d' run t r.start q (item_bytes c (part s r.start r.end))) i.ends x)))
+          (subst (λ (p : ℕ). Passed s d d' run t p (ends_at s at e j) (item_bytes c (part s r.from r.to))) first
+          (subst (λ (q : ℕ). Passed s d d' run t r.from q (item_bytes c (part s r.from r.to))) i.ends x)))
 
 pub ruleset pass_laws = (pass_stays, pass_lies, pass_spellable, pass_ready, pass_done)

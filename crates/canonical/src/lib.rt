@@ -22,10 +22,9 @@ ghost use Rattle.canonical.specs.Writing.{postal_bytes, number_bytes, day_bytes,
 ghost use Rattle.canonical.specs.Writing.{spots_of, spot_of, Sound, ItemOf, begins, ends, bytes_of, poured, Poured, closing, Holds, MadeOf};
 
 use items::Kind;
-use lines::Items;
+use lines::{Items, Span};
 use order::State;
 use replies::{Answer, Refusal, Values};
-use std::ops::Range;
 
 // ---- one item
 
@@ -133,20 +132,20 @@ pub struct Run {
 
 impl Run {
     // An item of a file: its spelling after the run before it; or nothing, where its bytes are its spelling.
-    fn respell(self, kind: Kind, s: &[u8], item: Range<usize>, out: &mut [u8]) -> Run
-        requires lies { Lies s.now item.start item.end }
-        requires spellable { Spellable (kind_of kind) (part s.now item.start item.end) }
-        requires ready { Ready out.old self item.start (item_bytes (kind_of kind) (part s.now item.start item.end)) }
-        ensures { Passed s.now out.old out.new self result item.start item.end (item_bytes (kind_of kind) (part s.now item.start item.end)) }
+    fn respell(self, kind: Kind, s: &[u8], item: Span, out: &mut [u8]) -> Run
+        requires lies { Lies s.now item.from item.to }
+        requires spellable { Spellable (kind_of kind) (part s.now item.from item.to) }
+        requires ready { Ready out.old self item.from (item_bytes (kind_of kind) (part s.now item.from item.to)) }
+        ensures { Passed s.now out.old out.new self result item.from item.to (item_bytes (kind_of kind) (part s.now item.from item.to)) }
     {
-        let Range { start, end } = item;
-        let bytes = &s[start..end];
+        let Span { from, to } = item;
+        let bytes = &s[from..to];
         if !respelled(kind, bytes) {
             return self;
         }
-        let next = buffers::put_all(out, self.at, &s[self.from..start]);
+        let next = buffers::put_all(out, self.at, &s[self.from..from]);
         let at = put_item(out, next, kind, bytes);
-        Run { from: end, at }
+        Run { from: to, at }
     }
 
     // Item number j of a line, after the items before it.
@@ -157,7 +156,7 @@ impl Run {
         ensures { Passed items.now.file.now out.old out.new self result (begins items.now j) (ends items.now j) (0x2c ∷ item_bytes (kind_of kind) (bytes_of items.now j)) }
     {
         let item = items.range(j);
-        if stays(kind, items.file, item.start) {
+        if stays(kind, items.file, item.from) {
             return self;
         }
         self.respell(kind, items.file, item, out)

@@ -35,7 +35,9 @@ pub fn entry_at<R: Files>(rt: &R, name: &str) -> Entry {
     }
 }
 
-// One byte more than pieces can have tells a longer file. A pipe, in which reading would wait, has no position.
+// One byte more than pieces can have tells a longer file. A pipe, in which reading would wait, has no position. Out of line, so that the array is on the
+// stack only while a file is compared.
+#[inline(never)]
 fn compare_opened<F: Read + Seek>(file: &mut F, piece: &[u8]) -> Found {
     if file.stream_position().is_err() {
         return Found::Other;

@@ -38,7 +38,7 @@ fn ask_names<R: Files>(rt: &R, files: &mut PieceFiles, pieces: &[u8]) -> Result<
 // Writes the pieces whose names have been asked, up to the first failure.
 fn write_asked<R: Files + RandomSource>(
     rt: &R,
-    prefix: &str,
+    prefix: &[u8],
     files: &mut PieceFiles,
     pieces: &[u8],
 ) -> Result<(), Failure> {
@@ -51,16 +51,20 @@ fn write_asked<R: Files + RandomSource>(
     folder::sync(rt, prefix).map_err(|_| Failure::Unsynced)
 }
 
+// Out of line: its array and its names are then on the stack only while pieces go to files.
+#[inline(never)]
 pub fn write_pieces<R: Files + RandomSource>(
     rt: &R,
     prefix: &[u8],
     pieces: &[u8],
 ) -> Result<(), Failure> {
-    // std opens only names that are UTF-8.
-    let Ok(prefix) = std::str::from_utf8(prefix) else {
-        return Err(Failure::Unwritten(1));
+    // std opens only names that are UTF-8. Of no pieces none has a name.
+    let name = match std::str::from_utf8(prefix) {
+        Ok(name) => name,
+        Err(_) if pieces.is_empty() => "",
+        Err(_) => return Err(Failure::Unwritten(1)),
     };
-    let mut files: PieceFiles = std::array::from_fn(|i| PieceFile::new(prefix, i as u64 + 1));
+    let mut files: PieceFiles = std::array::from_fn(|i| PieceFile::new(name, i as u64 + 1));
     ask_names(rt, &mut files, pieces)?;
     let written = write_asked(rt, prefix, &mut files, pieces);
     if written.is_err() {

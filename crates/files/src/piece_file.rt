@@ -18,18 +18,18 @@ const SIGNS: &[u8; 62] = b"abcdefghijklmnopqrstuvwxyzABCDEFGHIJKLMNOPQRSTUVWXYZ0
 
 // What a temporary name ends in.
 #[derive(Clone, Copy)]
-struct Letters([char; 6]);
+struct Letters([u8; 6]);
 
 impl From<[u8; 6]> for Letters {
     fn from(random: [u8; 6]) -> Self {
-        Letters(random.map(|byte| char::from(SIGNS[usize::from(byte) % 62])))
+        Letters(random.map(|byte| SIGNS[usize::from(byte) % 62]))
     }
 }
 
 impl fmt::Display for Letters {
     fn fmt<W: fmt::Write>(&self, f: &mut fmt::Formatter<W>) -> fmt::Result {
         for letter in self.0 {
-            f.write_char(letter)?;
+            f.write_char(char::from(letter))?;
         }
         Ok(())
     }
@@ -124,11 +124,19 @@ impl<'a> PieceFile<'a> {
         fill(file, piece).map_err(|_| self.unwritten())
     }
 
-    // Gives the temporary file the piece's name. std's rename takes the place of a file that is there, so the name is asked once more.
+    // Gives the temporary file the piece's name, if one was made.
     pub fn take_name<R: Files>(&mut self, rt: &R) -> Result<(), Failure> {
-        let Stage::Made(letters) = self.stage else {
-            return Ok(());
-        };
+        if let Stage::Made(letters) = self.stage {
+            self.rename(rt, letters)?;
+            self.stage = Stage::Named;
+        }
+        Ok(())
+    }
+
+    // std's rename takes the place of a file that is there, so the name is asked once more. Apart from `take_name`, since the room for names is cleared
+    // at each call, and most of the files have nothing to rename.
+    #[inline(never)]
+    fn rename<R: Files>(&self, rt: &R, letters: Letters) -> Result<(), Failure> {
         let name = self.name()?;
         match asking::entry_at(rt, name.as_str()) {
             Entry::Missing => {}
@@ -136,9 +144,7 @@ impl<'a> PieceFile<'a> {
             Entry::NoName => return Err(self.unwritten()),
         }
         let temporary = self.temporary_name(letters)?;
-        fs::rename(rt, temporary.as_str(), name.as_str()).map_err(|_| self.unwritten())?;
-        self.stage = Stage::Named;
-        Ok(())
+        fs::rename(rt, temporary.as_str(), name.as_str()).map_err(|_| self.unwritten())
     }
 
     // Removes what was made of the piece. Where that fails, nothing else can be done.

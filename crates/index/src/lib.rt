@@ -86,7 +86,9 @@ enum Batch {
     Last(Values, usize),
 }
 
-// Checks the records from a position on and writes their entries, until the array is full or no record follows.
+// Checks the records from a position on and writes their entries, until the array is full or no record follows. Out of line, so that the calls of
+// `index_on` that wait for the file's end keep no more on the stack than their entries and where they began.
+#[inline(never)]
 fn read_batch(from: Reader, s: &[u8], entries: &mut [u32; 448]) -> Result<Batch, Refused>
     requires { MidwayIn s.now from }
     ensures { BatchOf s.now from entries.new result }

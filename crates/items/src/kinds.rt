@@ -68,13 +68,13 @@ impl Values {
 #[derive(Clone, Copy, Debug, PartialEq, Eq)]
 pub enum Kind {
     /// N: any characters.
-    Text(u16),
+    Text(usize),
     /// U: characters of one width.
-    OneWidth(u16),
+    OneWidth(usize),
     /// K: a name in kana, all in one script.
-    Kana(u16),
+    Kana(usize),
     /// X: letters, digits, periods and hyphens.
-    Code(u16),
+    Code(usize),
     /// A: who wrote the record.
     Author,
     /// F: a prefecture's code.

@@ -197,18 +197,19 @@ fn among(values: Values, s: &[u8]) -> bool
     }
 }
 
-fn unless(good: bool, refusal: Refusal) -> Verdict
-    ensures { fault_in result ≡ unless_of good (number_of refusal) }
+/// The fault that something has unless it is good.
+pub fn unless<F: Copy>(good: bool, fault: F) -> Result<(), F>
+    ensures { result ≡ cond good (Ok (record {})) (Err fault) }
 {
-    if good { Ok(()) } else { Err(refusal) }
+    if good { Ok(()) } else { Err(fault) }
 }
 
 // The kinds N, U, X and K: too long, then an edge, then the form.
 #[tactic(auto, unfolding(records::specs::Items::sized))]
-fn sized(most: u16, s: &[u8], good: bool) -> Verdict
+fn sized(most: usize, s: &[u8], good: bool) -> Verdict
     ensures { fault_in result ≡ sized_of most s.now good }
 {
-    if usize::from(most) < s.len() {
+    if most < s.len() {
         return Err(Long);
     }
     if edge(s) {
@@ -288,7 +289,7 @@ fn no_wide_edge(k: Scripts, s: &[u8], from: usize, z: u8) -> bool
 // Where a run that is not empty ends, if it is not too long and has no edge. A blank or a quote at an end is 8140h or a character of one byte below
 // 28h: most runs have neither.
 #[tactic(auto, using(crate::proofs::EndLaws::sized_laws))]
-fn sized_end(most: u16, s: &[u8], from: usize, run: Run) -> Option<usize>
+fn sized_end(most: usize, s: &[u8], from: usize, run: Run) -> Option<usize>
     requires run_of { RunOf s.now from run.end }
     requires counted { Counted s.now from run.end run.scripts }
     requires from_lt_end { from < run.end }
@@ -296,7 +297,7 @@ fn sized_end(most: u16, s: &[u8], from: usize, run: Run) -> Option<usize>
 {
     let end = run.end;
     let k = run.scripts;
-    if usize::from(most) < end - from {
+    if most < end - from {
         return None;
     }
     let a = s[from];
@@ -311,7 +312,7 @@ fn sized_end(most: u16, s: &[u8], from: usize, run: Run) -> Option<usize>
 
 // Kind N: too long, then an edge.
 #[tactic(auto, using(crate::proofs::EndLaws::text_item_laws))]
-fn text_item(most: u16, need: Need, provider: bool, s: &[u8], from: usize) -> Option<usize>
+fn text_item(most: usize, need: Need, provider: bool, s: &[u8], from: usize) -> Option<usize>
     requires { from ≤ length s.now }
     ensures { EndOf provider (record { kind = N most; need = need_of need }) s.now from result }
 {
@@ -326,7 +327,7 @@ fn text_item(most: u16, need: Need, provider: bool, s: &[u8], from: usize) -> Op
 #[tactic(auto, using(crate::proofs::EndLaws::uniform_item_laws))]
 fn uniform_item(
     uniform: Uniform,
-    most: u16,
+    most: usize,
     need: Need,
     provider: bool,
     s: &[u8],
@@ -347,7 +348,7 @@ fn uniform_item(
 
 // Kind X: a code has no edge, so its length and whether it must not be empty are all that is left to look at.
 #[tactic(auto, using(crate::proofs::EndLaws::code_item_laws))]
-fn code_item(most: u16, need: Need, provider: bool, s: &[u8], from: usize) -> Option<usize>
+fn code_item(most: usize, need: Need, provider: bool, s: &[u8], from: usize) -> Option<usize>
     requires { from ≤ length s.now }
     ensures { EndOf provider (record { kind = X most; need = need_of need }) s.now from result }
 {
@@ -355,11 +356,7 @@ fn code_item(most: u16, need: Need, provider: bool, s: &[u8], from: usize) -> Op
     if end == from {
         return blank_end(need, provider, from);
     }
-    if usize::from(most) < end - from {
-        None
-    } else {
-        Some(end)
-    }
+    if most < end - from { None } else { Some(end) }
 }
 
 // Any other kind: its bytes are those of a code (digits, a period, a hyphen, an era's letter), so that the run of these is looked at.

@@ -10,7 +10,7 @@ use Rattle.characters.specs.Scanning.{comma_count}
 use Rattle.records.specs.Split.{items_of}
 use Rattle.records.specs.Records.{first_of, table_row, item_value, nth, record_from, record_of, line_fault}
 use Rattle.records.proofs.LineLaws.{Good, line_good}
-use Rattle.std.specs.declared.ops.Range.{Range}
+use Rattle.lines.specs.declared.split.Span.{Span}
 use Rattle.lines.specs.Line.{ItemAt}
 use Rattle.lines.proofs.SplitLaws.{items_count}
 use Rattle.lines.proofs.FactLaws.{blank, value_at}
@@ -29,7 +29,7 @@ item_value_lem provider l j h low high =
     rw g.cut (value_at (table_row g.head).items g.rest (j - 1) g.sound.count (omega (arith, n, g.sound.count, low, high)) ∙ ap (item_value (get_or (table_row g.head).items (j - 1) blank)) (behind g.head g.rest j low))
 
 -- the same by the bytes of its span
-pub span_value : (provider : Bool) (s : List ℕ) (at e j : ℕ) {n : ℕ} {r : Range ℕ} → line_fault provider (part s at e) ≡ 0 → 1 ≤ j → j ≤ comma_count (part s at e) → ItemAt s at e n j r
-    → nth (record_of (part s at e)).values j ≡ item_value (get_or (table_row (first_of (items_of (part s at e)))).items (j - 1) blank) (part s r.start r.end)
+pub span_value : (provider : Bool) (s : List ℕ) (at e j : ℕ) {n : ℕ} {r : Span} → line_fault provider (part s at e) ≡ 0 → 1 ≤ j → j ≤ comma_count (part s at e) → ItemAt s at e n j r
+    → nth (record_of (part s at e)).values j ≡ item_value (get_or (table_row (first_of (items_of (part s at e)))).items (j - 1) blank) (part s r.from r.to)
 span_value provider s at e j h low high x =
     item_value_lem provider (part s at e) j h low high ∙ ap (item_value (get_or (table_row (first_of (items_of (part s at e)))).items (j - 1) blank)) (sym x.says)

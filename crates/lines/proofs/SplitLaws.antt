@@ -297,7 +297,7 @@ module _ {s : List ℕ} {at e : ℕ} {stops : List ℕ} {n : ℕ} (v : LineIn s 
   pub next_fits : (j : ℕ) {p : ℕ} → j ≤ n → (j ≡ 0 → ⊥) → p ≡ at + comma_at (part s at e) (j - 1) → p + 1 ≤ e
   next_fits j h z q = omega (arith, q, comma_less line (j - 1) (omega (arith, v.commas)), line_length, v.low)
 
-  pub range_none : (j : ℕ) → n < j → ItemAt s at e n j (record { start = e; end = e })
+  pub range_none : (j : ℕ) → n < j → ItemAt s at e n j (record { from = e; to = e })
   range_none j h = record {
     says = part_none s e ∙ sym (no_item (items_of line) j (omega (arith, items_count line, v.commas)));
     low = omega arith;
@@ -307,7 +307,7 @@ module _ {s : List ℕ} {at e : ℕ} {stops : List ℕ} {n : ℕ} (v : LineIn s 
   }
 
   module _ (j : ℕ) (h : j ≤ n) {r : ℕ} (q : r ≡ at + comma_at (part s at e) j) where
-    pub range_first : j ≡ 0 → ItemAt s at e n j (record { start = at; end = r })
+    pub range_first : j ≡ 0 → ItemAt s at e n j (record { from = at; to = r })
     range_first z = record {
       says =
           let o : at + 0 ≡ at = omega arith in
@@ -320,7 +320,7 @@ module _ {s : List ℕ} {at e : ℕ} {stops : List ℕ} {n : ℕ} (v : LineIn s 
       ends = q;
     }
 
-    pub range_next : (j ≡ 0 → ⊥) → {p : ℕ} → p ≡ at + comma_at (part s at e) (j - 1) → ItemAt s at e n j (record { start = p + 1; end = r })
+    pub range_next : (j ≡ 0 → ⊥) → {p : ℕ} → p ≡ at + comma_at (part s at e) (j - 1) → ItemAt s at e n j (record { from = p + 1; to = r })
     range_next z {p} o =
         let c : j ≤ comma_count line = omega (arith, v.commas) in
         let k : comma_at line (j - 1) < comma_at line j = comma_next line j (omega arith) c in

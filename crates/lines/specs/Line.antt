@@ -1,11 +1,11 @@
 -- Vocabulary of the code.
 -- A line of a file by its commas, and its items at positions.
 use Rattle.std.specs.Prelude.{ℕ, ◌+◌, ◌-◌, ◌≤◌, ◌≡◌, List, [], length, get_or}
-use Rattle.std.specs.declared.ops.Range.{Range}
 use Rattle.lists.specs.Searching.{part}
 use Rattle.characters.specs.Scanning.{comma_count, commas_from}
 use Rattle.scanning.specs.Scans.{Stops}
 use Rattle.records.specs.Split.{items_of}
+use Rattle.lines.specs.declared.split.Span.{Span}
 
 -- where comma number j of a line stands, from 0; its end where there is none
 unfoldable pub comma_at : List ℕ → ℕ → ℕ
@@ -23,9 +23,9 @@ abbrev pub item_at : List ℕ → ℕ → ℕ → ℕ → List ℕ
 item_at s at e j = get_or (items_of (part s at e)) j []
 
 -- r is where that item stands in the file: one with a number after 0 goes from after its comma to the next one or the end
-pub record ItemAt (s : List ℕ) (at e n j : ℕ) (r : Range ℕ) : Type 0 where
-  pub says : part s r.start r.end ≡ item_at s at e j
-  pub low : r.start ≤ r.end
-  pub high : r.end ≤ e
-  pub begins : 1 ≤ j → j ≤ n → r.start ≡ at + (comma_at (part s at e) (j - 1) + 1)
-  pub ends : r.end ≡ at + comma_at (part s at e) j
+pub record ItemAt (s : List ℕ) (at e n j : ℕ) (r : Span) : Type 0 where
+  pub says : part s r.from r.to ≡ item_at s at e j
+  pub low : r.from ≤ r.to
+  pub high : r.to ≤ e
+  pub begins : 1 ≤ j → j ≤ n → r.from ≡ at + (comma_at (part s at e) (j - 1) + 1)
+  pub ends : r.to ≡ at + comma_at (part s at e) j

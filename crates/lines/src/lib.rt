@@ -19,7 +19,7 @@ ghost use Rattle.lines.specs.Found.{NumberOf, FoundOf, ReadOf};
 use items::Item;
 use quick::quick_line;
 use replies::Refusal;
-pub use split::Items;
+pub use split::{Items, Span};
 
 // ---- a line's number and items
 

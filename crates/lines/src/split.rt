@@ -3,7 +3,12 @@ ghost use Rattle.std.specs.Prelude.{◌≡◌, ◌+◌, ◌≤◌};
 ghost use Rattle.lists.specs.Searching.{part};
 ghost use Rattle.lines.specs.Line.{comma_at, LineIn, item_at, ItemAt};
 
-use std::ops::Range;
+/// Bytes of a file, from a position to a position. Not a `Range`, which is not `Copy`.
+#[derive(Clone, Copy, Debug, PartialEq, Eq)]
+pub struct Span {
+    pub from: usize,
+    pub to: usize,
+}
 
 /// A line of a file by the places of its commas, from its beginning. Item number 0 is the record's number.
 #[derive(Clone, Copy)]
@@ -30,18 +35,27 @@ impl<'a> Items<'a> {
     }
 
     /// Where item number j stands in the file; nowhere, at the line's end, where there is none.
-    pub fn range(&self, j: usize) -> Range<usize>
+    pub fn range(&self, j: usize) -> Span
         requires { j ≤ 15 }
         ensures { ItemAt self.now.file.now self.now.at self.now.end self.now.commas j result }
     {
         if self.commas < j {
-            return self.end..self.end;
+            return Span {
+                from: self.end,
+                to: self.end,
+            };
         }
         let end = self.end_of(j);
         if j == 0 {
-            return self.at..end;
+            return Span {
+                from: self.at,
+                to: end,
+            };
         }
-        self.end_of(j - 1) + 1..end
+        Span {
+            from: self.end_of(j - 1) + 1,
+            to: end,
+        }
     }
 
     /// Its bytes.
@@ -49,7 +63,7 @@ impl<'a> Items<'a> {
         requires { j ≤ 15 }
         ensures { result.now ≡ item_at self.now.file.now self.now.at self.now.end j }
     {
-        let range = self.range(j);
-        &self.file[range]
+        let Span { from, to } = self.range(j);
+        &self.file[from..to]
     }
 }

@@ -76,12 +76,18 @@ fn write_pieces(rt: &HostRuntime, pieces: &[u8]) -> Result<(), Failure> {
 
 // --- the program ---
 
+// Out of line, so that what the call takes of the stack is given back before pieces are written.
+#[inline(never)]
+fn pieces_of(file: &[u8], capacity: u64, id: &[u8], used: &[u8], out: &mut [u8]) -> replies::Reply {
+    gateway::notebook_cut(file, capacity, id, used, out)
+}
+
 // An ID that is longer than the buffer comes as an empty one, which is refused as well.
 fn cut(rt: &HostRuntime, file: &[u8], capacity: u64, used: &[u8]) -> Result<(), Failure> {
     let mut id = [0u8; 4096];
-    let mut out = [0u8; 131072];
+    let mut out = [0u8; 106482];
     let n = inputs::word(rt, 2, &mut id).unwrap_or(0);
-    let reply = gateway::notebook_cut(file, capacity, &id[..n], used, &mut out);
+    let reply = pieces_of(file, capacity, &id[..n], used, &mut out);
     if reply.refusal == 0 {
         // The pieces are never more bytes than the buffer has.
         let Some(pieces) = out.get(..reply.b as usize) else {

@@ -6,7 +6,7 @@ use mathlib.Core.Bool.{Bool, true, false, cond, ◌&&◌, false≢true}
 use mathlib.Core.List.{List, [], ◌∷◌, map}
 use native.Mathlib.Omega.{arith}
 use Rattle.std.specs.Prelude.{Option, Some, None}
-use Rattle.std.specs.Option.{unwrap_or}
+use Rattle.std.specs.Option.{unwrap_or, is_some, MatchOption}
 use borrow.Author.Tests.{leb-true, le-leb}
 use lib.Dec.{leb, eqb}
 use lib.ListN.{length, length-map}
@@ -67,6 +67,32 @@ module _ (s : List ℕ) {o : Option ℕ} (e : o ≡ plain_number s) where
     -- it is, and its row has these items
     pub row_listed : {items : List Item} → RowOf n items → table_row s ≡ row n (map item_of items)
     row_listed r = row_number ∙ r.is
+
+-- ---- the row of a spelling, by the code's rows
+
+-- o is what the code finds for a spelling: nothing where it has no plain number, else what `row_of` (src/lib.rt) answers for that
+abbrev pub Answered : Option ℕ → Option (List Item) → Type 0
+Answered None o = o ≡ None
+Answered (Some n) o = MatchOption o (paper_row n ≡ no_row) (λ items. RowOf n items)
+
+-- it has the items of the paper's row r, it is there exactly if r is listed, and then n is r's number
+pub record RowAt (n : ℕ) (r : Row) (o : Option (List Item)) : Type 0 where
+  pub items : r.items ≡ map item_of (unwrap_or o [])
+  pub listed : leb 1 r.number ≡ is_some o
+  pub number : is_some o ≡ true → r.number ≡ n
+
+pub row_of : (s : List ℕ) {o : Option (List Item)} → Answered (plain_number s) o → RowAt (unwrap_or (plain_number s) 0) (table_row s) o
+row_of s {o} h = go (plain_number s) refl o h
+  where
+    none : (n : ℕ) → table_row s ≡ no_row → RowAt n (table_row s) None
+    none n e = rw e (record { items = refl; listed = refl; number = λ x. absurd (false≢true x) })
+
+    go : (k : Option ℕ) → k ≡ plain_number s → (o : Option (List Item)) → Answered k o → RowAt (unwrap_or k 0) (table_row s) o
+    go None e None x = none 0 (row_none s e refl)
+    go None e (Some is) x = absurd (false≢true (ap is_some (sym x)))
+    go (Some n) e None x = none n (row_unlisted s e refl x)
+    go (Some n) e (Some is) x =
+        rw (row_listed s e refl x) (record { items = refl; listed = le-leb 1 n x.listed; number = λ _. refl })
 
 -- ---- what a test of every row says of a row
 

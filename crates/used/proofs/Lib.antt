@@ -1,1 +1,2 @@
-pub mod IdLaws
+pub mod EightLaws
+pub mod RunLaws

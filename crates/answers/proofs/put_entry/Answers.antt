@@ -1,9 +1,7 @@
-use Rattle.std.proofs.Common.{◌≤◌, drop, length, length-drop, take_all, arith}
-use Rattle.answers.proofs.Lines.{entry_wrote}
+use Rattle.std.proofs.Common.{arith}
+use Rattle.answers.proofs.Lines.{entry_wrote, after_first}
 use Rattle.answers.proofs.put_entry.Goals as goal
 
 pub returns-clause-wrote : goal.returns-clause-wrote
 returns-clause-wrote c =
-    let others = drop 1 c.args.numbers.now in
-    let six : length others ≤ 6 = omega (arith, length-drop 1 c.args.numbers.now) in
-    entry_wrote _ c.put_decimal-next.ensures.wrote c.put_numbers-end.ensures.wrote (take_all 6 others six) c.put_byte.ensures
+    entry_wrote _ c.put_decimal-next.ensures.wrote c.put_numbers-end.ensures.wrote (after_first c.args.numbers.now (omega arith)) c.put_byte.ensures

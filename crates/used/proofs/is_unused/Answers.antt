@@ -1,14 +1,17 @@
-use Rattle.std.proofs.Common.{rules, tests}
-use Rattle.std.proofs.lemmas.Iterator.Search.{any_from_yields_List}
-use Rattle.lists.specs.Lists.{same}
-use Rattle.used.proofs.IdLaws.{parts_are_ids, other_length, none_is}
+use Rattle.std.proofs.Common.{◌≡◌, ◌+◌, ◌*◌, ℕ, arith, subst}
+use Rattle.used.specs.Searching.{Left}
+use Rattle.used.proofs.RunLaws.{run_start, other_length, run_go}
 use Rattle.used.proofs.is_unused.Goals as goal
 
-pub returns-then-used-eq0 : goal.returns-then-used-eq0
-returns-then-used-eq0 c =
-    none_is c.args.id.now c.args.used.now c.if-used-eq0.true
-    (any_from_yields_List (λ i. same i c.args.id.now) _ _ _ c.any.ensures.ran
-    (parts_are_ids c.args.used.now c.chunks_exact.ensures.rest c.chunks_exact.ensures.size) (λ x b q k. search (rules, tests)))
+-- answered by their laws, so that another remainder and another first ID are refused at once
+pub returns-then-used-ne0 : goal.returns-then-used-ne0
+returns-then-used-ne0 c = other_length c.args.id.now c.args.used.now c.if-used-ne0.true
 
-pub returns-else-used-eq0 : goal.returns-else-used-eq0
-returns-else-used-eq0 c = other_length c.args.id.now c.args.used.now c.if-used-eq0.false
+pub loop-k-init : goal.loop-k-init
+loop-k-init c = run_start c.args.id.now c.args.used.now c.if-used-ne0.false
+
+pub loop-k-preserved : goal.loop-k-preserved
+loop-k-preserved c =
+    let z : 14 * c.loop-k.k + 14 ≡ 14 * (c.loop-k.k + 1) = omega arith in
+    subst (λ (i : ℕ). Left c.args.id.now c.args.used.now i) z
+    (run_go c.loop-k.invariant (omega (arith, c.loop-k-test.true, c.loop-k.auto.k-end)) c.stands_at.ensures c.if-stands_at.false)
